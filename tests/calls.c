@@ -201,7 +201,8 @@ static void opened_so(void)
     REFUSES(c.number_width = 9, NUMBER_WIDTH);
     REFUSES(c.segment = 0, SEGMENT);
     REFUSES(c.segment = 4097, SEGMENT);
-    REFUSES(c.checksum = 1, CHECKSUM);
+    REFUSES(c.checksum = 4, CHECKSUM);
+    REFUSES(c.checksum = 14, CHECKSUM);
     REFUSES(c.checksum = 16, CHECKSUM);
     REFUSES(c.checksum = 255, CHECKSUM);
     REFUSES(c.capacity = 8191, CAPACITY);

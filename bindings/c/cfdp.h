@@ -136,7 +136,7 @@ typedef struct cfdp_config {
     uint16_t segment;         /* most octets of a file in a PDU, 1 to 4096 */
     uint8_t id_width;         /* octets of an entity id, 1 to 8 */
     uint8_t number_width;     /* octets of a sequence number, 1 to 8 */
-    uint8_t checksum;         /* 0 modular, 15 null */
+    uint8_t checksum;         /* 0 modular; CRC-32: 1 Proximity-1, 2 Castagnoli, 3 IEEE; 15 null */
     uint8_t eof_limit;        /* how often an EOF is sent again */
     uint8_t nak_limit;        /* .. a NAK */
     uint8_t finished_limit;   /* .. a Finished */
@@ -320,7 +320,7 @@ typedef struct cfdp_frame_drops {
 typedef struct cfdp_pdu_drops {
     uint64_t too_short;       /* it is shorter than a header */
     uint64_t bad_version;     /* the version of its header is another */
-    uint64_t crc_present;     /* it has a CRC */
+    uint64_t bad_crc;         /* its CRC is wrong */
     uint64_t bad_length;      /* its length isn't that of its header */
     uint64_t unacknowledged;  /* it is of class 1 */
     uint64_t bad_directive;   /* its directive code is none */
@@ -387,7 +387,7 @@ static inline const char *cfdp_drop_text(size_t drop)
         "there was no memory for a packet",
         "the PDU is shorter than a header",
         "the version of the PDU is another",
-        "the PDU has a CRC",
+        "the CRC of the PDU is wrong",
         "the PDU has another length than its header says",
         "the PDU is of class 1",
         "the directive code is none",
@@ -542,7 +542,7 @@ static inline const char *cfdp_answer_text(cfdp_answer answer)
     case CFDP_BAD_PEER: return "peer does not fit id_width, or is entity";
     case CFDP_BAD_NUMBER_WIDTH: return "number_width is not 1 to 8";
     case CFDP_BAD_SEGMENT: return "segment is not 1 to 4096";
-    case CFDP_BAD_CHECKSUM: return "checksum is neither 0 nor 15";
+    case CFDP_BAD_CHECKSUM: return "checksum is neither 0 to 3 nor 15";
     case CFDP_BAD_EOF_TIME: return "eof_time is 0";
     case CFDP_BAD_NAK_TIME: return "nak_time is 0";
     case CFDP_BAD_FINISHED_TIME: return "finished_time is 0";

@@ -109,7 +109,7 @@ pub struct FrameDrops {
 pub struct PduDrops {
     pub too_short: u64,
     pub bad_version: u64,
-    pub crc_present: u64,
+    pub bad_crc: u64,
     pub bad_length: u64,
     pub unacknowledged: u64,
     pub bad_directive: u64,
@@ -150,7 +150,7 @@ impl PduDrops {
         [
             ("too_short", self.too_short),
             ("bad_version", self.bad_version),
-            ("crc_present", self.crc_present),
+            ("bad_crc", self.bad_crc),
             ("bad_length", self.bad_length),
             ("unacknowledged", self.unacknowledged),
             ("bad_directive", self.bad_directive),

@@ -46,6 +46,7 @@ takes_behind frame up new before pdus t = record {
   delivered = λ ps marks missed is at none.
       subst (λ (l : List (List ℕ)). (pdus_in (survivors up.link.zone (marks ++ true ∷ []) 0 ps) ≡ pdus_in (survivors up.link.zone marks 0 ps) ++ (l ++ pdus)) ⊎ (new.drops ≡ counted up.drops NoMemory))
       (sym none) (t.delivered ps marks missed is at refl);
+  control = t.control;
 }
 
 pub receives_behind : (frame : List ℕ) (old new : StationState) (before : List (List ℕ)) (t : TakesFrame frame old new) → Receives frame old.up new.up before (before ++ t.pdus)

@@ -1,7 +1,8 @@
 -- An AOS transfer frame with a packet zone: which octets are which frame of a link, and what is
 -- wrong with octets that are none (CCSDS 732.0-B-4, 4.1).
-use Rattle.std.specs.Prelude.{◌≡◌, ◌≢◌, ℕ, ◌+◌, ◌*◌, ◌/◌, ◌%◌, ◌<◌, ◌≤◌, Bool, true, false, List, ◌++◌, codes, length, Option, Some, None, ◌==◌, not, if◌then◌else◌}
+use Rattle.std.specs.Prelude.{◌≡◌, ◌≢◌, ℕ, ◌+◌, ◌*◌, ◌/◌, ◌%◌, ◌<◌, ◌≤◌, Bool, true, false, List, ◌++◌, codes, length, Option, Some, None, ◌==◌, ◌&&◌, not, if◌then◌else◌}
 use Rattle.cfd_bits.specs.Field.{field, octets}
+use Rattle.frame_fields.specs.Fields.{AreFields, extra, is_intact, no_fields}
 use Rattle.aos_frame.specs.Counts.{short_counts, counts_of}
 use Rattle.aos_frame.specs.declared.count.SeenCount.{SeenCount}
 use Rattle.aos_frame.specs.declared.header.FrameHeader.{FrameHeader}
@@ -10,15 +11,16 @@ use Rattle.aos_frame.specs.declared.config.LinkConfig.{LinkConfig}
 use Rattle.aos_frame.specs.declared.config.Lane.{Lane}
 use Rattle.aos_frame.specs.declared.config.Lane.TheVariants.{Directives, Data}
 use Rattle.aos_frame.specs.declared.error.FrameError.{FrameError}
-use Rattle.aos_frame.specs.declared.error.FrameError.TheVariants.{Length, Version, OtherProfile, OtherSpacecraft, OtherChannel, OnlyIdle}
+use Rattle.aos_frame.specs.declared.error.FrameError.TheVariants.{Length, Version, OtherProfile, OtherSpacecraft, OtherChannel, OnlyIdle, Damaged}
 
 -- the virtual channel whose frames hold only idle data (4.1.2.3)
 abbrev pub idle_channel : ℕ
 idle_channel = 63
 
--- the octets of a frame: the header, the M_PDU header and the packet zone
+-- the octets of a frame: the header, the M_PDU header, the packet zone, and the fields that the
+-- link has beside these (4.1.3, 4.1.5, 4.1.6)
 abbrev pub frame_len : ChannelConfig → ℕ
-frame_len c = 6 + 2 + c.zone
+frame_len c = 6 + 2 + c.zone + extra c.fields
 
 -- A channel that can be: its frames carry packets, none of which is idle.
 pub record IsChannel (c : ChannelConfig) : Type 0 where
@@ -26,6 +28,7 @@ pub record IsChannel (c : ChannelConfig) : Type 0 where
   pub least_zone : 16 ≤ c.zone
   pub most_zone : c.zone ≤ 2040
   pub apid : c.apid ≤ 2046
+  pub fields : AreFields c.fields
 
 -- A link that can be: its two channels can, and are two.
 pub record IsLink (link : LinkConfig) : Type 0 where
@@ -35,6 +38,7 @@ pub record IsLink (link : LinkConfig) : Type 0 where
   pub least_zone : 16 ≤ link.zone
   pub most_zone : link.zone ≤ 2040
   pub apid : link.apid ≤ 2046
+  pub fields : AreFields link.fields
 
 -- ---- the two lanes of a direction
 abbrev pub other_lane : Lane → Lane
@@ -53,6 +57,7 @@ lane_channel lane link = record {
   virtual_channel = channel_of lane link;
   zone = link.zone;
   apid = link.apid;
+  fields = link.fields;
 }
 
 -- Two channels are the lanes of one link: they differ, and in nothing else.
@@ -61,6 +66,7 @@ pub record AreLanes (one other : ChannelConfig) : Type 0 where
   pub virtual_channel : other.virtual_channel ≢ one.virtual_channel
   pub zone : other.zone ≡ one.zone
   pub apid : other.apid ≡ one.apid
+  pub fields : other.fields ≡ one.fields
 
 -- ---- the header
 -- whether the header of a frame has the usage flag of the count cycle (4.1.2.5)
@@ -80,6 +86,8 @@ seen_in text = record { count = count_in (cycle_in text) text; cycle = cycle_in 
 -- The octets are a frame of the channel with this header.
 pub record SpellsFrame (c : ChannelConfig) (h : FrameHeader) (text : List ℕ) : Type 0 where
   pub size : length text ≡ frame_len c
+  -- 4.1.6, where the link has error control
+  pub intact : c.fields.error_control ≡ true → is_intact text ≡ true
   -- 4.1.2.2, the transfer frame version number and the spacecraft identifier
   pub version : field text 0 2 ≡ 1
   pub spacecraft : field text 2 8 ≡ h.spacecraft
@@ -101,6 +109,7 @@ pub record SpellsFrame (c : ChannelConfig) (h : FrameHeader) (text : List ℕ) :
 abbrev pub frame_fault : List ℕ → ChannelConfig → Option FrameError
 frame_fault text c =
     if not (length text == frame_len c) then Some Length
+    else if c.fields.error_control && not (is_intact text) then Some Damaged
     else if not (field text 0 2 == 1) then Some Version
     else if not (field text 40 1 == 0) then Some OtherProfile
     else if not (field text 42 2 == 0) then Some OtherProfile
@@ -109,13 +118,14 @@ frame_fault text c =
     else if not (field text 10 6 == c.virtual_channel) then Some OtherChannel
     else None
 
--- the channel that the header of a frame names, its packet zones of so many octets
+-- the channel that the header of a bare frame names, its packet zones of so many octets
 abbrev pub own_channel : List ℕ → ℕ → ChannelConfig
 own_channel text zone = record {
   spacecraft = field text 2 8;
   virtual_channel = field text 10 6;
   zone = zone;
   apid = 0;
+  fields = no_fields;
 }
 
 -- the header can be written: each part fits its field, and its frame isn't for idle data only
@@ -139,7 +149,8 @@ header_octets h =
 abbrev pub frame_octets : FrameHeader → List ℕ → List ℕ
 frame_octets h rest = header_octets h ++ rest
 
--- the number of a refusal, and its name
+-- the number of a refusal, and its name; 7 to 11 are those of what is dropped behind a frame's
+-- header
 abbrev pub refusal_number : FrameError → ℕ
 refusal_number Length = 1
 refusal_number Version = 2
@@ -147,6 +158,7 @@ refusal_number OtherProfile = 3
 refusal_number OtherSpacecraft = 4
 refusal_number OtherChannel = 5
 refusal_number OnlyIdle = 6
+refusal_number Damaged = 12
 
 abbrev pub refusal_name : FrameError → List ℕ
 refusal_name Length = codes "Length"
@@ -155,3 +167,4 @@ refusal_name OtherProfile = codes "OtherProfile"
 refusal_name OtherSpacecraft = codes "OtherSpacecraft"
 refusal_name OtherChannel = codes "OtherChannel"
 refusal_name OnlyIdle = codes "OnlyIdle"
+refusal_name Damaged = codes "Damaged"

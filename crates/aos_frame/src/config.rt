@@ -1,9 +1,11 @@
 //! What the two ends of a link agree on.
 ghost use Rattle.std.specs.Prelude.{◌≡◌};
-ghost use Rattle.aos_frame.specs.Frame.{IsChannel, IsLink, lane_channel, other_lane};
+ghost use Rattle.aos_frame.specs.Frame.{IsChannel, IsLink, frame_len, lane_channel, other_lane};
 ghost use Rattle.aos_frame.specs.Fields.{FitsChannel, FitsLink};
 
 use crate::header::IDLE_CHANNEL;
+use crate::{HEADER_LEN, MPDU_HEADER_LEN};
+use frame_fields::FrameFields;
 use thiserror::Error;
 use valid_config::{Config, Valid};
 
@@ -50,11 +52,14 @@ pub struct LinkConfig {
     /// The virtual channel identifier of the frames that carry file data, 0 to 62: another than
     /// `virtual_channel`.
     pub data_virtual_channel: u8,
-    /// Octets of the packet zone, 16 to 2,040. A frame has 8 octets more.
+    /// Octets of the packet zone, 16 to 2,040. A frame has 8 octets more, and those of its fields.
     pub zone: u16,
     /// The application process identifier of the packets, 0 to 2,046; 2,047 is that of idle
     /// packets.
     pub apid: u16,
+    /// Which fields the frames have beside their header and their M_PDU: an insert zone of up to 64
+    /// octets, an operational control field, a frame error control field.
+    pub fields: FrameFields,
 }
 
 /// What both ends know of the frames of one virtual channel, and of the packets in them.
@@ -64,10 +69,12 @@ pub struct ChannelConfig {
     pub spacecraft: u8,
     /// The virtual channel identifier, 0 to 62.
     pub virtual_channel: u8,
-    /// Octets of the packet zone, 16 to 2,040. A frame has 8 octets more.
+    /// Octets of the packet zone, 16 to 2,040. A frame has 8 octets more, and those of its fields.
     pub zone: u16,
     /// The application process identifier of the packets, 0 to 2,046.
     pub apid: u16,
+    /// Which fields the frames have beside their header and their M_PDU.
+    pub fields: FrameFields,
 }
 
 /// A field of a [`LinkConfig`] or of a [`ChannelConfig`] that isn't as it has to be.
@@ -85,6 +92,9 @@ pub enum LinkField {
     /// The application process identifier.
     #[error("the application process identifier is not 0 to 2046")]
     Apid,
+    /// The octets of the insert zone.
+    #[error("the insert zone does not have 0 to 64 octets")]
+    InsertZone,
 }
 
 impl Config for LinkConfig {
@@ -105,6 +115,8 @@ impl Config for LinkConfig {
             Some(LinkField::Zone)
         } else if MOST_APID < self.apid {
             Some(LinkField::Apid)
+        } else if self.fields.amiss().is_some() {
+            Some(LinkField::InsertZone)
         } else {
             None
         }
@@ -125,6 +137,8 @@ impl Config for ChannelConfig {
             Some(LinkField::Zone)
         } else if MOST_APID < self.apid {
             Some(LinkField::Apid)
+        } else if self.fields.amiss().is_some() {
+            Some(LinkField::InsertZone)
         } else {
             None
         }
@@ -146,6 +160,7 @@ impl LinkConfig {
             },
             zone: self.zone,
             apid: self.apid,
+            fields: self.fields,
         }
     }
 }
@@ -156,5 +171,13 @@ impl ChannelConfig {
         ensures { result ≡ lane_channel lane link }
     {
         Valid::known(link.get().lane(lane))
+    }
+
+    /// The octets of each frame: 8 more than those of a zone, and those of its fields.
+    pub fn frame_len(&self) -> usize
+        ensures { result ≡ frame_len self.now }
+    {
+        let channel = *self;
+        HEADER_LEN + MPDU_HEADER_LEN + usize::from(channel.zone) + channel.fields.extra()
     }
 }

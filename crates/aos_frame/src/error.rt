@@ -11,6 +11,10 @@ pub enum FrameError {
     /// The octets aren't as many as those of a frame of the link.
     #[error("the octets are not as many as those of a frame")]
     Length,
+    /// The link has error control, and the check of the frame differs from its frame error control
+    /// field: some of it is not as it was sent (CCSDS 732.0-B-4, 4.1.6).
+    #[error("the frame was damaged on the way")]
+    Damaged,
     /// The transfer frame version number isn't `01` (CCSDS 732.0-B-4, 4.1.2.2.2).
     #[error("the transfer frame version number is not 01")]
     Version,
@@ -36,6 +40,7 @@ impl FrameError {
     {
         match self {
             FrameError::Length => 1,
+            FrameError::Damaged => 12,
             FrameError::Version => 2,
             FrameError::OtherProfile => 3,
             FrameError::OtherSpacecraft => 4,
@@ -50,6 +55,7 @@ impl FrameError {
     {
         match self {
             FrameError::Length => "Length",
+            FrameError::Damaged => "Damaged",
             FrameError::Version => "Version",
             FrameError::OtherProfile => "OtherProfile",
             FrameError::OtherSpacecraft => "OtherSpacecraft",

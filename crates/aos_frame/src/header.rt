@@ -10,6 +10,7 @@ use crate::config::ChannelConfig;
 use crate::count::counts_of;
 use crate::error::FrameError;
 use cfd_bits::get;
+use frame_fields::FrameFields;
 
 /// Octets of a frame's primary header (CCSDS 732.0-B-4, 4.1.2).
 pub const HEADER_LEN: usize = 6;
@@ -35,8 +36,8 @@ pub struct FrameHeader {
 }
 
 impl FrameHeader {
-    /// The header of a whole frame with a packet zone of `zone` octets, whatever its spacecraft and
-    /// channel are, and the octets behind it: the M_PDU header and the packet zone. It is what
+    /// The header of a whole bare frame with a packet zone of `zone` octets, whatever its spacecraft
+    /// and channel are, and the octets behind it: the M_PDU header and the packet zone. It is what
     /// [`decode`](crate::decode) answers for the channel that the frame itself names.
     ///
     /// # Errors
@@ -65,6 +66,7 @@ impl FrameHeader {
             virtual_channel: get(frame, 10, 6) as u8,
             zone,
             apid: 0,
+            fields: FrameFields::NONE,
         };
         crate::decode(frame, &own)
     }

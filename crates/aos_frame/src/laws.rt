@@ -1,17 +1,19 @@
 //! Laws of frames and their spellings, each the contract of a function that does nothing.
-ghost use Rattle.std.specs.Prelude.{◌≡◌, ℕ, ◌+◌, ◌%◌, ◌<◌, Bool, List, length, drop};
+ghost use Rattle.std.specs.Prelude.{◌≡◌, ℕ, ◌+◌, ◌%◌, ◌^◌, ◌<◌, Bool, List, length};
+ghost use Rattle.frame_fields.specs.Fields.{mpdu_in, sealed};
 ghost use Rattle.aos_frame.specs.declared.header.FrameHeader.{FrameHeader};
 ghost use Rattle.aos_frame.specs.declared.config.ChannelConfig.{ChannelConfig};
 ghost use Rattle.aos_frame.specs.Counts.{counts_of, compared, AreMissing};
 ghost use Rattle.aos_frame.specs.Frame.{SpellsFrame, FitsHeader, frame_octets};
 
-/// What is written of a header of the channel, with the M_PDU header and the packet zone behind it,
-/// spells that header, so `decode` answers it and what stands behind it.
+/// What is written of a header of the channel, with an M_PDU behind it, and sealed with the fields
+/// of the link, spells that header, so `decode` answers it and that M_PDU.
 pub fn written_frame_is_read()
-    ensures { (c : ChannelConfig) (h : FrameHeader) (rest : List ℕ) → FitsHeader h
+    ensures { (c : ChannelConfig) (h : FrameHeader) (rest : List ℕ) (control : ℕ) → FitsHeader h
         → h.spacecraft ≡ c.spacecraft → h.virtual_channel ≡ c.virtual_channel
-        → length rest ≡ 2 + c.zone → SpellsFrame c h (frame_octets h rest)
-        × (drop 6 (frame_octets h rest) ≡ rest) }
+        → length rest ≡ 2 + c.zone → control < 2 ^ 32 →
+        let frame = sealed c.fields (frame_octets h rest) control in
+        SpellsFrame c h frame × (mpdu_in c.fields frame ≡ rest) }
 {}
 
 /// Octets are a frame of the channel with one header at most.

@@ -33,6 +33,7 @@ ghost use Rattle.aos_frame.specs.declared.header.FrameHeader.{FrameHeader};
 ghost use Rattle.aos_frame.specs.Counts.{counts_of};
 ghost use Rattle.aos_frame.specs.Frame.{SpellsFrame, count_in, frame_fault, FitsHeader, signaling};
 ghost use Rattle.aos_frame.specs.Frame.{frame_octets};
+ghost use Rattle.frame_fields.specs.Fields.{mpdu_in};
 
 mod config;
 mod count;
@@ -44,6 +45,8 @@ use cfd_bits::{get, put_uint};
 pub use config::{ChannelConfig, LEAST_ZONE, Lane, LinkConfig, LinkField, MOST_APID, MOST_ZONE};
 pub use count::{Continuity, FRAME_COUNTS, SHORT_COUNTS, SeenCount, VcCounter, VcMonitor};
 pub use error::FrameError;
+use frame_fields::open;
+pub use frame_fields::{FrameFields, MOST_INSERT_ZONE};
 pub use header::{FrameHeader, HEADER_LEN, IDLE_CHANNEL};
 pub use laws::{a_frame_has_one_header, one_number_is_missing, written_frame_is_read};
 
@@ -64,15 +67,17 @@ fn count_in(bytes: &[u8], cycle: bool) -> u32
     }
 }
 
-/// The header of a whole frame of the channel, and the octets behind it: the M_PDU header and the
-/// packet zone.
+/// The header of a whole frame of the channel, and its M_PDU: the M_PDU header and the packet zone.
+///
+/// Where the link has error control, the frame error control field is looked at before anything
+/// else of the frame. An insert zone and an operational control field are passed over.
 ///
 /// Of the 2 octets of the M_PDU header the last 11 bits are the first header pointer. The count
 /// cycle is read as the upper 4 bits of the count where its usage flag is 1, else as anything.
 ///
 /// # Errors
 ///
-/// The first of these that holds, in this order: `Length`, `Version`, `OtherProfile`,
+/// The first of these that holds, in this order: `Length`, `Damaged`, `Version`, `OtherProfile`,
 /// `OtherSpacecraft`, `OnlyIdle`, `OtherChannel`. `FrameError` says what each means.
 pub fn decode<'a>(
     bytes: &'a [u8],
@@ -81,7 +86,7 @@ pub fn decode<'a>(
     // What is answered is spelled so.
     ensures found { IfOk result (λ x. SpellsFrame config.now x.0 bytes.now) }
     // The M_PDU header and the packet zone.
-    ensures rest { IfOk result (λ x. x.1.now ≡ drop 6 bytes.now) }
+    ensures rest { IfOk result (λ x. x.1.now ≡ mpdu_in config.now.fields bytes.now) }
     ensures len { IfOk result (λ x. length x.1.now ≡ 2 + config.now.zone) }
     // What was read can be written.
     ensures fits { IfOk result (λ x. FitsHeader x.0) }
@@ -91,9 +96,12 @@ pub fn decode<'a>(
     // Which refusal it is.
     ensures refused { result_err result ≡ frame_fault bytes.now config.now }
 {
-    if bytes.len() != HEADER_LEN + MPDU_HEADER_LEN + config.zone as usize {
+    if bytes.len() != config.frame_len() {
         return Err(FrameError::Length);
     }
+    let Ok(opened) = open(config.fields, bytes) else {
+        return Err(FrameError::Damaged);
+    };
     if get(bytes, 0, 2) != 1 {
         return Err(FrameError::Version);
     }
@@ -118,7 +126,7 @@ pub fn decode<'a>(
         count: count_in(bytes, cycle),
         cycle,
     };
-    Ok((header, &bytes[HEADER_LEN..]))
+    Ok((header, opened.mpdu))
 }
 
 /// The signaling field of a header that isn't replayed: the usage flag of the count cycle with the

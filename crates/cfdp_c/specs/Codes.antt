@@ -149,6 +149,7 @@ link_number links.VirtualChannel = 82
 link_number links.DataVirtualChannel = 83
 link_number links.Zone = 84
 link_number links.Apid = 85
+link_number links.InsertZone = 93
 
 abbrev pub station_number : StationField → ℕ
 station_number (stations.Entity field) = entity_number field
@@ -166,4 +167,4 @@ field_number fields.OnInactivity = 92
 
 -- These numbers name one.
 abbrev pub NamesField : ℕ → Type 0
-NamesField number = (70 ≤ number) × (number ≤ 92)
+NamesField number = (70 ≤ number) × (number ≤ 97)

@@ -1,5 +1,6 @@
 -- How a caller says what a station is set up as.
 use Rattle.std.specs.Prelude.{ℕ, ◌≡◌, ◌<◌, ◌==◌, if◌then◌else◌}
+use Rattle.frame_fields.specs.Fields.{no_fields}
 use Rattle.aos_frame.specs.declared.config.LinkConfig.{LinkConfig}
 use Rattle.cfdp_directives.specs.declared.user.handler.Handler.{Handler}
 use Rattle.cfdp_directives.specs.declared.user.handler.Handler.TheVariants as does
@@ -56,6 +57,7 @@ link_of l = record {
   data_virtual_channel = l.data_virtual_channel;
   zone = l.zone;
   apid = l.apid;
+  fields = no_fields;
 }
 
 -- the same as the station's own configuration

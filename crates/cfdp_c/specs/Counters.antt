@@ -37,7 +37,7 @@ abbrev pub pdus_told : PduDrops → CfdpPduDrops
 pdus_told d = record {
   too_short = d.too_short;
   bad_version = d.bad_version;
-  crc_present = d.crc_present;
+  bad_crc = d.bad_crc;
   bad_length = d.bad_length;
   unacknowledged = d.unacknowledged;
   bad_directive = d.bad_directive;

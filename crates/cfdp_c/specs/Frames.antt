@@ -1,7 +1,7 @@
 -- What polls, flushes and frames answer and do, in the words of the station's own clauses.
 use Rattle.std.specs.Prelude.{◌≡◌, ◌≢◌, ◌↔◌, ◌+◌, ◌*◌, ◌-◌, ◌^◌, ◌<◌, ◌≤◌, ℕ, min, List, length, Option, None, IsSomeAnd, Result, IfOk, OnErr}
 use Rattle.std.specs.declared.alloc.AllocError.{AllocError}
-use Rattle.aos_frame.specs.Frame.{other_lane}
+use Rattle.aos_frame.specs.Frame.{frame_len, other_lane}
 use Rattle.aos_frame.specs.declared.config.Lane.{Lane}
 use Rattle.link_stack.specs.Downward.{DownState, LinkSenderState, MakesFrame, frame_lane, lane_down}
 use Rattle.cfdp_entity.specs.Polling.{TakesTurn, turn}
@@ -62,8 +62,8 @@ pub record MakesNext (frame : List ℕ) (lane : Lane) (old new : DownState) : Ty
 -- The next whole frame was written to room of its length, directives first, or no frame waits.
 pub record GivesFrame (answer : ℕ) (room_before room_now : List ℕ) (old new : StationState)
     : Type 0 where
-  pub short : (answer ≡ no_room) ↔ (length room_before ≢ 8 + old.down.directives.link.zone)
-  pub none : length room_before ≡ 8 + old.down.directives.link.zone →
+  pub short : (answer ≡ no_room) ↔ (length room_before ≢ frame_len old.down.directives.link)
+  pub none : length room_before ≡ frame_len old.down.directives.link →
       ((answer ≡ nothing) ↔ (frame_lane old.down ≡ None))
   pub made : answer ≡ ok →
       IsSomeAnd (frame_lane old.down) (λ lane. MakesNext room_now lane old.down new.down)
@@ -81,7 +81,7 @@ pub record Sends (answer : ℕ) (frame : List ℕ) (old new : StationState) : Ty
 -- That frame was written to room of its length; where the room has another nothing changed.
 pub record TransmitsTo (answer : ℕ) (room_before room_now : List ℕ) (old new : StationState)
     : Type 0 where
-  pub short : (answer ≡ no_room) ↔ (length room_before ≢ 8 + old.down.directives.link.zone)
+  pub short : (answer ≡ no_room) ↔ (length room_before ≢ frame_len old.down.directives.link)
   pub same : answer ≡ no_room → new ≡ old
   pub sends : answer ≢ no_room → Sends answer room_now old new
   pub kept : answer ≢ ok → room_now ≡ room_before

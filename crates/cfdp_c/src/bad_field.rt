@@ -20,7 +20,7 @@ pub enum BadField {
 }
 
 impl BadField {
-    /// The number that names it: 70 to 92.
+    /// The number that names it: 70 to 97.
     pub(crate) fn number(self) -> u32
         ensures number { result ≡ codes.field_number self }
         ensures names { codes.NamesField result }
@@ -38,7 +38,7 @@ impl BadField {
 
 fn station_number(field: StationField) -> u32
     ensures number { result ≡ codes.station_number field }
-    ensures names { (71 ≤ result) × (result ≤ 89) }
+    ensures names { (71 ≤ result) × (result ≤ 97) }
 {
     match field {
         StationField::Entity(field) => entity_number(field),
@@ -69,12 +69,14 @@ fn entity_number(field: EntityField) -> u32
 // Of the frames that it sends; those of the frames that it receives are greater by 4.
 fn link_number(field: LinkField) -> u32
     ensures number { result ≡ codes.link_number field }
-    ensures names { (82 ≤ result) × (result ≤ 85) }
+    ensures names { (82 ≤ result) × (result ≤ 93) }
 {
     match field {
         LinkField::VirtualChannel => 82,
         LinkField::DataVirtualChannel => 83,
         LinkField::Zone => 84,
         LinkField::Apid => 85,
+        // No configuration of a C program has one.
+        LinkField::InsertZone => 93,
     }
 }

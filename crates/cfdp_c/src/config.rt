@@ -5,7 +5,8 @@ ghost use Rattle.cfdp_c.specs.Config.{config_len, default_config, HasNames, IsUs
 
 use crate::bad_field::BadField;
 use cfdp_directives::{ChecksumKind, Handler, Handlers, Limits, Policy, Times};
-use cfdp_station::{Config, DEFAULT_CAPACITY, EntityConfig, LinkConfig, StationConfig, Valid};
+use cfdp_station::{Config, DEFAULT_CAPACITY, EntityConfig, FrameFields};
+use cfdp_station::{LinkConfig, StationConfig, Valid};
 use std::mem::size_of;
 
 /// Octets of a [`CfdpConfig`].
@@ -59,7 +60,8 @@ pub struct CfdpConfig {
     pub id_width: u8,
     /// Octets of a sequence number: 1 to 8.
     pub number_width: u8,
-    /// The checksum of the files that it sends: 0 (modular) or 15 (null).
+    /// The checksum of the files that it sends, by SANA's numbers: 0 (modular), 1 (CRC-32 of
+    /// Proximity-1), 2 (CRC-32C), 3 (CRC-32 of IEEE 802.3) or 15 (null).
     pub checksum: u8,
     /// How often an EOF is sent again.
     pub eof_limit: u8,
@@ -85,6 +87,7 @@ impl CfdpLink {
             data_virtual_channel: self.data_virtual_channel,
             zone: self.zone,
             apid: self.apid,
+            fields: FrameFields::NONE,
         }
     }
 }

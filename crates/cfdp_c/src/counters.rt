@@ -62,8 +62,8 @@ pub struct CfdpPduDrops {
     pub too_short: u64,
     /// The version of its header is another.
     pub bad_version: u64,
-    /// It has a CRC.
-    pub crc_present: u64,
+    /// Its CRC is wrong.
+    pub bad_crc: u64,
     /// Its length isn't that of its header.
     pub bad_length: u64,
     /// It is of class 1.
@@ -141,7 +141,7 @@ impl CfdpPduDrops {
         CfdpPduDrops {
             too_short: drops.too_short,
             bad_version: drops.bad_version,
-            crc_present: drops.crc_present,
+            bad_crc: drops.bad_crc,
             bad_length: drops.bad_length,
             unacknowledged: drops.unacknowledged,
             bad_directive: drops.bad_directive,

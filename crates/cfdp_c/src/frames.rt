@@ -1,5 +1,6 @@
 //! PDUs down to frames, and frames up.
 ghost use Rattle.std.specs.Prelude.{◌≡◌, ◌≢◌, ◌+◌, false};
+ghost use Rattle.aos_frame.specs.Frame.{frame_len};
 ghost use Rattle.aos_frame.specs.declared.config.Lane.{Lane};
 ghost use Rattle.link_stack.specs.Downward.{lane_down};
 ghost use Rattle.cfdp_station.specs.Station.{station_lent};
@@ -103,7 +104,7 @@ impl Held {
 
     fn frame_len(&self) -> usize
         ensures { (lane : Lane) → result
-            ≡ 8 + (lane_down lane (state_of self.now.station).down).link.zone }
+            ≡ frame_len (lane_down lane (state_of self.now.station).down).link }
     {
         match &self.station {
             AnyStation::Memory(station) => station.frame_len(),
@@ -113,7 +114,7 @@ impl Held {
 
     /// The octets of room for a frame.
     fn room_len(&self) -> usize
-        ensures { result ≡ 8 + (state_of self.now.station).down.directives.link.zone }
+        ensures { result ≡ frame_len (state_of self.now.station).down.directives.link }
     {
         self.frame_len()
     }
@@ -193,7 +194,7 @@ pub extern "C" fn cfdp_frame_len(alloc: Global, station: &mut CfdpStation) -> us
     ensures open { station.new.is_open ≡ station.old.is_open }
     ensures closed { station.old.is_open ≡ false → result ≡ 0 }
     ensures len { Becomes station.old station.new (λ x y. (y ≡ x)
-        × ((lane : Lane) → result ≡ 8 + (lane_down lane (state_of x.station).down).link.zone)) }
+        × ((lane : Lane) → result ≡ frame_len (lane_down lane (state_of x.station).down).link)) }
 {
     let Some(held) = station.lift(alloc) else {
         return 0;

@@ -41,6 +41,8 @@ no-overwrite = false            # refuses a file whose name is there already
 # How it is operated.
 commands = false                # reads commands from standard input
 # control = \"127.0.0.1:5101\"    # takes commands on this TCP address
+# console = \"127.0.0.1:8080\"    # shows itself to a browser on this TCP address
+# console-token = \"TOKEN\"       # the file with the token that its console wants
 
 # What it writes.
 no-time = false                 # begins lines with no time
@@ -56,7 +58,7 @@ zone = 256                      # octets of a frame's packet zone, 16 to 2040
 segment = 1024                  # octets of a file in one PDU at most, 1 to 4096
 id_width = 2                    # octets of an entity id, 1 to 8
 number_width = 8                # octets of a transaction's number, 1 to 8
-checksum = 0                    # 0 modular, 15 null
+checksum = 0                    # 0 modular, 15 null; CRC-32: 1 Proximity-1, 2 C, 3 IEEE
 eof_limit = 3                   # how often an EOF is sent again, 0 to 255
 nak_limit = 3                   # how often a NAK is sent again, 0 to 255
 finished_limit = 3              # how often a Finished is sent again, 0 to 255

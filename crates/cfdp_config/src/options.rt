@@ -25,7 +25,7 @@ pub struct SettingsOption {
 }
 
 /// All options of a station but those that name a settings file, in the order of its help.
-pub const OPTIONS: [SettingsOption; 30] = [
+pub const OPTIONS: [SettingsOption; 32] = [
     SettingsOption {
         name: "id",
         kind: ValueKind::Number,
@@ -120,6 +120,14 @@ pub const OPTIONS: [SettingsOption; 30] = [
     },
     SettingsOption {
         name: "control",
+        kind: ValueKind::Text,
+    },
+    SettingsOption {
+        name: "console",
+        kind: ValueKind::Text,
+    },
+    SettingsOption {
+        name: "console-token",
         kind: ValueKind::Text,
     },
     SettingsOption {

@@ -1,5 +1,5 @@
 -- What was heard, along the calls of a connection.
-use Rattle.std.specs.Prelude.{◌≡◌, ℕ, List, [], ◌∷◌, Option, Some, None, Result, Ok, Err, IfOk, IfSome, OnOk, is_err, false}
+use Rattle.std.specs.Prelude.{◌≡◌, ℕ, List, [], ◌∷◌, Option, Some, None, Result, Ok, IfOk, IfSome}
 use Rattle.std.proofs.Common.{sym, ◌∙◌, ap, subst}
 use Rattle.http.specs.declared.request.Request.{Request}
 use Rattle.http_server.specs.Exchange.{Call, Chain}
@@ -32,11 +32,6 @@ heard (c ∷ calls) old new ask (next, step, rest) none is =
     let it = step.first none in
     let same : Some it.0 ≡ Some (Ok ask) = sym (kept calls next new it.0 it.1 rest) ∙ is
     in (c.0, subst (λ j. IfOk j (May old.guard.now c.0)) (some_is same) it.2)
-
--- what holds once a call was done, of one that was
-pub from_ok : {A E P : Type 0} (answer : Result A E) → is_err answer ≡ false → OnOk answer P → P
-from_ok (Ok x) done holds = holds
-from_ok (Err e) done holds = absurd cc
 
 -- what is given is what is asked
 pub given_may : (given : Option Ask) (judged : Result Ask Denial) (guard : Guard)

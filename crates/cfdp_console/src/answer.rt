@@ -150,10 +150,11 @@ fn transaction(alloc: Global, id: &[u8], shown: Shown<'_>) -> Result<Answer, All
     Answer::denied(alloc, Denial::NotFound)
 }
 
-/// Gives an answer to a request, and closes the connection behind it.
+/// Gives an answer to a request, and closes the connection behind it where it `closes`.
 #[derive(Drop)]
 pub struct Answering<'a> {
     pub answer: &'a Answer,
+    pub closes: bool,
 }
 
 impl Service for Answering<'_> {
@@ -168,6 +169,9 @@ impl Service for Answering<'_> {
     ) -> Result<(), AllocError> {
         let answer = self.answer;
         add_fields(response, answer.kind)?;
+        if self.closes {
+            response.add_header(header::CONNECTION, HeaderValue::from_static("close"))?;
+        }
         response.status = answer.status;
         response.body.put_slice(answer.body.as_bytes())
     }
@@ -192,6 +196,5 @@ fn add_fields(response: &mut Response, kind: Kind) -> Result<(), AllocError>
         header::CONTENT_SECURITY_POLICY,
         HeaderValue::from_static(POLICY),
     )?;
-    response.add_header(header::CONNECTION, HeaderValue::from_static("close"))?;
     Ok(())
 }

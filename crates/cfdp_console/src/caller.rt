@@ -1,6 +1,6 @@
 //! A connection of the console, as steps over octets: it makes no call of the system but through
 //! the reader and the writer that it is lent.
-ghost use Rattle.std.specs.Prelude.{◌≡◌, ℕ, List, IfSome, OnOk, Ok};
+ghost use Rattle.std.specs.Prelude.{◌≡◌, ℕ, List, IfSome, Ok};
 ghost use Rattle.http.specs.declared.request.Request.{Request};
 ghost use Rattle.http_server.specs.Exchange.{Call, Chain};
 ghost use Rattle.cfdp_console.specs.Asking.{May};
@@ -11,8 +11,8 @@ use crate::asking::{Ask, judge};
 use crate::denial::Denial;
 use crate::guard::Guard;
 use bytes::Bytes;
-use http::Request;
-use http_server::{Config, Connection, Response, Service};
+use http::{Request, Version};
+use http_server::{Config, Connection, Response, Service, State};
 use http1::Limits;
 use std::alloc::{AllocError, Global};
 use std::hash::RandomState;
@@ -44,7 +44,8 @@ enum Stage {
     Gone,
 }
 
-/// A connection of the console. It carries one request and its answer: then it is closed.
+/// A connection of the console. It carries requests, each of which is answered before the next one
+/// is read; once one asks for that, or isn't of HTTP/1.1, it is closed behind the answer.
 #[derive(Drop)]
 pub struct Caller {
     alloc: Global,
@@ -52,8 +53,11 @@ pub struct Caller {
     hearing: Connection,
     reply: Connection,
     stage: Stage,
-    // Whether the answer goes without its body.
+    // Whether the answer goes without its body, and whether one more request may follow.
     is_head: bool,
+    keeps: bool,
+    // Whether the last answer has gone, and it wasn't looked what came meanwhile.
+    is_anew: bool,
     // When this stage began, in milliseconds.
     since: u64,
 }
@@ -65,6 +69,8 @@ struct Hearing<'a> {
     guard: &'a Guard,
     asked: Option<Result<Ask, Denial>>,
     is_head: bool,
+    // Whether it is of HTTP/1.1.
+    is_current: bool,
 }
 
 impl Service for Hearing<'_> {
@@ -77,6 +83,7 @@ impl Service for Hearing<'_> {
     ) -> Result<(), AllocError> {
         if self.asked.is_none() {
             self.is_head = request.method().as_str() == "HEAD";
+            self.is_current = request.version() == Version::HTTP_11;
             self.asked = Some(judge(self.alloc, self.guard, request));
         }
         Ok(())
@@ -94,6 +101,8 @@ impl Caller {
             reply: Connection::new(alloc, keys, config(usize::MAX)),
             stage: Stage::Hearing,
             is_head: false,
+            keeps: false,
+            is_anew: false,
             since: now,
         }
     }
@@ -125,18 +134,49 @@ impl Caller {
         if self.stage != Stage::Hearing {
             return None;
         }
+        if take(&mut self.hearing, octets).is_err() {
+            self.stage = Stage::Gone;
+            return None;
+        }
+        self.judges(guard, now)
+    }
+
+    /// Whether its last answer has gone, and its next request may have come meanwhile.
+    pub fn is_anew(&self) -> bool {
+        self.is_anew
+    }
+
+    /// What it asks by a request that came while its last answer went, as `hears`.
+    pub fn goes_on(&mut self, guard: &Guard, now: u64) -> Option<Ask>
+        ensures { IfSome result (λ ask. (request : Request (List ℕ)) × May guard.now request ask) }
+    {
+        self.is_anew = false;
+        if self.stage != Stage::Hearing {
+            return None;
+        }
+        self.judges(guard, now)
+    }
+
+    /// What it asks, where its request is whole.
+    fn judges(&mut self, guard: &Guard, now: u64) -> Option<Ask>
+        ensures { IfSome result (λ ask. (request : Request (List ℕ)) × May guard.now request ask) }
+    {
         let mut service = Hearing {
             alloc: self.alloc,
             guard,
             asked: None,
             is_head: false,
+            is_current: false,
         };
-        if feed(&mut self.hearing, octets, &mut service).is_err() {
-            self.stage = Stage::Gone;
-            return None;
-        }
-        let Hearing { asked, is_head, .. } = service;
+        answer_all(&mut self.hearing, &mut service);
+        let Hearing {
+            asked,
+            is_head,
+            is_current,
+            ..
+        } = service;
         self.is_head = is_head;
+        self.keeps = is_current && self.hearing.state() == State::Open;
         match asked {
             Some(asked) => self.judged(asked, now),
             None => None,
@@ -167,9 +207,15 @@ impl Caller {
         self.since = now;
         self.stage = match answer {
             Ok(answer) => {
-                let mut service = Answering { answer: &answer };
-                match feed(&mut self.reply, request, &mut service) {
-                    Ok(()) => Stage::Sending,
+                let mut service = Answering {
+                    answer: &answer,
+                    closes: !self.keeps,
+                };
+                match take(&mut self.reply, request) {
+                    Ok(()) => {
+                        answer_all(&mut self.reply, &mut service);
+                        Stage::Sending
+                    }
                     Err(_) => Stage::Gone,
                 }
             }
@@ -177,12 +223,13 @@ impl Caller {
         };
     }
 
-    /// Sends what the writer has room for.
+    /// Sends what the writer has room for, at this time. Behind an answer it goes on to the next
+    /// request, where one may follow.
     ///
     /// # Errors
     ///
     /// That of the writer.
-    pub fn sends<W: Write>(&mut self, out: &mut W) -> io::Result<usize> {
+    pub fn sends<W: Write>(&mut self, out: &mut W, now: u64) -> io::Result<usize> {
         match self.stage {
             Stage::Hearing => {
                 let sent = self.hearing.write_to(out)?;
@@ -194,12 +241,25 @@ impl Caller {
             Stage::Sending => {
                 let sent = self.reply.write_to(out)?;
                 if !self.reply.wants_write() {
-                    self.stage = Stage::Gone;
+                    self.begins_anew(now);
                 }
                 Ok(sent)
             }
             Stage::Awaiting | Stage::Gone => Err(io::Error::from(ErrorKind::WouldBlock)),
         }
+    }
+
+    /// Goes on to its next request, where one may follow. What `hearing` would answer was sent by
+    /// `reply`, and is thrown away.
+    fn begins_anew(&mut self, now: u64) {
+        let _ = self.hearing.write_to(&mut io::sink());
+        self.is_anew = self.keeps && !self.hearing.wants_write();
+        self.since = now;
+        self.stage = if self.is_anew {
+            Stage::Hearing
+        } else {
+            Stage::Gone
+        };
     }
 
     /// Leaves it where it was too slow.
@@ -225,20 +285,14 @@ fn config(max_pending: usize) -> Config {
     }
 }
 
-/// Gives octets to a connection, and lets it answer; none of them means that no more come.
-///
-/// # Errors
-///
-/// `OutOfMemory`.
-fn feed<S: Service>(connection: &mut Connection, octets: &[u8], service: &mut S) -> io::Result<()>
-    ensures { OnOk result ((calls : List Call) × Chain S.answers service.old calls service.new) }
+/// Lets a connection answer what it has read.
+fn answer_all<S: Service>(connection: &mut Connection, service: &mut S)
+    ensures { (calls : List Call) × Chain S.answers service.old calls service.new }
 {
-    take(connection, octets)?;
     connection.advance(service);
-    Ok(())
 }
 
-/// Has a connection read these octets.
+/// Has a connection read these octets; none of them means that no more come.
 ///
 /// # Errors
 ///

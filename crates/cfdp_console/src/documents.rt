@@ -11,6 +11,15 @@ use crate::shown::{Counters, Dropped, LinkStatus, Open, Shown, Status};
 use serde_json::{Value, json};
 use std::alloc::{AllocError, Global};
 
+/// The most closed transactions, and the most lines of the log, that an answer has, and after so many
+/// octets of these it has no more of them: so it is made within a millisecond. Who asks for all goes
+/// on behind the last one.
+const MOST_CLOSED: usize = 50;
+
+const MOST_LINES: usize = 200;
+
+const ENOUGH_OCTETS: usize = 32 * 1024;
+
 /// A number, or null where it isn't known.
 fn number(value: Option<u64>) -> Value
     ensures { view result ≡ number_or_null value }
@@ -206,7 +215,8 @@ fn dropped_values(alloc: Global, dropped: &[Dropped]) -> Result<Value, AllocErro
     Ok(Value::Array(values))
 }
 
-/// The object of `/transactions`: all that are open, and those that were closed behind this number.
+/// The object of `/transactions`: those that are open, and the first ones that were closed behind
+/// this number.
 ///
 /// # Errors
 ///
@@ -222,7 +232,7 @@ pub fn transactions_value(
     }
     let mut closed = Vec::new(alloc);
     for it in shown.ledger.closed().iter() {
-        if it.number > after {
+        if it.number > after && closed.len() < MOST_CLOSED {
             closed.push(closed_value(alloc, it)?)?;
         }
     }
@@ -230,15 +240,17 @@ pub fn transactions_value(
     json!(in alloc; {"closed": closed, "open": open})
 }
 
-/// The object of `/log`: the lines behind this number.
+/// The object of `/log`: the first lines behind this number.
 ///
 /// # Errors
 ///
 /// `AllocError` where there is no memory for it.
 pub fn log_value(alloc: Global, shown: Shown<'_>, after: u64) -> Result<Value, AllocError> {
     let mut lines = Vec::new(alloc);
+    let mut octets = 0usize;
     for line in shown.log.lines().iter() {
-        if line.number > after {
+        if line.number > after && lines.len() < MOST_LINES && octets < ENOUGH_OCTETS {
+            octets = octets.saturating_add(line.text.len());
             lines.push(line_value(alloc, line)?)?;
         }
     }

@@ -5,7 +5,7 @@
 //! line as the control address of a station takes it. The program does it, and gives an
 //! [`Answer`].
 //!
-//! No program uses it yet, and nothing tests it.
+//! Tested by `tests/console.py`, through the program above.
 #![tactic(auto)]
 
 mod answer;

@@ -12,12 +12,12 @@ pub enum Look {
     Status,
     /// What passed over the link in the last ten minutes, `/history`.
     History,
-    /// The open transactions, and those that were closed, `/transactions?after=N`: these from the
+    /// The open transactions, and some that were closed, `/transactions?after=N`: these from the
     /// next one behind number N on.
     Transactions(u64),
     /// A transaction, `/transactions/ID`.
     Transaction(Vec<u8>),
-    /// The log, `/log?after=N`: from the next line behind number N on.
+    /// Some lines of the log, `/log?after=N`: from the next one behind number N on.
     Log(u64),
     /// All numbers for Prometheus, `/metrics`.
     Metrics,

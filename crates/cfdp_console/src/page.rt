@@ -4,7 +4,7 @@
 /// checksums (SHA-256 of what stands between their tags), and it asks nobody but the console.
 pub const POLICY: &str = "default-src 'none'; connect-src 'self'; img-src data:; \
     style-src 'sha256-dCZun2PjeXbzz5zZhlfkNUDNf9TcQwHaqJk9NifswJg='; \
-    script-src 'sha256-+N77p9McmWzcwxf5dTEyTId5FQTEewacYdq5NAKNcxE='; \
+    script-src 'sha256-5purwbC1LpD+ahFz6guairgRpnuY02fMx+txozyL6ks='; \
     base-uri 'none'; form-action 'none'; frame-ancestors 'none'";
 
 /// The page, in HTML.
@@ -536,6 +536,8 @@ async function renews() {
     shows_open(transactions.open);
     adds_closed(transactions.closed);
     adds_lines(log.lines);
+    // An answer has not all lines at once: the rest is asked for soon.
+    if (shownClosed < status.closed || shownLine < status.lines) setTimeout(renews, 100);
   } catch (error) {
     at("state").className = "pill is-gone";
     writes(at("state"), isAsking ? "wants a token" : "the station doesn't answer");

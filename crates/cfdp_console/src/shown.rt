@@ -59,7 +59,7 @@ pub struct Counters {
 /// How often something was dropped by a cause.
 #[derive(Clone, Copy)]
 pub struct Dropped {
-    /// What drops it: `link` or `pdu`.
+    /// What drops it: `datagram`, `link` or `pdu`.
     pub layer: &'static str,
     pub number: u64,
     pub cause: &'static str,

@@ -6,3 +6,4 @@ pub mod Sums
 pub mod Puts
 pub mod Addressed
 pub mod FileSizes
+mod TypesOfSums

@@ -7,8 +7,8 @@ use Rattle.std.proofs.lemmas.Bool.{le-ltb, le-leb}
 use Rattle.std.proofs.Common.{zero, suc}
 use Rattle.std.proofs.lemmas.List.{take_at, drop_at}
 use Rattle.cfdp_header.specs.declared.value.Header.{Header}
-use Rattle.cfdp_header.specs.Header.{header_len_told, header_len, type_bit}
-use Rattle.cfd_bits.specs.Field.{flag}
+use Rattle.cfdp_header.specs.Crc.{before_crc}
+use Rattle.cfdp_header.specs.Header.{SpellsHeader, header_len_told, header_len, type_bit}
 use Rattle.cfdp_header.proofs.Laws as header
 use Rattle.cfdp_directives.specs.declared.pdu.codes.Delivery.{Delivery}
 use Rattle.cfdp_directives.specs.declared.pdu.codes.Delivery.TheVariants.{Complete, Incomplete}
@@ -88,10 +88,6 @@ ack_accepted : (of : Acknowledged) (condition : ℕ) (status : TransactionStatus
 ack_accepted acknowledged.Eof condition status d p = rw (p.size_octets, p.of_field, p.condition_field, p.allowed) refl
 ack_accepted acknowledged.Finished condition status d p = rw (p.size_octets, p.of_field, p.condition_field, p.allowed) refl
 
-told : (b : Bool) → eqb (flag b) 1 ≡ b
-told true = refl
-told false = refl
-
 accepted : (h : Header) (v : Content) (d : List ℕ) → Says h v d → content_fault (fss h) (type_bit h.pdu_type) h.segment_metadata d ≡ None
 accepted h (FileData offset bytes) d p = rw p.0 (file_data_accepted (fss h) h.segment_metadata offset bytes d p.1)
 accepted h (Metadata kind size source destination options) d p =
@@ -118,12 +114,17 @@ accepted h (Ack of condition status) d p =
     let long : ltb (length d) 1 ≡ false = le-ltb _ _ (let r = p.1.size_octets in omega arith) in
     rw (p.0, long, p.1.code) (ack_accepted of condition status d p.1)
 
+-- what is wrong behind a header is wrong with the data field
+pub behind_header : (h : Header) (t : List ℕ) → SpellsHeader h t →
+    pdu_fault t ≡ content_fault (fss h) (type_bit h.pdu_type) h.segment_metadata (before_crc h.crc (drop (header_len h.id_width h.number_width) t))
+behind_header h t q =
+    let len : header_len_told t ≡ header_len h.id_width h.number_width = rw (q.id_width, q.number_width) refl in
+    rw (header.accepted h t q, q.pdu_type, q.segment_metadata, q.large, q.crc, header.told h.segment_metadata, header.told h.large, header.told h.crc, len) refl
+
 pub pdu_accepted : (h : Header) (v : Content) (t : List ℕ) → SpellsPdu h v t → pdu_fault t ≡ None
 pdu_accepted h v t p =
-    let q = p.header in
-    let len : header_len_told t ≡ header_len h.id_width h.number_width = rw (q.id_width, q.number_width) refl in
-    rw (header.accepted h t q, q.pdu_type, q.segment_metadata, q.large, told h.segment_metadata, told h.large, len)
-    (accepted h v (drop (header_len h.id_width h.number_width) t) p.content)
+    behind_header h t p.header
+    ∙ accepted h v (before_crc h.crc (drop (header_len h.id_width h.number_width) t)) p.content
 
 -- ---- no other
 
@@ -238,5 +239,5 @@ only (Err e) t found refused h v p =
     absurd cc
 only (Ok x) t found refused h v p =
     let heads : x.0 ≡ h = header.unique x.0 h t found.header p.header in
-    let moved : Says h (view x.1) (drop (header_len h.id_width h.number_width) t) = subst (λ (k : Header). Says k (view x.1) (drop (header_len k.id_width k.number_width) t)) heads found.content in
-    (heads, same h (view x.1) v (drop (header_len h.id_width h.number_width) t) moved p.content)
+    let moved : Says h (view x.1) (before_crc h.crc (drop (header_len h.id_width h.number_width) t)) = subst (λ (k : Header). Says k (view x.1) (before_crc k.crc (drop (header_len k.id_width k.number_width) t))) heads found.content in
+    (heads, same h (view x.1) v (before_crc h.crc (drop (header_len h.id_width h.number_width) t)) moved p.content)

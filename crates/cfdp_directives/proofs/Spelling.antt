@@ -6,7 +6,9 @@ use Rattle.std.proofs.lemmas.List.Concat.{flat_map-cons}
 use Rattle.cfd_bits.specs.Field.{field, octets, flag}
 use Rattle.cfd_bits.proofs.Fields.{length-octets, field_between, field_in_octet}
 use Rattle.cfdp_header.specs.declared.value.Header.{Header}
+use Rattle.cfdp_header.specs.Crc.{before_crc}
 use Rattle.cfdp_header.specs.Header.{FitsHeader, header_len, header_octets}
+use Rattle.cfdp_header.proofs.Crcs as crcs
 use Rattle.cfdp_header.proofs.Laws as header
 use Rattle.cfdp_directives.specs.declared.pdu.codes.Delivery.{Delivery}
 use Rattle.cfdp_directives.specs.declared.pdu.codes.Delivery.TheVariants.{Complete, Incomplete}
@@ -28,9 +30,10 @@ use Rattle.cfdp_directives.proofs.Ranges.{pairs_len}
 pub one_form : (a b x y : List ℕ) (h k : Header) (v w : Content) → SpellsPdu h v a → SpellsPdu k w b → a ++ x ≡ b ++ y → (a ≡ b) × (h ≡ k) × (v ≡ w)
 one_form a b x y h k v w p q e =
     let r = header.one_form a b x y h k p.header q.header e in
-    let moved : Says k v (drop (header_len k.id_width k.number_width) b) =
-    subst (λ (t : List ℕ). Says k v (drop (header_len k.id_width k.number_width) t)) r.0 (subst (λ (g : Header). Says g v (drop (header_len g.id_width g.number_width) a)) r.1 p.content) in
-    (r.0, r.1, same k v w (drop (header_len k.id_width k.number_width) b) moved q.content)
+    let moved : Says k v (before_crc k.crc (drop (header_len k.id_width k.number_width) b)) =
+    subst (λ (t : List ℕ). Says k v (before_crc k.crc (drop (header_len k.id_width k.number_width) t))) r.0
+    (subst (λ (g : Header). Says g v (before_crc g.crc (drop (header_len g.id_width g.number_width) a))) r.1 p.content) in
+    (r.0, r.1, same k v w (before_crc k.crc (drop (header_len k.id_width k.number_width) b)) moved q.content)
 
 -- ---- codes fit their fields
 
@@ -233,11 +236,17 @@ length-content_octets w (KeepAlive a) = omega (arith, length-octets w a)
 pub spelled : (h : Header) (v : Content) → CanWrite h v → SpellsPdu h v (pdu_octets h v)
 spelled h v can =
     let len = can.len in
-    let heads = header.spelled h (content_octets (fss h) v) can.header (omega (arith, length-content_octets (fss h) v)) in
+    let heads = header_octets h in
+    let says = content_octets (fss h) v in
+    let n : ℕ = header_len h.id_width h.number_width in
+    let behind = says ++ crcs.crc_octets h.crc (heads ++ says) in
+    let place : before_crc h.crc (drop n (pdu_octets h v)) ≡ says =
+    ap (λ (t : List ℕ). before_crc h.crc (drop n t)) (crcs.behind h.crc heads says)
+    ∙ ap (λ (t : List ℕ). before_crc h.crc t) (drop_at heads behind n (header.length-header_octets h))
+    ∙ crcs.before h.crc (heads ++ says) says in
     record {
-      header = heads;
-      content = rw (drop_at (header_octets h) (content_octets (fss h) v) (header_len h.id_width h.number_width) (header.length-header_octets h))
-          (said h v can.content can.kind can.no_segment_metadata);
+      header = header.spelled h says can.header (omega (arith, length-content_octets (fss h) v));
+      content = subst (λ (t : List ℕ). Says h v t) (sym place) (said h v can.content can.kind can.no_segment_metadata);
     }
 
 -- octets that stayed behind a header also stay behind its data field

@@ -9,7 +9,8 @@ use Rattle.std.specs.Int.{w32, from_be_bytes}
 use Rattle.std.specs.Simd.{first_chunks}
 use Rattle.std.proofs.lemmas.List.{take_more, take-append-drop, drop-drop, take_all, drop_all}
 use Rattle.std.proofs.lemmas.List.Sums.{sum_by-cons, sum_by_more}
-use Rattle.cfdp_directives.specs.Pdu.Checksum.{word_sum, modular_checksum, weight, sum_at, Piece, covers, IsOf, Cuts, added, sum_of}
+use Rattle.crc.specs.Pieces.{Piece, covers, IsOf, Cuts}
+use Rattle.cfdp_directives.specs.Pdu.Checksum.{word_sum, modular_checksum, weight, sum_at, added, sum_of}
 
 pub sum_at-append : (offset : ℕ) (a b : List ℕ) → sum_at offset (a ++ b) ≡ sum_at offset a + sum_at (offset + length a) b
 unfolding sum_at

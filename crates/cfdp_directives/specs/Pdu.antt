@@ -9,3 +9,4 @@ pub mod Written
 pub mod Direction
 pub mod Addressing
 pub mod Checksum
+pub mod Sums

@@ -18,7 +18,7 @@ mod user;
 pub use pdu::addressing::{
     Addressing, addressed_pdu_can_be_written, addressed_pdu_goes_to_the_other_end,
 };
-pub use pdu::checksum::{Checksum, cut_file_has_its_checksum, whole_file_has_its_checksum};
+pub use pdu::checksum::{Checksum, whole_file_has_its_checksum};
 pub use pdu::codes::{
     Acknowledged, ChecksumKind, Condition, Delivery, FileStatus, TransactionStatus,
 };
@@ -35,6 +35,7 @@ pub use pdu::octets::Octets;
 pub use pdu::pair_iter::PairIter;
 pub use pdu::pairs::SegmentRequests;
 pub use pdu::reading::decode;
+pub use pdu::sums::{Checksums, checksums_go_on, cut_file_has_its_checksum};
 pub use pdu::tlv::Tlvs;
 pub use pdu::tlv_iter::TlvIter;
 pub use pdu::writing::{can_write, encode};

@@ -12,6 +12,7 @@ pub(crate) mod octets;
 pub(crate) mod pair_iter;
 pub(crate) mod pairs;
 pub(crate) mod reading;
+pub(crate) mod sums;
 pub(crate) mod tlv;
 pub(crate) mod tlv_iter;
 pub(crate) mod writing;

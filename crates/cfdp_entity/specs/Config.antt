@@ -1,7 +1,7 @@
 -- How an entity may be set up.
-use Rattle.std.specs.Prelude.{◌≡◌, ◌≢◌, ◌≤◌, ◌⊎◌}
+use Rattle.std.specs.Prelude.{◌≡◌, ◌≢◌, ◌≤◌, true}
 use Rattle.cfdp_header.specs.Header.{FitsWidth, IsWidth}
-use Rattle.cfdp_directives.specs.Pdu.Codes.{modular, null}
+use Rattle.cfdp_directives.specs.Pdu.Codes.{is_known}
 use Rattle.cfdp_directives.specs.User.Limits.{IsValidTimes}
 use Rattle.cfdp_sender.specs.State.{most_segment}
 use Rattle.cfdp_entity.specs.declared.config.EntityConfig.{EntityConfig}
@@ -17,7 +17,7 @@ pub record HasSending (c : EntityConfig) : Type 0 where
   pub number_width : IsWidth c.number_width
   pub some : 1 ≤ c.segment
   pub most : c.segment ≤ most_segment
-  pub checksum_kind : (c.checksum_kind ≡ modular) ⊎ (c.checksum_kind ≡ null)
+  pub checksum_kind : is_known c.checksum_kind ≡ true
 
 -- An entity can be set up so.
 pub record IsConfig (c : EntityConfig) : Type 0 where

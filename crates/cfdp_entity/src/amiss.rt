@@ -6,7 +6,6 @@ ghost use Rattle.cfdp_entity.specs.Config.{IsConfig, HasIds, HasSending};
 ghost use Rattle.cfdp_entity.specs.Fields.{Fits};
 
 use crate::config::{EntityConfig, MOST_WIDTH};
-use cfdp_directives::ChecksumKind;
 use cfdp_header::fits_width;
 use cfdp_sender::MOST_SEGMENT;
 use thiserror::Error;
@@ -31,7 +30,7 @@ pub enum EntityField {
     #[error("the segment is not 1 to 4096 octets")]
     Segment,
     /// The kind of checksum.
-    #[error("the checksum is neither modular nor null")]
+    #[error("the checksum is of no type that is known")]
     ChecksumKind,
     /// How long the ACK of an EOF is waited for.
     #[error("the time of EOF is 0")]
@@ -85,12 +84,11 @@ impl EntityConfig {
         ensures { MatchOption result (HasSending self.now)
             (λ field. (HasSending self.now → ⊥) × (Fits field self.now → ⊥)) }
     {
-        let kind = self.checksum_kind.code();
         if !is_width(self.number_width) {
             Some(EntityField::NumberWidth)
         } else if self.segment == 0 || MOST_SEGMENT < self.segment {
             Some(EntityField::Segment)
-        } else if kind != ChecksumKind::MODULAR.code() && kind != ChecksumKind::NULL.code() {
+        } else if !self.checksum_kind.is_known() {
             Some(EntityField::ChecksumKind)
         } else {
             None

@@ -12,7 +12,7 @@ pub const MOST_WIDTH: u8 = 8;
 
 /// How an entity is set up: who it is, to whom it sends, and how. It is valid where the two ids
 /// differ and fit their width, both widths are 1 to 8 octets, the segment and the times are in
-/// their ranges, and the checksum is modular or null.
+/// their ranges, and the checksum is of a type that is known.
 #[derive(Clone, Copy, Debug, PartialEq, Eq)]
 pub struct EntityConfig {
     /// The id of this entity.
@@ -38,6 +38,7 @@ impl EntityConfig {
     /// An entity with these two ids, which have to differ. Ids have the least of 1, 2, 4 and 8
     /// octets that both fit, sequence numbers 4, the first of them 1; a PDU carries 1,024 octets of
     /// the file at most, and checksums are modular. The policy is the default one.
+    #[tactic(auto, unfolding(cfdp_directives::specs::Pdu::Codes::is_known))]
     pub fn new(entity: u64, peer: u64) -> EntityConfig
         ensures valid { entity ≢ peer → IsConfig result }
         ensures is { result ≡ record {

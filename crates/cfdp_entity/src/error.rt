@@ -38,7 +38,7 @@ impl EntityDrop {
     pub const ALL: [EntityDrop; 17] = [
         EntityDrop::Pdu(PduError::Header(HeaderError::Short)),
         EntityDrop::Pdu(PduError::Header(HeaderError::Version)),
-        EntityDrop::Pdu(PduError::Header(HeaderError::CrcPresent)),
+        EntityDrop::Pdu(PduError::Header(HeaderError::BadCrc)),
         EntityDrop::Pdu(PduError::Header(HeaderError::Length)),
         EntityDrop::Pdu(PduError::Header(HeaderError::Unacknowledged)),
         EntityDrop::Pdu(PduError::Header(HeaderError::LargeFile)),

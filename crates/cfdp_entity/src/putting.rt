@@ -165,6 +165,8 @@ impl<O: Outbox, I: Inbox> Entity<O, I> {
             self.now.state) }
         ensures sendable { IfOk result IsSendable }
     {
+        // For the prover: the invariant of the checksum type.
+        let _any_type_fits = self.config.checksum_kind.code();
         let addressing = Addressing {
             id: TransactionId {
                 source: self.config.entity,

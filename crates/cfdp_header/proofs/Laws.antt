@@ -7,12 +7,14 @@ use Rattle.std.proofs.lemmas.List.{take_at}
 use Rattle.cfd_bits.specs.Field.{field, octets, flag}
 use Rattle.cfd_bits.proofs.Fields.{length-octets, field_between, field_in_octet, field-append_left, field-drop}
 use Rattle.cfd_bits.proofs.BitFields.{field-below, field-below_octets, field-front}
+use Rattle.cfdp_header.specs.Crc.{crc_len, has_crc, with_crc}
 use Rattle.cfdp_header.specs.declared.value.Direction.{Direction}
 use Rattle.cfdp_header.specs.declared.value.Direction.TheVariants.{TowardReceiver, TowardSender}
 use Rattle.cfdp_header.specs.declared.value.Header.{Header}
 use Rattle.cfdp_header.specs.declared.value.PduType.{PduType}
 use Rattle.cfdp_header.specs.declared.value.PduType.TheVariants.{FileDirective, FileData}
 use Rattle.cfdp_header.specs.Header.{SpellsHeader, header_fault, header_len_told, header_len, FitsHeader, type_bit, direction_bit, fixed_octets, header_octets}
+use Rattle.cfdp_header.proofs.Crcs.{has, behind, crc_octets, length-crc}
 
 pub same_flag : (a b : Bool) → flag a ≡ flag b → a ≡ b
 same_flag true true e = refl
@@ -32,10 +34,11 @@ same_direction TowardSender TowardSender e = refl
 same_direction TowardReceiver TowardSender e = absurd cc
 same_direction TowardSender TowardReceiver e = absurd cc
 
-abbrev made : PduType → Direction → Bool → ℕ → Bool → ℕ → ℕ → ℕ → ℕ → ℕ → Header
-made a b g l c i n source number d = record {
+abbrev made : PduType → Direction → Bool → Bool → ℕ → Bool → ℕ → ℕ → ℕ → ℕ → ℕ → Header
+made a b x g l c i n source number d = record {
   pdu_type = a;
   direction = b;
+  crc = x;
   large = g;
   length = l;
   segment_metadata = c;
@@ -50,11 +53,16 @@ pub unique : (h k : Header) (t : List ℕ) → SpellsHeader h t → SpellsHeader
 unique h k t p q =
     let a = same_type h.pdu_type k.pdu_type (sym p.pdu_type ∙ q.pdu_type) in
     let b = same_direction h.direction k.direction (sym p.direction ∙ q.direction) in
+    let x = same_flag h.crc k.crc (sym p.crc ∙ q.crc) in
     let g = same_flag h.large k.large (sym p.large ∙ q.large) in
     let c = same_flag h.segment_metadata k.segment_metadata (sym p.segment_metadata ∙ q.segment_metadata) in
-    let same : made h.pdu_type h.direction h.large h.length h.segment_metadata h.id_width h.number_width h.id.source h.id.number h.destination
-    ≡ made k.pdu_type k.direction k.large k.length k.segment_metadata k.id_width k.number_width k.id.source k.id.number k.destination = cc in
+    let same : made h.pdu_type h.direction h.crc h.large h.length h.segment_metadata h.id_width h.number_width h.id.source h.id.number h.destination
+    ≡ made k.pdu_type k.direction k.crc k.large k.length k.segment_metadata k.id_width k.number_width k.id.source k.id.number k.destination = cc in
     same
+
+pub told : (b : Bool) → eqb (flag b) 1 ≡ b
+told true = refl
+told false = refl
 
 pub accepted : (h : Header) (t : List ℕ) → SpellsHeader h t → header_fault t ≡ None
 accepted h t p =
@@ -62,7 +70,7 @@ accepted h t p =
     let long : ltb (length t) 4 ≡ false = le-ltb _ _ (let s = p.size in omega arith) in
     let all : eqb (length t) (header_len h.id_width h.number_width + h.length) ≡ true = eq-eqb _ _ p.size in
     let whole : ltb (length t) (header_len h.id_width h.number_width) ≡ false = le-ltb _ _ (let s = p.size in omega arith) in
-    rw (long, p.version, p.crc_absent, p.acknowledged, p.id_width, p.number_width, whole, p.length_field, all) refl
+    rw (long, p.version, p.acknowledged, p.id_width, p.number_width, whole, p.length_field, all, p.crc, told h.crc, p.check) refl
 
 pub is_ok : {A E : Type 0} (r : Result A E) (P : A → Type 0) → result_err r ≡ None → IfOk r P → IsOkAnd r P
 is_ok (Ok x) P e p = p
@@ -80,10 +88,10 @@ pub direction_below : (d : Direction) → direction_bit d < 2
 direction_below TowardReceiver = omega arith
 direction_below TowardSender = omega arith
 
--- what is written spells the header, whatever data follow
-pub spelled : (h : Header) (rest : List ℕ) → FitsHeader h → length rest ≡ h.length → SpellsHeader h (header_octets h ++ rest)
+-- what is written spells the header, whatever data follow that have the CRC of its flag
+spelled_before : (h : Header) (rest : List ℕ) → FitsHeader h → length rest ≡ h.length → has_crc h.crc (header_len h.id_width h.number_width) (header_octets h ++ rest) ≡ true → SpellsHeader h (header_octets h ++ rest)
 unfolding octets
-spelled h rest fits len =
+spelled_before h rest fits len check =
     let f = fixed_octets h in
     let s = octets h.id_width h.id.source in
     let n = octets h.number_width h.id.number in
@@ -105,7 +113,8 @@ spelled h rest fits len =
     let b2 = direction_below h.direction in
     let b3 = flag_below h.segment_metadata in
     let b4 = flag_below h.large in
-    let first : ℕ = (32 + 16 * type_bit h.pdu_type + 8 * direction_bit h.direction + flag h.large) % 256 in
+    let b5 = flag_below h.crc in
+    let first : ℕ = (32 + 16 * type_bit h.pdu_type + 8 * direction_bit h.direction + 2 * flag h.crc + flag h.large) % 256 in
     let widths : ℕ = (16 * (h.id_width - 1) + 8 * flag h.segment_metadata + (h.number_width - 1)) % 256 in
     let version = field_in_octet text 0 3 0 0 first refl (omega arith) refl in
     let kind = field_in_octet text 3 1 0 3 first refl (omega arith) refl in
@@ -122,13 +131,14 @@ spelled h rest fits len =
     let number = field_between (f ++ s) (d ++ rest) h.number_width h.id.number (32 + 8 * h.id_width) (8 * h.number_width) fits.number (omega arith) refl in
     let at_destination : (f ++ s ++ n) ++ (d ++ rest) ≡ text = simp append_assoc in
     let destination = field_between (f ++ s ++ n) rest h.id_width h.destination (32 + 8 * h.id_width + 8 * h.number_width) (8 * h.id_width) fits.destination (omega arith) refl in
+    let right : has_crc h.crc (header_len h.id_width h.number_width) text ≡ true = rw (← grouped) check in
     rw grouped (record {
       size = omega arith;
       version = omega arith;
       pdu_type = omega arith;
       direction = omega arith;
       acknowledged = omega arith;
-      crc_absent = omega arith;
+      crc = omega arith;
       large = omega arith;
       length_field = longs;
       id_width = omega arith;
@@ -137,6 +147,7 @@ spelled h rest fits len =
       source = source;
       number = rw at_number at number;
       destination = rw at_destination at destination;
+      check = right;
     })
 
 -- a field of whole octets behind others
@@ -179,6 +190,18 @@ length-header_octets h =
     let ln = length-octets h.number_width h.id.number in
     let ld = length-octets h.id_width h.destination in
     omega (arith, length-append (fixed_octets h) s, length-append (fixed_octets h ++ s) n, length-append (fixed_octets h ++ s ++ n) d)
+
+-- what is written spells the header, with its CRC behind
+pub spelled : (h : Header) (rest : List ℕ) → FitsHeader h → length rest + crc_len h.crc ≡ h.length → SpellsHeader h (with_crc h.crc (header_octets h ++ rest))
+spelled h rest fits len =
+    let text = header_octets h ++ rest in
+    let all = rest ++ crc_octets h.crc text in
+    let size : length all ≡ h.length = omega (arith, length-append rest (crc_octets h.crc text), length-crc h.crc text, len) in
+    let long : header_len h.id_width h.number_width ≤ length text = omega (arith, length-append (header_octets h) rest, length-header_octets h) in
+    let moved = behind h.crc (header_octets h) rest in
+    let check : has_crc h.crc (header_len h.id_width h.number_width) (header_octets h ++ all) ≡ true =
+    rw (← moved) (has h.crc (header_len h.id_width h.number_width) text long) in
+    rw moved (spelled_before h all fits size check)
 
 -- a header that was read fits its widths
 pub read_fits : (h : Header) (t : List ℕ) → SpellsHeader h t → FitsHeader h

@@ -13,10 +13,11 @@ pub enum HeaderError {
     /// The version isn't `001`.
     #[error("the version is not 1")]
     Version,
-    /// The CRC flag is 1.
-    #[error("a CRC is present")]
-    CrcPresent,
-    /// The octets behind the header aren't as many as its length says. Told last.
+    /// The CRC flag is 1, and the data field doesn't end in the CRC of all octets before it (CCSDS
+    /// 727.0-B-5, 4.1). Told last.
+    #[error("the CRC is wrong")]
+    BadCrc,
+    /// The octets behind the header aren't as many as its length says.
     #[error("the data field has another length than the header says")]
     Length,
     /// The transmission mode is 1, unacknowledged.
@@ -36,7 +37,7 @@ impl HeaderError {
         match self {
             HeaderError::Short => 1,
             HeaderError::Version => 2,
-            HeaderError::CrcPresent => 3,
+            HeaderError::BadCrc => 3,
             HeaderError::Length => 4,
             HeaderError::Unacknowledged => 5,
             HeaderError::LargeFile => 6,
@@ -50,7 +51,7 @@ impl HeaderError {
         match self {
             HeaderError::Short => "Short",
             HeaderError::Version => "Version",
-            HeaderError::CrcPresent => "CrcPresent",
+            HeaderError::BadCrc => "BadCrc",
             HeaderError::Length => "Length",
             HeaderError::Unacknowledged => "Unacknowledged",
             HeaderError::LargeFile => "LargeFile",

@@ -11,9 +11,13 @@
 #![tactic(auto)]
 
 ghost use Rattle.std.specs.Prelude.{◌≡◌, ℕ, ◌+◌, ◌*◌, ◌^◌, ◌<◌, ◌≤◌, ◌++◌, List, length, take};
-ghost use Rattle.std.specs.Prelude.{drop, true, IfOk, IsOkAnd};
+ghost use Rattle.std.specs.Prelude.{drop, true, is_some, None, IfSome, IfOk, IsOkAnd};
 ghost use Rattle.std.specs.Result.{result_err};
 ghost use Rattle.cfd_bits.specs.Field.{field};
+ghost use Rattle.crc.specs.Checks.{ends_in_check};
+ghost use Rattle.crc.specs.Damage.{IsDamaged};
+ghost use Rattle.cfdp_header.specs.Crc.{crc_len, has_crc, with_crc};
+ghost use Rattle.cfdp_header.specs.Crc as crcs;
 ghost use Rattle.cfdp_header.specs.declared.value.Header.{Header};
 ghost use Rattle.cfdp_header.specs.Header.{SpellsHeader, header_fault, FitsHeader, header_octets};
 ghost use Rattle.cfdp_header.specs.Header.{header_len, type_bit, direction_bit};
@@ -22,7 +26,9 @@ mod error;
 mod value;
 
 use cfd_bits::{get, put_uint, read_eight, read_uint};
+use crc::crc16;
 pub use error::HeaderError;
+use value::CRC_LEN;
 pub use value::{Direction, Header, PduType, TransactionId, fits_width};
 
 /// The number of `count` octets from octet `at` on. Where eight are there they are read at once,
@@ -64,21 +70,48 @@ fn direction_in(bytes: &[u8]) -> Direction
     }
 }
 
-/// The header at the front of `bytes`, and the data field behind it, to the end.
+/// The data field behind a header of so many octets, without the CRC that its flag may tell of;
+/// none where that is wrong.
+fn before_crc(bytes: &[u8], header_len: usize, crc: bool) -> Option<&[u8]>
+    requires { header_len ≤ length bytes.now }
+    ensures found { IfSome result (λ d. d.now
+        ≡ crcs.before_crc crc (drop header_len bytes.now)) }
+    ensures right { is_some result ≡ has_crc crc header_len bytes.now }
+{
+    let (_, data) = bytes.split_at(header_len);
+    if !crc {
+        return Some(data);
+    }
+    if bytes.len() - header_len < CRC_LEN || !ends_in_crc(bytes) {
+        return None;
+    }
+    let (data, _) = data.split_at(data.len() - CRC_LEN);
+    Some(data)
+}
+
+/// Whether the last two octets are the check of all before them.
+fn ends_in_crc(bytes: &[u8]) -> bool
+    requires { 2 ≤ length bytes.now }
+    ensures { result ≡ ends_in_check bytes.now }
+{
+    let (covered, check) = bytes.split_at(bytes.len() - CRC_LEN);
+    read_uint(check, CRC_LEN) == u64::from(crc16(covered))
+}
+
+/// The header at the front of `bytes`, which are a whole PDU, and its data field without the CRC.
 ///
 /// The bit of segmentation control is read as anything (CCSDS 727.0-B-5, table 5-1).
 ///
 /// # Errors
 ///
-/// The first of these that holds, in this order: `Short`, `Version`, `CrcPresent`,
-/// `Unacknowledged`, `Short` again for a header that isn't whole, `Length`. `HeaderError` says what
-/// each means.
+/// The first of these that holds, in this order: `Short`, `Version`, `Unacknowledged`, `Short`
+/// again for a header that isn't whole, `Length`, `BadCrc`. `HeaderError` says what each means.
 pub fn decode(bytes: &[u8]) -> Result<(Header, &[u8]), HeaderError>
     // What is answered is spelled so.
     ensures found { IfOk result (λ x. SpellsHeader x.0 bytes.now) }
-    // The data field.
+    // The data field, as if there were no CRC.
     ensures rest { IfOk result (λ x. x.1.now
-        ≡ drop (header_len x.0.id_width x.0.number_width) bytes.now) }
+        ≡ crcs.before_crc x.0.crc (drop (header_len x.0.id_width x.0.number_width) bytes.now)) }
     // What is spelled so is answered.
     ensures only { (h : Header) → SpellsHeader h bytes.now → IsOkAnd result (λ x. x.0 ≡ h) }
     // Which refusal it is.
@@ -89,9 +122,6 @@ pub fn decode(bytes: &[u8]) -> Result<(Header, &[u8]), HeaderError>
     }
     if get(bytes, 0, 3) != 1 {
         return Err(HeaderError::Version);
-    }
-    if get(bytes, 6, 1) != 0 {
-        return Err(HeaderError::CrcPresent);
     }
     if get(bytes, 5, 1) != 0 {
         return Err(HeaderError::Unacknowledged);
@@ -108,9 +138,14 @@ pub fn decode(bytes: &[u8]) -> Result<(Header, &[u8]), HeaderError>
     if bytes.len() != len + length as usize {
         return Err(HeaderError::Length);
     }
+    let crc = get(bytes, 6, 1) == 1;
+    let Some(data) = before_crc(bytes, len, crc) else {
+        return Err(HeaderError::BadCrc);
+    };
     let header = Header {
         pdu_type: pdu_type_in(bytes),
         direction: direction_in(bytes),
+        crc,
         large: get(bytes, 7, 1) == 1,
         length,
         segment_metadata: get(bytes, 28, 1) == 1,
@@ -122,13 +157,14 @@ pub fn decode(bytes: &[u8]) -> Result<(Header, &[u8]), HeaderError>
         },
         destination: number_at(bytes, 4 + id_octets + number_octets, id_octets),
     };
-    Ok((header, &bytes[len..]))
+    Ok((header, data))
 }
 
 /// Writes the header into the first octets of `out`, spare bits as 0, and says how many they are.
 /// The octets behind stay.
 ///
-/// The data field, of `header.length` octets, is the caller's to write behind it.
+/// The data field, of `header.length` octets, is the caller's to write behind it, and so is the CRC
+/// at its end where the header tells of one.
 #[tactic(auto, using(crate::proofs::Laws::flag_below, crate::proofs::Laws::type_below, crate::proofs::Laws::direction_below))]
 pub fn encode(header: &Header, out: &mut [u8]) -> usize
     requires fits { FitsHeader header.now }
@@ -140,6 +176,7 @@ pub fn encode(header: &Header, out: &mut [u8]) -> usize
     let first = 32
         + 16 * u64::from(header.pdu_type.bit())
         + 8 * u64::from(header.direction.bit())
+        + 2 * u64::from(header.crc)
         + u64::from(header.large);
     let widths = 16 * (u64::from(header.id_width) - 1)
         + 8 * u64::from(header.segment_metadata)
@@ -163,15 +200,24 @@ pub fn no_header_begins_another()
         → (a ≡ b) × (h ≡ k) }
 {}
 
-/// A law: what is written of a header, with a data field of its length behind it, spells that
-/// header.
+/// A law: what is written of a header, with a data field behind it that has its length with the CRC
+/// that the header tells of, spells that header.
 pub fn written_header_is_read()
-    ensures { (h : Header) (rest : List ℕ) → FitsHeader h → length rest ≡ h.length
-        → SpellsHeader h (header_octets h ++ rest) }
+    ensures { (h : Header) (rest : List ℕ) → FitsHeader h
+        → length rest + crc_len h.crc ≡ h.length
+        → SpellsHeader h (with_crc h.crc (header_octets h ++ rest)) }
 {}
 
 /// A law: a header that was read can be written in the widths that it was read in, and so can a
 /// reply that has its ids, number and widths.
 pub fn a_header_read_can_be_written()
     ensures { (h : Header) (text : List ℕ) → SpellsHeader h text → FitsHeader h }
+{}
+
+/// A law: a PDU with a CRC, of up to 2,048 octets, of which one, two or three bits were turned on
+/// the way, or any within 16 in a row, is refused, unless the CRC flag is among these.
+pub fn damage_is_seen()
+    ensures { (h : Header) (sent came : List ℕ) → SpellsHeader h sent → h.crc ≡ true
+        → length sent ≤ 2048 → IsDamaged sent came → header_fault came ≡ None
+        → field came 6 1 ≡ 0 }
 {}

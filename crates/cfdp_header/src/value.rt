@@ -1,6 +1,10 @@
 ghost use Rattle.std.specs.Prelude.{◌≡◌, ◌↔◌, IsTrue};
+ghost use Rattle.cfdp_header.specs.Crc as crc;
 ghost use Rattle.cfdp_header.specs.Header.{header_len, FitsHeader, FitsWidth};
 ghost use Rattle.cfdp_header.specs.Header.{type_bit, direction_bit};
+
+// Octets of the CRC of a PDU.
+pub(crate) const CRC_LEN: usize = 2;
 
 /// Names a transaction: the entity that sends the file, and the number that it gave the transaction
 /// (CCSDS 727.0-B-5). Two ids are the same where both numbers are, whatever width they are written
@@ -62,7 +66,10 @@ pub struct Header {
     pub pdu_type: PduType,
     /// Whether it goes toward the file's receiver or its sender.
     pub direction: Direction,
-    /// Octets of the data field, behind the header: 0 to 65,535.
+    /// The CRC flag: the data field ends in two octets that are the check of all before them (CCSDS
+    /// 727.0-B-5, 4.1).
+    pub crc: bool,
+    /// Octets of the data field, behind the header: 0 to 65,535. Those of a CRC are counted.
     pub length: u16,
     /// Whether segment metadata stands before each offset of file data. This stack's senders never
     /// set it.
@@ -94,6 +101,13 @@ impl Header {
         ensures { result ≡ header_len id_width number_width }
     {
         4 + usize::from(id_width) + usize::from(number_width) + usize::from(id_width)
+    }
+
+    /// Octets of the CRC at the end of the data field: 2, or 0 where the CRC flag is 0.
+    pub fn crc_len(&self) -> usize
+        ensures { result ≡ crc.crc_len self.now.crc }
+    {
+        if self.crc { CRC_LEN } else { 0 }
     }
 
     /// Whether the header can be written: both widths are 1 to 8, and each number fits its width.

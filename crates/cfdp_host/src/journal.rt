@@ -11,13 +11,14 @@ pub mod totals;
 
 use crate::journal::line::LINE_ROOM;
 use crate::journal::lost_frames::FrameGaps;
-use crate::journal::overview::{Form, Waiting, write_counters, write_list};
+use crate::journal::overview::{Form, Waiting, shown_open, write_counters, write_list};
 use crate::journal::register::{Register, copied, is_one_of, told_id};
 use crate::journal::style::{Log, Style};
 use crate::journal::telling::{
     Why, tell_change, tell_end, tell_file, tell_indication, tell_refusal,
 };
 use crate::journal::totals::Totals;
+use cfdp_console::Open;
 use cfdp_directives::Indication;
 use cfdp_header::TransactionId;
 use cfdp_report::Exit;
@@ -283,6 +284,30 @@ impl<'a, V: Write + Drop> Journal<'a, V> {
         station: &Station<O, I>,
     ) -> fmt::Result {
         write_counters(out, form, &self.totals, self.setup.gaps, station)
+    }
+
+    /// The transactions that are open, in order of their ids, as the console shows them.
+    ///
+    /// # Errors
+    ///
+    /// `AllocError` where there is no memory for them.
+    pub fn shown<O: Outbox, I: Inbox>(
+        &self,
+        station: &Station<O, I>,
+        now: u64,
+    ) -> Result<Vec<Open>, AllocError> {
+        let log = self.setup.log;
+        shown_open(log.rt.alloc(), &self.register, station, now, log.own)
+    }
+
+    /// How many octets the file of a transaction has, where that is known.
+    pub fn size(&self, id: TransactionId) -> Option<u64> {
+        self.register.size(id)
+    }
+
+    /// The writer, lent.
+    pub fn writer(&self) -> &V {
+        &self.out
     }
 
     /// The writer.

@@ -5,6 +5,7 @@
 //! program above.
 #![tactic(auto)]
 
+mod board;
 pub mod carrier;
 mod cause;
 mod command;
@@ -14,6 +15,7 @@ mod folder_spool;
 mod held_folder;
 mod inbox_files;
 mod journal;
+mod kept_log;
 mod line;
 mod line_buffer;
 mod line_sources;
@@ -21,7 +23,9 @@ mod locks;
 mod standard_input;
 mod trial;
 mod watched;
+mod web_door;
 
+pub use board::{Board, BoardSetup, Moment};
 pub use cause::{address_cause, fault_text};
 pub use command::{Asked, CommandError, CommandHelp, Verb, parse_command};
 pub use control_client::ask;
@@ -33,8 +37,10 @@ pub use journal::overview::{Form, Waiting};
 pub use journal::style::{Log, Style};
 pub use journal::totals::Totals;
 pub use journal::{Journal, JournalSetup};
+pub use kept_log::KeptLog;
 pub use line::{LineFault, Speaker};
 pub use line_sources::{ControlError, LineSources};
 pub use locks::{LockError, lock};
 pub use trial::try_folder;
 pub use watched::Watched;
+pub use web_door::{DoorError, WebDoor};

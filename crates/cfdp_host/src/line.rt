@@ -9,6 +9,8 @@ pub enum Speaker {
     Standard,
     /// The connection of this number: the first one since the start is 1.
     Connection(u64),
+    /// The connection of the console of this number.
+    Web(u64),
 }
 
 /// Why what came is no line.

@@ -1,9 +1,11 @@
-//! Where the lines of commands come from.
+//! Where commands come from: lines, and the console.
 use crate::cause::address_cause;
 use crate::connection::Connection;
 use crate::line::{LineFault, Speaker};
 use crate::standard_input::StandardInput;
 use crate::watched::Watched;
+use crate::web_door::WebDoor;
+use cfdp_console::{Answer, Ask};
 use libc::net::POLLIN;
 use std::alloc::AllocError;
 use std::io::ErrorKind;
@@ -62,8 +64,8 @@ impl fmt::Display for ControlError {
     }
 }
 
-/// Where the lines of commands come from: standard input, and connections to a control address. No
-/// call waits.
+/// Where commands come from: lines of standard input, and of connections to a control address; and
+/// the console. No call waits.
 #[derive(Drop)]
 pub struct LineSources<'a> {
     rt: &'a HostRuntime,
@@ -71,6 +73,7 @@ pub struct LineSources<'a> {
     standard: Option<StandardInput>,
     listener: Option<TcpListener>,
     connections: Vec<Connection>,
+    door: Option<WebDoor<'a>>,
     // How many connections there were so far, and until when none is taken.
     numbered: u64,
     deaf_until: u64,
@@ -80,7 +83,8 @@ pub struct LineSources<'a> {
 }
 
 impl<'a> LineSources<'a> {
-    /// The sources: standard input where it is asked for, and a control address where one is given.
+    /// The sources: standard input where it is asked for, a control address where one is given, and
+    /// a console where there is one.
     /// It is to be asked for before other files are opened: a process that was given no standard
     /// input has none then.
     ///
@@ -91,6 +95,7 @@ impl<'a> LineSources<'a> {
         rt: &'a HostRuntime,
         is_standard: bool,
         control: Option<&str>,
+        door: Option<WebDoor<'a>>,
     ) -> Result<LineSources<'a>, ControlError> {
         let alloc = rt.alloc();
         let standard = is_standard.then(|| StandardInput::new(alloc));
@@ -104,6 +109,7 @@ impl<'a> LineSources<'a> {
             standard,
             listener,
             connections: Vec::with_capacity(alloc, MOST_CONNECTIONS)?,
+            door,
             numbered: 0,
             deaf_until: 0,
             turn: 0,
@@ -116,6 +122,29 @@ impl<'a> LineSources<'a> {
         match &self.listener {
             Some(listener) => listener.local_addr().ok(),
             None => None,
+        }
+    }
+
+    /// The console, where there is one.
+    pub fn door(&self) -> Option<&WebDoor<'a>> {
+        self.door.as_ref()
+    }
+
+    /// What the console is asked next, and by whom: it is to be answered. After one it is `None`
+    /// once, so that whoever asks does something else between.
+    pub fn next_ask(&mut self) -> Option<(Speaker, Ask)> {
+        let now = self.now();
+        let (number, ask) = self.door.as_mut()?.next_ask(now)?;
+        Some((Speaker::Web(number), ask))
+    }
+
+    /// Shows what was asked for at the console.
+    pub fn shows(&mut self, to: Speaker, answer: Result<Answer, AllocError>) {
+        let now = self.now();
+        if let Speaker::Web(number) = to
+            && let Some(door) = &mut self.door
+        {
+            door.answers(number, answer, now);
         }
     }
 
@@ -144,6 +173,10 @@ impl<'a> LineSources<'a> {
     /// Each of the lines has its line feed, none of them is empty, and the first doesn't begin with
     /// `error: `.
     pub fn done(&mut self, to: Speaker, lines: &str) -> Option<String> {
+        if let Speaker::Web(number) = to {
+            self.replies(number, Ok(()));
+            return None;
+        }
         let text = format!(in self.rt.alloc(); "{lines}ok\n");
         self.answered(to, text)
     }
@@ -151,8 +184,22 @@ impl<'a> LineSources<'a> {
     /// Answers a line that was taken: with why nothing was done, in one line, without its end. For
     /// standard input it gives back what the caller is to write to standard output.
     pub fn refused<D: fmt::Display>(&mut self, to: Speaker, why: &D) -> Option<String> {
-        let text = format!(in self.rt.alloc(); "error: {why}\n");
+        let alloc = self.rt.alloc();
+        if let Speaker::Web(number) = to {
+            let why = format!(in alloc; "{why}").unwrap_or_else(|_| String::new(alloc));
+            self.replies(number, Err(why.as_str()));
+            return None;
+        }
+        let text = format!(in alloc; "error: {why}\n");
         self.answered(to, text)
+    }
+
+    /// Answers a command of the console.
+    fn replies(&mut self, number: u64, outcome: Result<(), &str>) {
+        let now = self.now();
+        if let Some(door) = &mut self.door {
+            door.replies(number, outcome, now);
+        }
     }
 
     /// Sends an answer, with an empty line behind it, to a connection; gives back that to standard
@@ -161,6 +208,7 @@ impl<'a> LineSources<'a> {
         let number = match to {
             Speaker::Standard => return text.ok(),
             Speaker::Connection(number) => number,
+            Speaker::Web(_) => return None,
         };
         let now = self.now();
         let mut text = text.unwrap_or_else(|_| String::new(self.rt.alloc()));
@@ -180,6 +228,15 @@ impl<'a> LineSources<'a> {
     /// What a wait is to look at, so that it ends once a line may have come. It stays so until the
     /// next line is asked for.
     pub fn watched(&self) -> Watched {
+        let mut watched = self.watched_lines();
+        if let Some(door) = &self.door {
+            door.watches(&mut watched, self.now());
+        }
+        watched
+    }
+
+    /// The same for lines alone.
+    fn watched_lines(&self) -> Watched {
         let mut watched = Watched::nothing();
         if let Some(standard) = &self.standard {
             let (fd, events) = standard.watched();
@@ -200,7 +257,7 @@ impl<'a> LineSources<'a> {
     }
 
     /// The milliseconds since the start; 0 where the clock can't be read.
-    fn now(&self) -> u64 {
+    pub fn now(&self) -> u64 {
         match &self.start {
             Some(start) => match start.elapsed(self.rt) {
                 Ok(since) => u64::try_from(since.as_millis()).unwrap_or(u64::MAX),
@@ -218,7 +275,7 @@ impl<'a> LineSources<'a> {
     /// Reads, sends and takes connections, as far as that can be done without waiting.
     fn attend(&mut self) {
         let now = self.now();
-        let watched = self.watched();
+        let watched = self.watched_lines();
         let mut places = watched.alone();
         let stirred = libc::net::poll(&mut places, 0);
         if let Some(standard) = &mut self.standard
@@ -296,7 +353,7 @@ impl<'a> LineSources<'a> {
 }
 
 /// Whether a connection that wasn't taken for this cause says nothing of the next one.
-fn is_passing(kind: ErrorKind) -> bool {
+pub(crate) fn is_passing(kind: ErrorKind) -> bool {
     matches!(
         kind,
         ErrorKind::WouldBlock | ErrorKind::Interrupted | ErrorKind::ConnectionAborted

@@ -3,7 +3,7 @@ use libc::types::pollfd;
 use std::os::fd::RawFd;
 
 /// The most descriptors that are looked at, with that of whoever waits.
-const PLACES: usize = 16;
+const PLACES: usize = 32;
 
 /// The descriptors of which something may come while one waits for something else, and whether
 /// something lies there already. No one of them stays ready: what they have is taken, or they are
@@ -11,7 +11,7 @@ const PLACES: usize = 16;
 #[derive(Clone, Copy)]
 pub struct Watched {
     // The first place is for the descriptor of whoever waits.
-    places: [pollfd; 16],
+    places: [pollfd; 32],
     count: usize,
     is_due: bool,
 }
@@ -27,13 +27,13 @@ impl Watched {
     /// Nothing is looked at.
     pub fn nothing() -> Watched {
         Watched {
-            places: [FREE; 16],
+            places: [FREE; 32],
             count: 1,
             is_due: false,
         }
     }
 
-    /// Looks at one more, for these events of `poll`; for none it is left out. Up to 15 fit.
+    /// Looks at one more, for these events of `poll`; for none it is left out. Up to 31 fit.
     pub fn watch(&mut self, fd: RawFd, events: i16) {
         if events != 0 && self.count < PLACES {
             self.places[self.count] = pollfd {
@@ -57,7 +57,7 @@ impl Watched {
 
     /// What `poll` is asked by one who waits for these events of this descriptor, which stands in
     /// the first place.
-    pub fn beside(&self, fd: RawFd, events: i16) -> [pollfd; 16] {
+    pub fn beside(&self, fd: RawFd, events: i16) -> [pollfd; 32] {
         let mut places = self.places;
         places[0] = pollfd {
             fd,
@@ -68,7 +68,7 @@ impl Watched {
     }
 
     /// What `poll` is asked by one who waits for nothing else.
-    pub fn alone(&self) -> [pollfd; 16] {
+    pub fn alone(&self) -> [pollfd; 32] {
         self.places
     }
 }

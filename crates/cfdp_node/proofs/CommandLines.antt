@@ -10,6 +10,7 @@ use Rattle.cfdp_node.specs.declared.station.request.CarrierKind.TheVariants.{Fra
 use Rattle.cfdp_node.specs.declared.station.request.StationFlags.{StationFlags}
 use Rattle.cfdp_node.specs.declared.station.request.StationLimits.{StationLimits}
 use Rattle.cfdp_node.specs.declared.station.request.TimeUnit.TheVariants.{Milliseconds, Seconds}
+use Rattle.cfdp_report.specs.declared.dump.form.DumpForm.TheVariants.{Short, Long, Fields}
 use Rattle.cfdp_script.specs.declared.dump.DumpKind.TheVariants.{Pdus, Frames}
 
 -- words behind the program's name
@@ -43,27 +44,32 @@ drawn_of_file = (refl, refl)
 
 -- ---- dump
 
-plain_pdus : (refusals (line (codes "dump" ∷ codes "pdus" ∷ [])) ≡ []) × (asked_of (line (codes "dump" ∷ codes "pdus" ∷ [])) ≡ Some (dump (Pdus, 256, false) None))
+plain_pdus : (refusals (line (codes "dump" ∷ codes "pdus" ∷ [])) ≡ []) × (asked_of (line (codes "dump" ∷ codes "pdus" ∷ [])) ≡ Some (dump (Pdus, 256, Short) None))
 unfolding clap_on_literals
 plain_pdus = (refl, refl)
 
 plain_frames : (refusals (line (codes "dump" ∷ codes "frames" ∷ [])) ≡ [])
-    × (asked_of (line (codes "dump" ∷ codes "frames" ∷ [])) ≡ Some (dump (Frames, 256, false) None))
+    × (asked_of (line (codes "dump" ∷ codes "frames" ∷ [])) ≡ Some (dump (Frames, 256, Short) None))
 unfolding clap_on_literals
 plain_frames = (refl, refl)
 
 zoned_frames : (refusals (line (codes "dump" ∷ codes "frames" ∷ codes "--zone" ∷ codes "300" ∷ [])) ≡ [])
-    × (asked_of (line (codes "dump" ∷ codes "frames" ∷ codes "--zone" ∷ codes "300" ∷ [])) ≡ Some (dump (Frames, 300, false) None))
+    × (asked_of (line (codes "dump" ∷ codes "frames" ∷ codes "--zone" ∷ codes "300" ∷ [])) ≡ Some (dump (Frames, 300, Short) None))
 unfolding clap_on_literals
 zoned_frames = (refl, refl)
 
 long_pdus : (refusals (line (codes "dump" ∷ codes "--long" ∷ codes "pdus" ∷ [])) ≡ [])
-    × (asked_of (line (codes "dump" ∷ codes "--long" ∷ codes "pdus" ∷ [])) ≡ Some (dump (Pdus, 256, true) None))
+    × (asked_of (line (codes "dump" ∷ codes "--long" ∷ codes "pdus" ∷ [])) ≡ Some (dump (Pdus, 256, Long) None))
 unfolding clap_on_literals
 long_pdus = (refl, refl)
 
+fields_of_frames : (refusals (line (codes "dump" ∷ codes "--fields" ∷ codes "frames" ∷ codes "--long" ∷ [])) ≡ [])
+    × (asked_of (line (codes "dump" ∷ codes "--fields" ∷ codes "frames" ∷ codes "--long" ∷ [])) ≡ Some (dump (Frames, 256, Fields) None))
+unfolding clap_on_literals
+fields_of_frames = (refl, refl)
+
 pdus_of_file : (refusals (line (codes "dump" ∷ codes "pdus" ∷ codes "a" ∷ [])) ≡ [])
-    × (asked_of (line (codes "dump" ∷ codes "pdus" ∷ codes "a" ∷ [])) ≡ Some (dump (Pdus, 256, false) (Some (codes "a"))))
+    × (asked_of (line (codes "dump" ∷ codes "pdus" ∷ codes "a" ∷ [])) ≡ Some (dump (Pdus, 256, Short) (Some (codes "a"))))
 unfolding clap_on_literals
 pdus_of_file = (refl, refl)
 

@@ -1,6 +1,7 @@
 -- The settings of a loop are valid.
-use Rattle.std.proofs.Common.{inl, refl, lit<, lit≤}
+use Rattle.std.proofs.Common.{refl, lit<, lit≤}
 use Rattle.aos_frame.specs.Frame.{IsLink}
+use Rattle.cfdp_directives.specs.Pdu.Codes.{is_known}
 use Rattle.cfdp_entity.specs.Config.{IsConfig}
 use Rattle.cfdp_station.specs.Config.{IsStationConfig}
 use Rattle.link_sim.specs.Stations.{IsWorldConfig}
@@ -13,18 +14,19 @@ pub fit : FitFields loop_settings
 fit = (lit< tt, (lit< tt, lit< tt, lit< tt, lit< tt), ((lit< tt, lit< tt, lit< tt), (lit< tt, lit< tt, lit< tt, lit< tt), (lit< tt, lit< tt, lit< tt)))
 
 good_link : (s : Side) → IsLink (link_of s 256)
-good_link One = record { virtual_channel = lit< tt; data_virtual_channel = lit< tt; apart = λ e. cc; least_zone = lit≤ tt; most_zone = lit≤ tt; apid = lit≤ tt }
-good_link Two = record { virtual_channel = lit< tt; data_virtual_channel = lit< tt; apart = λ e. cc; least_zone = lit≤ tt; most_zone = lit≤ tt; apid = lit≤ tt }
+good_link One = record { virtual_channel = lit< tt; data_virtual_channel = lit< tt; apart = λ e. cc; least_zone = lit≤ tt; most_zone = lit≤ tt; apid = lit≤ tt; fields = record { insert_zone = lit≤ tt } }
+good_link Two = record { virtual_channel = lit< tt; data_virtual_channel = lit< tt; apart = λ e. cc; least_zone = lit≤ tt; most_zone = lit≤ tt; apid = lit≤ tt; fields = record { insert_zone = lit≤ tt } }
 
 good_entity : (s : Side) → IsConfig (entity_of loop_settings s)
+unfolding is_known
 good_entity One = record {
   ids = record { apart = λ e. cc; entity = ((lit≤ tt, lit≤ tt), lit< tt); peer = ((lit≤ tt, lit≤ tt), lit< tt) };
-  sending = record { number_width = (lit≤ tt, lit≤ tt); some = lit≤ tt; most = lit≤ tt; checksum_kind = inl refl };
+  sending = record { number_width = (lit≤ tt, lit≤ tt); some = lit≤ tt; most = lit≤ tt; checksum_kind = refl };
   times = record { eof = lit≤ tt; nak = lit≤ tt; finished = lit≤ tt; inactivity = lit≤ tt };
 }
 good_entity Two = record {
   ids = record { apart = λ e. cc; entity = ((lit≤ tt, lit≤ tt), lit< tt); peer = ((lit≤ tt, lit≤ tt), lit< tt) };
-  sending = record { number_width = (lit≤ tt, lit≤ tt); some = lit≤ tt; most = lit≤ tt; checksum_kind = inl refl };
+  sending = record { number_width = (lit≤ tt, lit≤ tt); some = lit≤ tt; most = lit≤ tt; checksum_kind = refl };
   times = record { eof = lit≤ tt; nak = lit≤ tt; finished = lit≤ tt; inactivity = lit≤ tt };
 }
 

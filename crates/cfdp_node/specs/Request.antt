@@ -16,6 +16,8 @@ use Rattle.clap.specs.declared.builder.value_parser.ValueParser.TheVariants.{Uns
 use Rattle.clap.specs.declared.error.kind.ErrorKind.{ErrorKind}
 use Rattle.clap.specs.declared.error.kind.ErrorKind.TheVariants.{DisplayHelp, DisplayVersion, InvalidValue, OutOfMemory}
 use Rattle.clap.specs.declared.parser.matches.ArgMatches.{ArgMatches}
+use Rattle.cfdp_report.specs.declared.dump.form.DumpForm.{DumpForm}
+use Rattle.cfdp_report.specs.declared.dump.form.DumpForm.TheVariants.{Short, Long, Fields}
 use Rattle.cfdp_script.specs.declared.dump.DumpRequest.{DumpRequest}
 use Rattle.cfdp_node.specs.declared.arguments.Request.{Request}
 use Rattle.cfdp_node.specs.declared.arguments.Request.TheVariants.{Sim, Dump, Loop, Station, Ask, Version}
@@ -52,9 +54,12 @@ sim_app = with_rule (with_shown (new_app (codes "sim"))) input_rule
 abbrev pub lines_app : App
 lines_app = with_rule (with_rule (new_app (codes "dump")) kind_rule) zone_rule
 
--- and how they are told, and the file with them
+-- and how they are told; and the file with them
+abbrev pub told_app : App
+told_app = with_rule (with_rule lines_app (flag_rule (codes "long"))) (flag_rule (codes "fields"))
+
 abbrev pub dump_app : App
-dump_app = with_rule (with_rule lines_app (flag_rule (codes "long"))) input_rule
+dump_app = with_rule told_app input_rule
 
 -- the address of a station that takes commands
 abbrev pub address_rule : Rule
@@ -95,9 +100,9 @@ IsCommand app c = (app_of c ≡ app) × HasNoGlobals c
 
 -- ---- what is asked for
 
--- How lines are to be told: their kind, the zone of frames, and whether at length.
+-- How lines are to be told: their kind, the zone of frames, and in which form.
 abbrev pub Lines : Type 0
-Lines = DumpKind × ℕ × Bool
+Lines = DumpKind × ℕ × DumpForm
 
 -- To run a script, and what is shown of it; to tell lines, and how; to send a file, and how; to run
 -- a station, and how; to send a command to the station at an address; or the version. A file that
@@ -128,9 +133,13 @@ zone_of_word word = if is_unsigned_in 16 2040 word
 abbrev pub sim_of : List Row → Asked
 sim_of rows = sim (shown_of rows) (first_of (codes "file") rows)
 
+-- the form in which to tell: fields, where they are asked for, a long line as well or not
+abbrev pub form_of : (fields long : Bool) → DumpForm
+form_of fields long = if fields then Fields else (if long then Long else Short)
+
 abbrev pub lines_of : List Row → Option Lines
 lines_of rows = option_and_then (λ kind. option_map
-    (λ zone. (kind, zone, is_given (codes "long") rows))
+    (λ zone. (kind, zone, form_of (is_given (codes "fields") rows) (is_given (codes "long") rows)))
     (option_and_then zone_of_word (first_of (codes "zone") rows)))
     (option_and_then kind_of_word (first_of (codes "kind") rows))
 
@@ -165,7 +174,7 @@ refusals words = or_else (fault_of program_app words)
 -- ---- what the program makes of it
 
 abbrev pub asked_lines : DumpRequest → Lines
-asked_lines request = (request.kind, request.zone, request.long)
+asked_lines request = (request.kind, request.zone, request.form)
 
 abbrev pub asked : Request → Asked
 asked (Sim request) = sim (asked_shown request.shown)

@@ -12,7 +12,8 @@ ghost use Rattle.cfdp_node.specs.Request.{asked, asked_by, asked_of, dump_app, d
 ghost use Rattle.cfdp_node.specs.Request.{kind_of_word, kind_rule, input_rule, asked_lines};
 ghost use Rattle.cfdp_node.specs.Request.{address_app, address_rule, ask_app, ask_of, lines_of};
 ghost use Rattle.cfdp_node.specs.Request.{program_app, refusals, sim_app, sim_of, words_rule};
-ghost use Rattle.cfdp_node.specs.Request.{lines_app, top_app, zone_of_word, zone_rule};
+ghost use Rattle.cfdp_node.specs.Request.{form_of, lines_app, told_app, top_app, zone_of_word};
+ghost use Rattle.cfdp_node.specs.Request.{zone_rule};
 ghost use Rattle.cfdp_node.specs.Request as asks;
 ghost use Rattle.cfdp_node.specs.Looping.Request.{loop_app, loop_of};
 ghost use Rattle.cfdp_node.specs.Station.Request.{station_app, station_of};
@@ -25,7 +26,7 @@ use crate::shown::{shown_by, shown_command};
 use crate::station::request::{StationRequest, owned_words, station_command, station_request};
 use crate::station::settings_file::with_settings;
 use aos_frame::{LEAST_ZONE, MOST_ZONE};
-use cfdp_report::{SettingsHelp, Shown};
+use cfdp_report::{DumpForm, SettingsHelp, Shown};
 use cfdp_script::{DumpKind, DumpRequest};
 use clap::error::ErrorKind;
 use clap::{Arg, ArgAction, ArgMatches, Command, Error, value_parser};
@@ -161,8 +162,11 @@ That of a PDU:
   large                             sizes and offsets have 8 octets; else 4
   fault-location N                  the entity that a fault location names
   tlv TT:VV..                       each option, type and value in hexadecimal
+With --fields there is a line for each field instead, NAME: VALUE (SECTION), and
+an empty line behind each PDU, frame or error. SECTION is one of CCSDS
+727.0-B-5, as CFDP 5.2.4, or of CCSDS 732.0-B-4, as AOS 4.1.2.3.
 Errors of any line: 0 Hex (no such digits).
-Errors of PDUs: 1 Short, 2 Version, 3 CrcPresent, 4 Length, 5 Unacknowledged,
+Errors of PDUs: 1 Short, 2 Version, 3 BadCrc, 4 Length, 5 Unacknowledged,
 7 Directive, 8 Truncated, 9 Trailing, 10 Tlv, 11 Condition; 6 is no longer used.
 Errors of frames: 1 Length (mostly: another --zone is meant), 2 Version,
 3 OtherProfile, 6 OnlyIdle.
@@ -417,8 +421,21 @@ fn lines_asked(arguments: &ArgMatches<'_>) -> Option<DumpRequest>
 {
     let kind = dump_kind(word_of(arguments, "kind")?)?;
     let zone = zone_octets(word_of(arguments, "zone")?)?;
-    let long = is_given(arguments, "long");
-    Some(DumpRequest { kind, zone, long })
+    let form = dump_form(is_given(arguments, "fields"), is_given(arguments, "long"));
+    Some(DumpRequest { kind, zone, form })
+}
+
+/// The form that these two options ask for: fields, where both do.
+fn dump_form(fields: bool, long: bool) -> DumpForm
+    ensures { result ≡ form_of fields long }
+{
+    if fields {
+        DumpForm::Fields
+    } else if long {
+        DumpForm::Long
+    } else {
+        DumpForm::Short
+    }
 }
 
 /// The word that was found for this argument, or stands for it where none is given.
@@ -566,13 +583,24 @@ fn sim_command<'a>(alloc: Global, help: &'a str) -> Result<Command<'a>, AllocErr
 fn dump_command<'a>(alloc: Global) -> Result<Command<'a>, AllocError>
     ensures { IfOk result (IsCommand dump_app) }
 {
+    told_command(alloc)?.arg(input_argument(alloc))
+}
+
+/// `dump` with what the lines are, and how they are told.
+fn told_command<'a>(alloc: Global) -> Result<Command<'a>, AllocError>
+    ensures { IfOk result (IsCommand told_app) }
+{
     lines_command(alloc)?
         .arg(flag(
             alloc,
             "long",
             "Tells also direction, destination, fault location and options of a PDU",
         ))?
-        .arg(input_argument(alloc))
+        .arg(flag(
+            alloc,
+            "fields",
+            "Tells each field in a line of its own, with its section of the standard",
+        ))
 }
 
 /// `dump` with what the lines are.

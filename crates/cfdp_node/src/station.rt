@@ -2,6 +2,7 @@
 ghost use Rattle.std.specs.Prelude.{IfOk};
 
 pub mod beacon;
+pub mod console_door;
 pub mod exchange;
 pub mod notices;
 pub mod operation;
@@ -15,6 +16,7 @@ use crate::looping::folders::{
     check_file, check_name, folder, folder_outbox, note_drops, tell_untold,
 };
 use crate::station::beacon::Beacon;
+use crate::station::console_door::door;
 use crate::station::exchange::Exchange;
 use crate::station::operation::{Context, StationParts, StationSpool, ran};
 use crate::station::request::{CarrierKind, StationNumbers, StationRequest, TimeUnit};
@@ -119,13 +121,14 @@ fn check_addresses(rt: &HostRuntime, request: &StationRequest) -> Result<(), u8>
 ///
 /// # Errors
 ///
-/// The exit status, where the control address can't be had, which was told on standard error.
+/// The exit status, where the control address or that of the console can't be had, which was told on standard error.
 fn sources<'a>(rt: &'a HostRuntime, request: &StationRequest) -> Result<LineSources<'a>, u8> {
     let control = match &request.control {
         Some(address) => Some(address.as_str()),
         None => None,
     };
-    let sources = match LineSources::new(rt, request.flags.commands, control) {
+    let door = door(rt, request)?;
+    let sources = match LineSources::new(rt, request.flags.commands, control, door) {
         Ok(sources) => sources,
         Err(error) => {
             let address = control.unwrap_or("");
@@ -138,7 +141,17 @@ fn sources<'a>(rt: &'a HostRuntime, request: &StationRequest) -> Result<LineSour
     {
         let _ = eprintln!(rt; "note: commands are taken at {address}");
     }
+    tell_console(rt, &sources);
     Ok(sources)
+}
+
+/// Says where a browser is shown the station.
+fn tell_console(rt: &HostRuntime, sources: &LineSources<'_>) {
+    if let Some(door) = sources.door()
+        && let Ok(address) = door.listener().local_addr()
+    {
+        let _ = eprintln!(rt; "note: the console is at http://{address}/");
+    }
 }
 
 /// Whether an address leaves its port to the system.

@@ -1,6 +1,6 @@
 -- A step so many times, and once more; what a wire brings, and frames that leave.
 use Rattle.std.proofs.Common.{◌≡◌, ◌≢◌, ℕ, ◌+◌, ◌<◌, ◌≤◌, List, length, drop, length-drop, add-one, ap, arith, subst, sym, ◌∙◌, Option, Some, None, Ok, Err, Result, false, Bool, IsTrue, ◌↔◌, OnErr, OnOk}
-use Rattle.aos_frame.specs.Frame.{other_lane}
+use Rattle.aos_frame.specs.Frame.{frame_len, lane_channel, other_lane}
 use Rattle.aos_frame.specs.declared.config.ChannelConfig.{ChannelConfig}
 use Rattle.aos_frame.specs.declared.config.LinkConfig.{LinkConfig}
 use Rattle.aos_frame.specs.declared.config.Lane.{Lane}
@@ -76,17 +76,17 @@ pub kept_flushed : (old now : DownState) → FlushesBoth old now → KeepsLinks 
 kept_flushed old now f = ((f.lanes Directives).fixed.0, (f.lanes Data).fixed.0)
 
 -- a new end fits, whose zone is this
-pub first_fits : (len : ℕ) (link : LinkConfig) (capacity : ℕ) (d : DownState) → d ≡ first_down link capacity → 1 ≤ link.zone → len ≡ 8 + link.zone →
-    HasZones d × (len ≡ 8 + d.directives.link.zone)
+pub first_fits : (len : ℕ) (link : LinkConfig) (capacity : ℕ) (d : DownState) → d ≡ first_down link capacity → 1 ≤ link.zone → len ≡ frame_len (lane_channel Directives link) →
+    HasZones d × (len ≡ frame_len d.directives.link)
 first_fits len link capacity d is least long =
     let one = ap (λ (x : DownState). x.directives.link.zone) is in
     let two = ap (λ (x : DownState). x.file_data.link.zone) is in
-    ((omega (arith, one, least), omega (arith, two, least)), omega (arith, one, long))
+    ((omega (arith, one, least), omega (arith, two, least)), long ∙ ap (λ (x : DownState). frame_len x.directives.link) (sym is))
 
 pub fits_still : (len : ℕ) (old now : StationState) → KeepsLinks old.down now.down → FitsFrames len old → FitsFrames len now
 fits_still len old now kept fits = (
   (subst (λ (c : ChannelConfig). 1 ≤ c.zone) (sym kept.0) fits.0.0, subst (λ (c : ChannelConfig). 1 ≤ c.zone) (sym kept.1) fits.0.1),
-  subst (λ (c : ChannelConfig). len ≡ 8 + c.zone) (sym kept.0) fits.1,
+  subst (λ (c : ChannelConfig). len ≡ frame_len c) (sym kept.0) fits.1,
 )
 
 -- a frame takes its zone off it

@@ -3,6 +3,7 @@ use Rattle.std.specs.Prelude.{◌≡◌, ℕ, ◌+◌, ◌≤◌, Bool, true, fa
 use Rattle.std.specs.List.{list_all}
 use Rattle.cfdp_directives.specs.declared.user.phase.Phase.{Phase}
 use Rattle.cfdp_directives.specs.declared.user.phase.Phase.TheVariants.{Closed}
+use Rattle.aos_frame.specs.Frame.{frame_len}
 use Rattle.link_stack.specs.Downward.{DownState}
 use Rattle.cfdp_station.specs.Station.{StationState}
 use Rattle.cfdp_entity.specs.Table.{TableState}
@@ -32,7 +33,7 @@ HasZones d = (1 ≤ d.directives.link.zone) × (1 ≤ d.file_data.link.zone)
 
 -- A buffer of so many octets is as long as the frames that a station sends.
 abbrev pub FitsFrames : ℕ → StationState → Type 0
-FitsFrames len s = HasZones s.down × (len ≡ 8 + s.down.directives.link.zone)
+FitsFrames len s = HasZones s.down × (len ≡ frame_len s.down.directives.link)
 
 -- how many octets wait, in both lanes
 abbrev pub all_waiting : DownState → ℕ

@@ -17,14 +17,12 @@ use crate::lookout::Lookout;
 use crate::peer_turn::take_turn;
 use crate::turn;
 use crate::wire::{PeerWire, Wire};
-use aos_frame::HEADER_LEN as FRAME_HEADER_LEN;
 use cfdp_directives::{Indication, Phase};
 use cfdp_entity::an_entity_goes_on;
 use cfdp_header::TransactionId;
-use cfdp_station::{PutError, Request, RequestError, Station, StationConfig};
+use cfdp_station::{Lane, PutError, Request, RequestError, Station, StationConfig};
 use cfdp_store::{Inbox, Outbox, SeekingOutbox, StoreError};
 use link_sim::{Passed, Side};
-use mpdu::MPDU_HEADER_LEN;
 use std::alloc::{AllocError, Global};
 use std::marker::Model;
 use valid_config::Valid;
@@ -85,8 +83,8 @@ impl<O: Outbox, I: Inbox, W: Wire> Port<O, I, W> {
         ensures wire { IfOk result (λ p. p.wire ≡ wire) }
     {
         let (outbox, inbox) = stores;
-        let zone = usize::from(config.get().sends.zone);
-        let frame = vec![in alloc; 0u8; FRAME_HEADER_LEN + MPDU_HEADER_LEN + zone]?;
+        let len = config.get().sends.lane(Lane::Directives).frame_len();
+        let frame = vec![in alloc; 0u8; len]?;
         let datagram = vec![in alloc; 0u8; MOST_COMING]?;
         // Last, so that no error lets a station go.
         let station = Station::new(alloc, config, outbox, inbox)?;

@@ -57,7 +57,7 @@ module _ (files other : FileMap) where
       PublishesAlike files other (completed_by stored metadata ending m files r) (completed_by stored metadata ending m other r)
   completes stored (Some info) (Some ending) m r =
       either (set.is_subset (range 0 ending.size) r.held)
-      (either (agrees info ending r.checksum) (published stored info ending m r) (rests (faulted file_checksum_failure m files r)))
+      (either (agrees info ending r.sums) (published stored info ending m r) (rests (faulted file_checksum_failure m files r)))
       (rests (leaving m files r))
   completes stored (Some info) None m r = rests (leaving m files r)
   completes stored None ending m r = rests (leaving m files r)

@@ -154,8 +154,8 @@ module _ (ranges : RangesHold) (stored : Stored) (files : FileMap) (m : OctetMap
   completes-by : (metadata : Option FileInfo) (ending : Option Ending) → r.metadata ≡ metadata → r.ending ≡ ending → After stored files r (completed_by stored metadata ending m files r)
   completes-by (Some info) (Some ending) named ended =
       cond_both (set.is_subset (range 0 ending.size) r.held)
-      (if agrees info ending r.checksum then published_by stored info ending m files r else faulted file_checksum_failure m files r) (leaving m files r) (After stored files r)
-      (λ whole. cond_both (agrees info ending r.checksum) (published_by stored info ending m files r) (faulted file_checksum_failure m files r) (After stored files r)
+      (if agrees info ending r.sums then published_by stored info ending m files r else faulted file_checksum_failure m files r) (leaving m files r) (After stored files r)
+      (λ whole. cond_both (agrees info ending r.sums) (published_by stored info ending m files r) (faulted file_checksum_failure m files r) (After stored files r)
       (λ _. publication ranges stored files info ending m r is named ended whole)
       (λ _. faults stored files file_checksum_failure m r))
       (λ _. keeps stored files r (leaving m files r) refl refl (λ own. refl))

@@ -39,7 +39,7 @@ pub record OctetsStand : Type 0 where
 pub is_inside : (start end n : ℕ) → start ≤ n → n < end → is_within start end n ≡ true
 is_inside start end n low high = and_from (nat_le start n) (nat_lt n end) (le-leb start n low) (lt-ltb n end high)
 
-is_below : (start end n : ℕ) → n < start → is_within start end n ≡ false
+pub is_below : (start end n : ℕ) → n < start → is_within start end n ≡ false
 is_below start end n low = and_left (nat_le start n) (nat_lt n end) (lt-leb start n low)
 
 is_behind : (start end n : ℕ) → end ≤ n → is_within start end n ≡ false

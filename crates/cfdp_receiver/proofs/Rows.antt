@@ -14,7 +14,8 @@ use Rattle.cfdp_directives.specs.declared.user.handler.Handler.{Handler}
 use Rattle.cfdp_directives.specs.declared.user.handler.Handler.TheVariants as handler
 use Rattle.cfdp_directives.specs.declared.user.indication.Indication.TheVariants as indication
 use Rattle.cfdp_directives.specs.declared.user.policy.Policy.{Policy}
-use Rattle.cfdp_directives.specs.Pdu.Codes.{size_limit}
+use Rattle.cfdp_directives.specs.Pdu.Codes.{size_limit, is_known}
+use Rattle.cfdp_directives.specs.Pdu.Sums.{nothing_summed, sum_told}
 use Rattle.cfdp_directives.specs.Pdu.Content.{Nak, Ack, Finished}
 use Rattle.cfdp_directives.specs.User.Policy.{default_policy}
 use Rattle.cfdp_directives.specs.Pdu.Tlv.{fault_location}
@@ -38,6 +39,7 @@ a = record {
   destination = 2;
   id_width = 2;
   number_width = 4;
+  crc = false;
 }
 
 -- a receiver that has heard nothing yet
@@ -110,7 +112,7 @@ whole held kind sum = record x {
   metadata = Some (record { checksum_kind = kind; destination = 98 ∷ [] });
   ending = Some (record { checksum = 7; size = 5 });
   held = held;
-  checksum = sum;
+  sums = record nothing_summed { modular = sum };
 }
 
 publishes : (held : Offsets) (m : OctetMap) (files : FileMap) →
@@ -123,18 +125,21 @@ publishes : (held : Offsets) (m : OctetMap) (files : FileMap) →
       octets = m;
       files = map.insert files (98 ∷ []) (front m 5);
     }
+unfolding sum_told nothing_summed
 publishes held m files all = rw all refl
 
 refused : (held : Offsets) (m : OctetMap) (files : FileMap) →
     set.is_subset (range 0 5) held ≡ true →
     (completed Refused m files (whole held 0 7)).told
     ≡ indication.Fault a.id 4 ∷ indication.Finished a.id 4 Incomplete Rejected ∷ []
+unfolding sum_told nothing_summed
 refused held m files all = rw all refl
 
 another_sum : (held : Offsets) (m : OctetMap) (files : FileMap) →
     set.is_subset (range 0 5) held ≡ true →
     (completed Done m files (whole held 0 6)).told
     ≡ indication.Fault a.id 5 ∷ indication.Finished a.id 5 Incomplete Discarded ∷ []
+unfolding sum_told nothing_summed
 another_sum held m files all = rw all refl
 
 -- the null checksum isn't compared
@@ -142,18 +147,21 @@ null_checksum : (held : Offsets) (m : OctetMap) (files : FileMap) →
     set.is_subset (range 0 5) held ≡ true →
     (completed Done m files (whole held 15 6)).told
     ≡ indication.Finished a.id 0 Complete Retained ∷ []
+unfolding sum_told nothing_summed
 null_checksum held m files all = rw all refl
 
 -- an offset below the EOF's size is missing
 goes_on : (held : Offsets) (m : OctetMap) (files : FileMap) →
     set.is_subset (range 0 5) held ≡ false →
     (completed Done m files (whole held 0 7)).told ≡ []
+unfolding sum_told nothing_summed
 goes_on held m files some_missing = rw some_missing refl
 
 unsupported : (m : OctetMap) (files : FileMap) →
-    (hears_metadata Done 3 5 (97 ∷ []) (98 ∷ []) m files x).told
+    (hears_metadata Done 4 5 (97 ∷ []) (98 ∷ []) m files x).told
     ≡ indication.MetadataRecv a.id (97 ∷ []) (98 ∷ []) 5 ∷ indication.Fault a.id 11
     ∷ indication.Finished a.id 11 Incomplete Discarded ∷ []
+unfolding is_known
 unsupported m files = refl
 
 -- file data behind the EOF's size

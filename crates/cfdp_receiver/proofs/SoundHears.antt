@@ -1,5 +1,5 @@
 -- What a receiver that heard the truth does about the next PDU that is true of the put.
-use Rattle.std.proofs.Common.{◌≡◌, inl, inr, ℕ, ◌+◌, ◌-◌, ◌<◌, ◌≤◌, Bool, true, false, not, ◌&&◌, ◌||◌, ◌==◌, nat_lt, nat_le, List, [], ◌∷◌, ◌++◌, length, drop, Option, Some, None, is_none, is_some, refl, sym, ap, ◌∙◌, arith, if◌then◌else◌, length-take, length-drop}
+use Rattle.std.proofs.Common.{◌≡◌, inl, inr, ℕ, ◌+◌, ◌-◌, ◌<◌, ◌≤◌, Bool, true, false, not, ◌&&◌, ◌||◌, ◌==◌, nat_lt, nat_le, List, [], ◌∷◌, ◌++◌, length, drop, Option, Some, None, is_none, is_some, refl, sym, ap, subst, ◌∙◌, arith, if◌then◌else◌, length-take, length-drop}
 use Rattle.std.specs.Prelude.{IfSome, slice_get}
 use Rattle.std.specs.List.{list_any}
 use Rattle.std.specs.FinMap as map
@@ -16,6 +16,7 @@ use Rattle.cfdp_directives.specs.Pdu.Codes.{size_limit, no_error, positive_ack_l
 use Rattle.cfdp_directives.specs.User.Completions.{completions}
 use Rattle.cfdp_directives.specs.Pdu.Content.{Content, FileData, Metadata, Eof, Finished, Ack, Nak, Prompt, KeepAlive}
 use Rattle.cfdp_directives.specs.User.Policy.{another_try, fault_told}
+use Rattle.cfdp_directives.specs.Pdu.Sums.{nothing_summed}
 use Rattle.cfdp_directives.specs.Pdu.Tlv.{Tlv}
 use Rattle.cfdp_directives.specs.User.Put.{Put, IsTruthful}
 use Rattle.cfdp_extents.specs.Offsets.{range, is_within}
@@ -30,14 +31,18 @@ use Rattle.cfdp_receiver.specs.declared.due.Due.TheVariants as due
 use Rattle.cfdp_receiver.specs.declared.state.ReceiverPhase.TheVariants.{Receiving, Finishing, Closed}
 use Rattle.cfdp_receiver.specs.declared.state.FileInfo.{FileInfo}
 use Rattle.cfdp_receiver.specs.declared.state.Ending.{Ending}
-use Rattle.cfdp_receiver.specs.State.{ReceiverState, flagged, is_receiving, is_finishing}
+use Rattle.cfdp_receiver.specs.State.{ReceiverState, kind_told, flagged, is_receiving, is_finishing}
 use Rattle.cfdp_receiver.specs.Due.{receiver_taken}
-use Rattle.cfdp_receiver.specs.Pieces.{new_pieces, staged_with, sum_with}
+use Rattle.cfdp_receiver.specs.Pieces.{new_pieces, staged_with}
 use Rattle.cfdp_receiver.specs.Steps.{ReceiverAfter, leaving, telling, closed, ends, failed, faulted, completed, is_supported, receives_metadata, exceeds, with_data, receives_new, receives_data, first_eof, cancelled_by, receives_eof, heard, acknowledged_by, prompted_for, takes, waits, handled, asking_again, nak_expires, finished_expires, expires_by, tidying, anew_once_expired}
-use Rattle.cfdp_receiver.specs.Sound.{ReceiverInput, Hears, Takes, Expires, Cancels, Suspends, Resumes, receiver_hears, receiver_step, IsEndOf, HoldsOctet, Sound, IsAmong, IsTrueInput, BeginsWithin, is_file_fault, IsReceivable, hears_content}
+use Rattle.cfdp_receiver.specs.Sound.{ReceiverInput, Hears, Takes, Expires, Cancels, Suspends, Resumes, receiver_hears, receiver_step, IsEndOf, HoldsOctet, SumsHeld, Sound, IsAmong, IsTrueInput, BeginsWithin, is_file_fault, IsReceivable, hears_content}
 use Rattle.cfdp_receiver.proofs.Facts.{is_receiving-is}
-use Rattle.cfdp_receiver.proofs.Sums.{sum-with}
+use Rattle.cfdp_receiver.proofs.Sums.{sums-with, sums-named}
 use Rattle.cfdp_receiver.proofs.SoundSteps.{data-is, LowerLaws, After, Known, over, keeps, faults, telling-first, timed, completes, itself}
+
+none-there : (o : Option FileInfo) → is_some o ≡ false → o ≡ None
+none-there None h = refl
+none-there (Some info) h = absurd (false≢true (sym h))
 
 not_false : (b : Bool) → not b ≡ false → b ≡ true
 not_false true h = refl
@@ -80,8 +85,8 @@ module _ (laws : LowerLaws) (put : Put) (pdus : List (List ℕ)) (fits : Type 0)
               was_heard = o.was_heard;
             }
         | inr wasnt ↦
-            let inside : is_within offset end n ≡ true = sym (laws.ranges offset end n)
-            ∙ or_other (set.contains r.held n) (set.contains (range offset end) n) (sym (laws.sets r.held (range offset end) n) ∙ h) wasnt in
+            let inside : is_within offset end n ≡ true = sym (laws.sets.ranges offset end n)
+            ∙ or_other (set.contains r.held n) (set.contains (range offset end) n) (sym (laws.sets.sets r.held (range offset end) n) ∙ h) wasnt in
             let parts = and_parts (nat_le offset n) (nat_lt n end) inside in
             let low : offset ≤ n = leb-true offset n parts.0 in
             let high : n < offset + length bytes = ltb-true n end parts.1 in
@@ -129,7 +134,7 @@ module _ (laws : LowerLaws) (put : Put) (pdus : List (List ℕ)) (fits : Type 0)
         name = s.name;
         end = s.end;
         octets = λ _. new-octet offset bytes is truth among;
-        sum = λ _. ap (λ n. sum_with n (new_pieces r.held offset bytes)) (s.sum is) ∙ sum-with laws.ranges laws.sets put.octets r.held offset bytes truth;
+        sum = λ _. sums-with laws.sets laws.checksums (kind_told r.metadata) put.octets r.held r.sums offset bytes truth (s.sum is);
       }) Done
       new Refused = faults laws put pdus fits files filestore_rejection m r known (λ _. refl)
 
@@ -141,11 +146,16 @@ module _ (laws : LowerLaws) (put : Put) (pdus : List (List ℕ)) (fits : Type 0)
       let i : Indication = indication.MetadataRecv r.addressing.id source destination size in
       let info : FileInfo = record { checksum_kind = checksum_kind; destination = destination } in
       let r1 : ReceiverState = record r { metadata = Some info; nak_count = 0 } in
-      let s1 : Sound put pdus r1 m = record { name = (truth.0, truth.3, among); end = s.end; octets = s.octets; sum = s.sum } in
+      let heard_first : r.metadata ≡ None → Sound put pdus r1 m = λ none. record {
+        name = (truth.0, truth.3, among);
+        end = s.end;
+        octets = s.octets;
+        sum = λ _. sums-named laws.checksums checksum_kind put.octets r.held r.sums (subst (λ o. SumsHeld (kind_told o) r.held put.octets r.sums) none (s.sum is));
+      } in
       let tested : ReceiverAfter = if is_supported checksum_kind then completed stored m files r1 else faulted unsupported_checksum_type m files r1 in
       cond_both (is_some r.metadata) (leaving m files r) (telling (i ∷ []) tested) To
       (λ _. itself laws put pdus fits files m r is s)
-      (λ _. telling-first laws put pdus fits files i r.addressing.id tested (λ own. refl) refl
+      (λ first. let s1 = heard_first (none-there r.metadata first) in telling-first laws put pdus fits files i r.addressing.id tested (λ own. refl) refl
       (cond_both (is_supported checksum_kind) (completed stored m files r1) (faulted unsupported_checksum_type m files r1) To
       (λ _. completes laws put pdus fits files m r1 is s1 stored)
       (λ other. faults laws put pdus fits files unsupported_checksum_type m r1 (s1.name, s1.end)
@@ -169,7 +179,7 @@ module _ (laws : LowerLaws) (put : Put) (pdus : List (List ℕ)) (fits : Type 0)
       let r1 : ReceiverState = record r { ending = Some ending; ack_due = Some no_error; nak_cursor = Some 0 } in
       let tested : ReceiverAfter = if nat_lt size (end_of r.held) || nat_lt (size_limit large) size then faulted file_size_error m files r1 else completed stored m files r1 in
       cond_both (not (condition == no_error)) (cancelled_by condition m files r) (if is_none r.ending then first_eof stored large checksum size m files r else again) To
-      (λ _. keeps laws put pdus fits files r.addressing.id (cancelled_by condition m files r) (over laws put pdus fits files Closed r.metadata r.ending set.empty 0 m refl s.name s.end) refl
+      (λ _. keeps laws put pdus fits files r.addressing.id (cancelled_by condition m files r) (over laws put pdus fits files Closed r.metadata r.ending set.empty nothing_summed m refl s.name s.end) refl
       (λ own. refl) refl)
       (λ fine.
       let clean : condition ≡ no_error = eqb-true condition no_error (not_false (condition == no_error) fine) in
@@ -202,7 +212,7 @@ module _ (laws : LowerLaws) (put : Put) (pdus : List (List ℕ)) (fits : Type 0)
 
   -- a closed receiver
   shut : Sound put pdus (closed r) m
-  shut = over laws put pdus fits files Closed r.metadata r.ending set.empty 0 m refl s.name s.end
+  shut = over laws put pdus fits files Closed r.metadata r.ending set.empty nothing_summed m refl s.name s.end
 
   content-true : (stored : Stored) (large : Bool) (v : Content) → IsTruthful put v → IsAmong put pdus v → (fits → BeginsWithin put (Hears large v)) → To (hears_content stored large v m files r)
   content-true stored large (Metadata checksum_kind size source destination options) truth among begins =
@@ -279,7 +289,7 @@ module _ (laws : LowerLaws) (put : Put) (pdus : List (List ℕ)) (fits : Type 0)
       (λ _. timed laws put pdus fits files (anew_once_expired k) r.addressing.id a (expires-true k policy)) (λ _. same)
   step-by stored heard Cancels t begins =
       cond_both (is_receiving r.phase) (ends (failed cancel_request) m files r) (leaving m files r) To
-      (λ _. keeps laws put pdus fits files r.addressing.id (ends (failed cancel_request) m files r) (over laws put pdus fits files Finishing r.metadata r.ending set.empty 0 m refl s.name s.end) refl
+      (λ _. keeps laws put pdus fits files r.addressing.id (ends (failed cancel_request) m files r) (over laws put pdus fits files Finishing r.metadata r.ending set.empty nothing_summed m refl s.name s.end) refl
       (λ own. refl) refl) (λ _. same)
   step-by stored heard Suspends t begins =
       let r1 : ReceiverState = record r { suspended = true } in

@@ -1,5 +1,5 @@
 -- How a sound receiver begins, and what more that is heard leaves of it.
-use Rattle.std.proofs.Common.{◌≡◌, ℕ, ◌<◌, true, List, [], ◌∷◌, ◌++◌, length, Option, Some, None, sym, ◌∙◌, Bool}
+use Rattle.std.proofs.Common.{◌≡◌, ℕ, ◌<◌, true, List, [], ◌∷◌, ◌++◌, length, Option, Some, None, refl, sym, ◌∙◌, Bool}
 use Rattle.std.specs.Prelude.{IfSome}
 use Rattle.std.specs.FinMap as map
 use Rattle.std.specs.FinSet as set
@@ -8,7 +8,8 @@ use Rattle.std.proofs.lemmas.Bool.{false≢true}
 use Rattle.cfdp_header.specs.declared.value.Header.{Header}
 use Rattle.cfdp_header.specs.Files.{FileMap}
 use Rattle.cfdp_directives.specs.declared.pdu.addressing.Addressing.{Addressing}
-use Rattle.cfdp_directives.specs.Pdu.Checksum.{modular_checksum}
+use Rattle.cfdp_directives.specs.Pdu.Checksum.{checksum_of}
+use Rattle.cfdp_directives.specs.Pdu.Sums.{nothing_summed, wants, sum_told}
 use Rattle.cfdp_directives.specs.Pdu.Content.{Content, FileData, Metadata, Eof, Finished, Ack, Nak, Prompt, KeepAlive}
 use Rattle.cfdp_directives.specs.Pdu.Grammar.{SpellsPdu}
 use Rattle.cfdp_directives.specs.User.Put.{Put, IsTruthful, IsMetadataOf, IsEofOf, Brings}
@@ -20,10 +21,10 @@ use Rattle.cfdp_receiver.specs.declared.state.ReceiverPhase.{ReceiverPhase}
 use Rattle.cfdp_receiver.specs.declared.state.ReceiverPhase.TheVariants.{Receiving, Finishing, Closed}
 use Rattle.cfdp_receiver.specs.declared.state.FileInfo.{FileInfo}
 use Rattle.cfdp_receiver.specs.declared.state.Ending.{Ending}
-use Rattle.cfdp_receiver.specs.State.{ReceiverState}
+use Rattle.cfdp_receiver.specs.State.{ReceiverState, kind_told}
 use Rattle.cfdp_receiver.specs.Steps.{opens, opened_closed}
 use Rattle.cfdp_receiver.specs.Sound.{IsNameOf, IsEndOf, HoldsOctet, KeepsTruth, Sound, IsAmong}
-use Rattle.cfdp_receiver.proofs.Sums.{WholeSum, sum-all, sum-empty}
+use Rattle.cfdp_receiver.proofs.Sums.{ChecksumsHold, sums-all, sums-none, wants-it}
 
 -- ---- more is heard
 name-more : (put : Put) (heard more : List (List ℕ)) (metadata : Option FileInfo) → IfSome metadata (IsNameOf put heard) → IfSome metadata (IsNameOf put (heard ++ more))
@@ -65,23 +66,27 @@ among-last put heard text h (Prompt keep_alive) spells same truth = tt
 among-last put heard text h (KeepAlive progress) spells same truth = tt
 
 -- ---- how it begins
-nothing : (put : Put) (heard : List (List ℕ)) (phase : ReceiverPhase) (m : OctetMap) → KeepsTruth put heard phase None None set.empty 0 m
-nothing put heard phase m = record {
+nothing : ChecksumsHold → (put : Put) (heard : List (List ℕ)) (phase : ReceiverPhase) (m : OctetMap) → KeepsTruth put heard phase None None set.empty nothing_summed m
+nothing law put heard phase m = record {
   name = tt;
   end = tt;
   octets = λ _ n h. absurd (false≢true (sym (set.contains-empty nat_cmp n) ∙ h));
-  sum = λ _. sym (sum-empty put.octets);
+  sum = λ _. sums-none law None put.octets;
 }
 
-pub sound-opens : (put : Put) (heard : List (List ℕ)) (stored : Stored) (large : Bool) (files : FileMap) (addressing : Addressing) →
+pub sound-opens : ChecksumsHold → (put : Put) (heard : List (List ℕ)) (stored : Stored) (large : Bool) (files : FileMap) (addressing : Addressing) →
     Sound put heard (opens stored large files addressing).receiver (opens stored large files addressing).octets
-sound-opens put heard Done large files addressing = nothing put heard Receiving map.empty
-sound-opens put heard Refused large files addressing = nothing put heard Finishing map.empty
+sound-opens law put heard Done large files addressing = nothing law put heard Receiving map.empty
+sound-opens law put heard Refused large files addressing = nothing law put heard Finishing map.empty
 
-pub sound-closed : (put : Put) (heard : List (List ℕ)) (large : Bool) (condition : ℕ) (addressing : Addressing) (m : OctetMap) → Sound put heard (opened_closed large condition addressing) m
-sound-closed put heard large condition addressing m = nothing put heard Closed m
+pub sound-closed : ChecksumsHold → (put : Put) (heard : List (List ℕ)) (large : Bool) (condition : ℕ) (addressing : Addressing) (m : OctetMap) → Sound put heard (opened_closed large condition addressing) m
+sound-closed law put heard large condition addressing m = nothing law put heard Closed m
 
 -- ---- the checksum of all
-pub sum-whole : WholeSum → (put : Put) (heard : List (List ℕ)) (r : ReceiverState) (m : OctetMap) → Sound put heard r m → r.phase ≡ Receiving →
-    ((n : ℕ) → n < length put.octets → set.contains r.held n ≡ true) → r.checksum ≡ modular_checksum put.octets
-sum-whole law put heard r m s is all = s.sum is ∙ sum-all law put.octets r.held all
+pub sum-whole : ChecksumsHold → (put : Put) (heard : List (List ℕ)) (r : ReceiverState) (m : OctetMap) → Sound put heard r m → r.phase ≡ Receiving →
+    ((n : ℕ) → n < length put.octets → set.contains r.held n ≡ true) → sum_told put.checksum_kind r.sums ≡ checksum_of put.checksum_kind put.octets
+sum-whole law put heard r m s is all = sums-all law (kind_told r.metadata) put.checksum_kind put.octets r.held r.sums (its r.metadata s.name) (s.sum is) all
+  where
+    its : (metadata : Option FileInfo) → IfSome metadata (IsNameOf put heard) → wants (kind_told metadata) put.checksum_kind ≡ true
+    its None named = refl
+    its (Some info) named = wants-it info.checksum_kind put.checksum_kind named.0

@@ -5,13 +5,15 @@ use Rattle.std.specs.List.{list_any}
 use Rattle.std.specs.FinMap as map
 use Rattle.std.specs.FinSet as set
 use Rattle.std.specs.Cmp.{nat_cmp_total}
-use Rattle.std.proofs.lemmas.Bool.{both_ways, cond_both, eq-eqb}
+use Rattle.std.proofs.lemmas.Bool.{both_ways, cond_both, eq-eqb, or_right}
 use Rattle.cfdp_header.specs.declared.value.TransactionId.{TransactionId}
 use Rattle.cfdp_header.specs.Files.{FileMap}
 use Rattle.cfdp_directives.specs.declared.user.indication.Indication.{Indication}
-use Rattle.cfdp_directives.specs.Pdu.Codes.{filestore_rejection, file_checksum_failure, modular}
+use Rattle.cfdp_directives.specs.Pdu.Codes.{filestore_rejection, file_checksum_failure, null}
 use Rattle.cfdp_directives.specs.User.Completions.{completions}
-use Rattle.cfdp_directives.specs.Pdu.Checksum.{modular_checksum}
+use Rattle.cfdp_directives.specs.declared.pdu.sums.Checksums.{Checksums}
+use Rattle.cfdp_directives.specs.Pdu.Checksum.{checksum_of}
+use Rattle.cfdp_directives.specs.Pdu.Sums.{nothing_summed, wants, sum_told}
 use Rattle.cfdp_directives.specs.User.Put.{Put}
 use Rattle.cfdp_directives.proofs.Puts.{completions-append}
 use Rattle.cfdp_extents.specs.Offsets.{Offsets, range, is_within}
@@ -24,13 +26,13 @@ use Rattle.cfdp_receiver.specs.declared.state.ReceiverPhase.{ReceiverPhase}
 use Rattle.cfdp_receiver.specs.declared.state.ReceiverPhase.TheVariants.{Receiving, Finishing}
 use Rattle.cfdp_receiver.specs.declared.state.FileInfo.{FileInfo}
 use Rattle.cfdp_receiver.specs.declared.state.Ending.{Ending}
-use Rattle.cfdp_receiver.specs.State.{ReceiverState, is_receiving}
+use Rattle.cfdp_receiver.specs.State.{ReceiverState, kind_told, is_receiving}
 use Rattle.cfdp_receiver.specs.Missing.{tidied}
 use Rattle.cfdp_receiver.specs.Pieces.{new_pieces, staged_with}
 use Rattle.cfdp_receiver.specs.Steps.{ReceiverAfter, leaving, telling, faulted, agrees, published_by, completed_by, completed}
 use Rattle.cfdp_receiver.specs.Sound.{PublishesNone, IsNameOf, IsEndOf, HoldsOctet, KeepsTruth, Sound, PublishesPut, is_file_fault}
 use Rattle.cfdp_receiver.proofs.Facts.{RangesHold, in_range}
-use Rattle.cfdp_receiver.proofs.Sums.{SetsHold, WholeSum, sum-all}
+use Rattle.cfdp_receiver.proofs.Sums.{SetLaws, ChecksumsHold, sums-all, wants-it}
 
 -- ---- octets of a file
 taken-is : (n : ℕ) (ys : List ℕ) (k x : ℕ) → slice_get (take n ys) k ≡ Some x → slice_get ys k ≡ Some x
@@ -70,16 +72,10 @@ front-is m (x ∷ file) at (suc size) e h =
     (λ n low. let next : at + 1 + n ≡ at + suc n = omega arith in ap (map.get m) next ∙ h (suc n) (omega arith)) in
     ap (λ o. unwrap_or o 0 ∷ front_from m (at + 1) size) first ∙ ap (λ xs. x ∷ xs) rest
 
--- ---- the checksum agrees
-agree : (b : Bool) (checksum sum whole : ℕ) → checksum ≡ (if b then whole else 0) → sum ≡ whole → (not b || (sum == checksum)) ≡ true
-agree true checksum sum whole said is = eq-eqb sum checksum (is ∙ sym said)
-agree false checksum sum whole said is = refl
-
 -- ---- the laws of the crates below
 pub record LowerLaws : Type 0 where
-  pub ranges : RangesHold
-  pub sets : SetsHold
-  pub whole_sum : WholeSum
+  pub sets : SetLaws
+  pub checksums : ChecksumsHold
   pub last : (held : Offsets) → 0 < end_of held → set.contains held (end_of held - 1) ≡ true
   pub staged : (m : OctetMap) (held : Offsets) (offset : ℕ) (bytes : List ℕ) (n : ℕ) →
       map.get (staged_with m (new_pieces held offset bytes)) n
@@ -100,9 +96,9 @@ module _ (laws : LowerLaws) (put : Put) (pdus : List (List ℕ)) (fits : Type 0)
   Known r = IfSome r.metadata (IsNameOf put pdus) × IfSome r.ending (IsEndOf put pdus)
 
   -- once it doesn't receive
-  pub over : (phase : ReceiverPhase) (metadata : Option FileInfo) (ending : Option Ending) (held : Offsets) (sum : ℕ) (m : OctetMap) → is_receiving phase ≡ false
-      → IfSome metadata (IsNameOf put pdus) → IfSome ending (IsEndOf put pdus) → KeepsTruth put pdus phase metadata ending held sum m
-  over phase metadata ending held sum m not_now n e = record {
+  pub over : (phase : ReceiverPhase) (metadata : Option FileInfo) (ending : Option Ending) (held : Offsets) (sums : Checksums) (m : OctetMap) → is_receiving phase ≡ false
+      → IfSome metadata (IsNameOf put pdus) → IfSome ending (IsEndOf put pdus) → KeepsTruth put pdus phase metadata ending held sums m
+  over phase metadata ending held sums m not_now n e = record {
     name = n;
     end = e;
     octets = λ is. absurd (both_ways (is_receiving phase) not_now (ap is_receiving is));
@@ -116,7 +112,7 @@ module _ (laws : LowerLaws) (put : Put) (pdus : List (List ℕ)) (fits : Type 0)
 
   pub faults : (condition : ℕ) (m : OctetMap) (r : ReceiverState) → Known r → (fits → list_any is_file_fault (faulted condition m files r).told ≡ false) → After r (faulted condition m files r)
   faults condition m r k fine = record {
-    sound = over Finishing r.metadata r.ending set.empty 0 m refl k.0 k.1;
+    sound = over Finishing r.metadata r.ending set.empty nothing_summed m refl k.0 k.1;
     publishes = inl (record { same_files = refl; no_completion = λ own. refl });
     faultless = fine;
   }
@@ -158,10 +154,10 @@ module _ (laws : LowerLaws) (put : Put) (pdus : List (List ℕ)) (fits : Type 0)
         let e : IsEndOf put pdus ending = subst (λ o. IfSome o (IsEndOf put pdus)) ended s.end in
         let size : ending.size ≡ length put.octets = e.1 in
         let here : (k : ℕ) → k < ending.size → HoldsOctet put pdus m k =
-        λ k low. s.octets is k (set.is_subset-contains nat_cmp_total (range 0 ending.size) r.held whole k (in_range laws.ranges 0 ending.size k (omega arith) low)) in
+        λ k low. s.octets is k (set.is_subset-contains nat_cmp_total (range 0 ending.size) r.held whole k (in_range laws.sets.ranges 0 ending.size k (omega arith) low)) in
         let file : front m ending.size ≡ put.octets = front-is m put.octets 0 ending.size size (λ k low. let e : 0 + k ≡ k = omega arith in ap (map.get m) e ∙ (here k low).same) in
         record {
-          sound = over Finishing r.metadata r.ending set.empty 0 m refl s.name s.end;
+          sound = over Finishing r.metadata r.ending set.empty nothing_summed m refl s.name s.end;
           publishes = inr (record {
             heard_in_full = record { metadata = n.2; ending = e.2; file = λ k low. (here k (omega (arith, size))).was_heard };
             written_over = ap (λ d. map.insert files d (front m ending.size)) n.1 ∙ ap (map.insert files put.destination) file;
@@ -171,15 +167,17 @@ module _ (laws : LowerLaws) (put : Put) (pdus : List (List ℕ)) (fits : Type 0)
         }
     publication Refused info ending named ended whole = faults filestore_rejection m r known (λ _. refl)
 
-    agrees-here : (info : FileInfo) (ending : Ending) → r.metadata ≡ Some info → r.ending ≡ Some ending → set.is_subset (range 0 ending.size) r.held ≡ true → agrees info ending r.checksum ≡ true
+    agrees-here : (info : FileInfo) (ending : Ending) → r.metadata ≡ Some info → r.ending ≡ Some ending → set.is_subset (range 0 ending.size) r.held ≡ true → agrees info ending r.sums ≡ true
     agrees-here info ending named ended whole =
         let n : IsNameOf put pdus info = subst (λ o. IfSome o (IsNameOf put pdus)) named s.name in
         let e : IsEndOf put pdus ending = subst (λ o. IfSome o (IsEndOf put pdus)) ended s.end in
         let size : ending.size ≡ length put.octets = e.1 in
-        let sum : r.checksum ≡ modular_checksum put.octets = s.sum is ∙ sum-all laws.whole_sum put.octets r.held
-        (λ k low. set.is_subset-contains nat_cmp_total (range 0 ending.size) r.held whole k (in_range laws.ranges 0 ending.size k (omega arith) (omega (arith, size)))) in
-        ap (λ k. not (k == modular) || (r.checksum == ending.checksum)) n.0
-        ∙ agree (put.checksum_kind == modular) ending.checksum r.checksum (modular_checksum put.octets) e.0 sum
+        let kind : ℕ = info.checksum_kind in
+        let its : wants (kind_told r.metadata) kind ≡ true = ap (λ o. wants (kind_told o) kind) named ∙ wants-it kind kind refl in
+        let sum : sum_told kind r.sums ≡ checksum_of kind put.octets = sums-all laws.checksums (kind_told r.metadata) kind put.octets r.held r.sums its (s.sum is)
+        (λ k low. set.is_subset-contains nat_cmp_total (range 0 ending.size) r.held whole k (in_range laws.sets.ranges 0 ending.size k (omega arith) (omega (arith, size)))) in
+        or_right (kind == null) (sum_told kind r.sums == ending.checksum)
+        (eq-eqb (sum_told kind r.sums) ending.checksum (sum ∙ ap (λ k. checksum_of k put.octets) n.0 ∙ sym e.0))
 
     pub itself : After r (leaving m files r)
     itself = keeps r.addressing.id (leaving m files r) s refl (λ own. refl) refl
@@ -187,10 +185,10 @@ module _ (laws : LowerLaws) (put : Put) (pdus : List (List ℕ)) (fits : Type 0)
     completes-by : (stored : Stored) (metadata : Option FileInfo) (ending : Option Ending) → r.metadata ≡ metadata → r.ending ≡ ending → After r (completed_by stored metadata ending m files r)
     completes-by stored (Some info) (Some ending) named ended =
         cond_both (set.is_subset (range 0 ending.size) r.held)
-        (if agrees info ending r.checksum then published_by stored info ending m files r else faulted file_checksum_failure m files r) (leaving m files r) (After r)
-        (λ whole. cond_both (agrees info ending r.checksum) (published_by stored info ending m files r) (faulted file_checksum_failure m files r) (After r)
+        (if agrees info ending r.sums then published_by stored info ending m files r else faulted file_checksum_failure m files r) (leaving m files r) (After r)
+        (λ whole. cond_both (agrees info ending r.sums) (published_by stored info ending m files r) (faulted file_checksum_failure m files r) (After r)
         (λ _. publication stored info ending named ended whole)
-        (λ differs. absurd (both_ways (agrees info ending r.checksum) differs (agrees-here info ending named ended whole))))
+        (λ differs. absurd (both_ways (agrees info ending r.sums) differs (agrees-here info ending named ended whole))))
         (λ _. itself)
     completes-by stored (Some info) None named ended = itself
     completes-by stored None ending named ended = itself

@@ -1,247 +1,176 @@
--- The checksum of what is held of a file.
-use Rattle.std.proofs.Common.{◌≡◌, ◌⊎◌, inl, inr, ℕ, zero, suc, ◌+◌, ◌-◌, ◌*◌, ◌^◌, ◌%◌, ◌<◌, ◌≤◌, Bool, true, false, not, ◌&&◌, ◌||◌, ◌==◌, nat_le, nat_lt, List, [], ◌∷◌, ◌++◌, length, get_or, take, drop, refl, sym, ap, ◌∙◌, arith, if◌then◌else◌, length-take, length-drop, drop-cons, take_all, take-append-drop}
+-- What is kept for the checksum of a file of what is held of it.
+use Rattle.std.proofs.Common.{◌≡◌, ◌⊎◌, inl, inr, ℕ, ◌+◌, ◌-◌, ◌<◌, ◌≤◌, Bool, true, false, not, ◌&&◌, ◌||◌, ◌==◌, min, nat_le, nat_lt, List, [], ◌∷◌, ◌++◌, length, take, drop, Option, Some, None, refl, sym, ap, ap₂, ◌∙◌, arith, if◌then◌else◌, length-take, length-drop}
+use Rattle.std.specs.Prelude.{count_by}
+use Rattle.std.specs.List.{AllByRecursion}
 use Rattle.std.specs.FinSet as set
 use Rattle.std.specs.Ordering.{nat_cmp}
-use Rattle.std.proofs.lemmas.Bool.{cases_lt, cond_both, eqb-true, le-leb, lt-leb, lt-ltb, le-ltb, and_from, and_left, and_right}
-use Rattle.cfdp_directives.specs.Pdu.Checksum.{weight, sum_at, modular_checksum, added}
-use Rattle.cfdp_extents.specs.Offsets.{Offsets, is_within, range}
-use Rattle.cfdp_extents.specs.Terms.{joined, ranges_in, gaps_of}
-use Rattle.cfdp_receiver.specs.Pieces.{pieces_in, new_pieces, sum_with}
-use Rattle.cfdp_receiver.specs.Sound.{sum_where, held_sum}
+use Rattle.std.proofs.lemmas.Bool.{false≢true, eq-eqb}
+use Rattle.std.proofs.lemmas.List.{drop-take, drop-drop, take-take}
+use Rattle.std.proofs.lemmas.List.Elements.{recursion_from_All}
+use Rattle.std.proofs.lemmas.List.Sums.{sum_by-cons}
+use Rattle.cfdp_directives.specs.declared.pdu.sums.Checksums.{Checksums}
+use Rattle.cfdp_directives.specs.Pdu.Checksum.{Piece, IsOf, Cuts, covers, checksum_of}
+use Rattle.cfdp_directives.specs.Pdu.Sums.{nothing_summed, wants, all_summed, sum_told, AreSumsOf}
+use Rattle.cfdp_extents.specs.Offsets.{Offsets, is_within, range, union_of, LiesIn, StartBehind, AreApart}
+use Rattle.cfdp_extents.specs.Terms.{gaps_of}
+use Rattle.cfdp_receiver.specs.Pieces.{piece_in, pieces_in, new_pieces}
+use Rattle.cfdp_receiver.specs.Sound.{CutsHeld, SumsHeld}
 use Rattle.cfdp_receiver.proofs.Facts.{RangesHold}
-
--- ---- what counts
-pub sum-same : (p q : ℕ → Bool) (at : ℕ) (xs : List ℕ) → ((k : ℕ) → at ≤ k → k < at + length xs → p k ≡ q k) → sum_where p at xs ≡ sum_where q at xs
-unfolding sum_where
-sum-same p q at [] h = refl
-sum-same p q at (b ∷ xs) h =
-    let here : (if p at then b * weight at else 0) ≡ (if q at then b * weight at else 0) = ap (λ c. if c then b * weight at else 0) (h at (omega arith) (omega arith)) in
-    let rest : sum_where p (at + 1) xs ≡ sum_where q (at + 1) xs = sum-same p q (at + 1) xs (λ k low high. h k (omega arith) (omega arith)) in
-    omega (arith, here, rest)
-
-sum-append : (p : ℕ → Bool) (at : ℕ) (a b : List ℕ) → sum_where p at (a ++ b) ≡ sum_where p at a + sum_where p (at + length a) b
-unfolding sum_where
-sum-append p at [] b = let e : at + 0 ≡ at = omega arith in let same : sum_where p (at + 0) b ≡ sum_where p at b = ap (λ n. sum_where p n b) e in omega (arith, same)
-sum-append p at (x ∷ a) b =
-    let place : at + 1 + length a ≡ at + suc (length a) = omega arith in
-    let ih : sum_where p (at + 1) (a ++ b) ≡ sum_where p (at + 1) a + sum_where p (at + suc (length a)) b = sum-append p (at + 1) a b ∙ ap (λ n. sum_where p (at + 1) a + sum_where p n b) place in
-    omega (arith, ih)
-
-sum-none : (p : ℕ → Bool) (at : ℕ) (xs : List ℕ) → ((k : ℕ) → at ≤ k → k < at + length xs → p k ≡ false) → sum_where p at xs ≡ 0
-unfolding sum_where
-sum-none p at [] h = refl
-sum-none p at (b ∷ xs) h =
-    let here : (if p at then b * weight at else 0) ≡ 0 = ap (λ c. if c then b * weight at else 0) (h at (omega arith) (omega arith)) in
-    let rest : sum_where p (at + 1) xs ≡ 0 = sum-none p (at + 1) xs (λ k low high. h k (omega arith) (omega arith)) in
-    omega (arith, here, rest)
-
-sum-each : (p : ℕ → Bool) (at : ℕ) (xs : List ℕ) → ((k : ℕ) → at ≤ k → k < at + length xs → p k ≡ true) → sum_where p at xs ≡ sum_at at xs
-unfolding sum_where sum_at
-sum-each p at [] h = refl
-sum-each p at (b ∷ xs) h =
-    let here : (if p at then b * weight at else 0) ≡ b * weight at = ap (λ c. if c then b * weight at else 0) (h at (omega arith) (omega arith)) in
-    let rest : sum_where p (at + 1) xs ≡ sum_at (at + 1) xs = sum-each p (at + 1) xs (λ k low high. h k (omega arith) (omega arith)) in
-    omega (arith, here, rest)
-
-one_of : (a b : Bool) (x : ℕ) → (if a || (b && not a) then x else 0) ≡ (if a then x else 0) + (if b && not a then x else 0)
-one_of true true x = omega arith
-one_of true false x = omega arith
-one_of false true x = omega arith
-one_of false false x = omega arith
-
--- what counts already, and what is new
-sum-more : (p q : ℕ → Bool) (at : ℕ) (xs : List ℕ) → sum_where (λ k. p k || (q k && not (p k))) at xs ≡ sum_where p at xs + sum_where (λ k. q k && not (p k)) at xs
-unfolding sum_where
-sum-more p q at [] = refl
-sum-more p q at (b ∷ xs) =
-    let here = one_of (p at) (q at) (b * weight at) in
-    let rest = sum-more p q (at + 1) xs in
-    omega (arith, here, rest)
-
--- ---- pieces
-module _ (offset : ℕ) (bytes : List ℕ) where
-  abbrev octet : ℕ → ℕ
-  octet at = get_or bytes (at - offset) 0
-
-  abbrev part : ℕ → ℕ → List ℕ
-  part at n = take n (drop (at - offset) bytes)
-
-  part-cons : (at n : ℕ) → offset ≤ at → at < offset + length bytes → part at (suc n) ≡ octet at ∷ part (at + 1) n
-  part-cons at n low high =
-      let next : suc (at - offset) ≡ at + 1 - offset = omega arith in
-      ap (take (suc n)) (drop-cons bytes (at - offset) 0 (omega arith)) ∙ ap (λ i. octet at ∷ take n (drop i bytes)) next
-
-  abbrev piece_sum : ℕ × ℕ → ℕ
-  piece_sum r = sum_at r.0 (part r.0 (r.1 - r.0))
-
-  abbrev total : List (ℕ × ℕ) → ℕ
-  total [] = 0
-  total (r ∷ rs) = piece_sum r + total rs
-
-  piece-cons : (at end : ℕ) → offset ≤ at → at < end → end ≤ offset + length bytes → piece_sum (at, end) ≡ octet at * weight at + piece_sum (at + 1, end)
-  unfolding sum_at
-  piece-cons at end low some high =
-      let count : end - at ≡ suc (end - (at + 1)) = omega arith in
-      ap (λ n. sum_at at (part at n)) count ∙ ap (sum_at at) (part-cons at (end - (at + 1)) low (omega arith))
-
-  piece-one : (at : ℕ) → offset ≤ at → at < offset + length bytes → piece_sum (at, at + 1) ≡ octet at * weight at
-  unfolding sum_at
-  piece-one at low high =
-      let none : at + 1 - (at + 1) ≡ 0 = omega arith in
-      let last : piece_sum (at + 1, at + 1) ≡ 0 = ap (λ n. sum_at (at + 1) (part (at + 1) n)) none in
-      let more = piece-cons at (at + 1) low (omega arith) (omega arith) in
-      omega (arith, last, more)
-
-  -- the first range, if there is one, has an offset and lies below the limit
-  abbrev HeadIn : ℕ → List (ℕ × ℕ) → Type 0
-  HeadIn limit [] = Unit {0}
-  HeadIn limit (r ∷ rs) = (r.0 < r.1) × (r.1 ≤ limit)
-
-  joined-head : (at limit : ℕ) (rs : List (ℕ × ℕ)) → at < limit → HeadIn limit rs → HeadIn limit (joined at rs)
-  joined-head at limit [] low h = (omega arith, omega arith)
-  joined-head at limit (r ∷ rs) low h =
-      let some : r.0 < r.1 = h.0 in
-      let high : r.1 ≤ limit = h.1 in
-      cond_both (r.0 == at + 1) ((at, r.1) ∷ rs) ((at, at + 1) ∷ r ∷ rs) (HeadIn limit)
-      (λ touches. let e : r.0 ≡ at + 1 = eqb-true r.0 (at + 1) touches in (omega arith, high))
-      (λ _. (omega arith, omega arith))
-
-  heads : (p : ℕ → Bool) (at n limit : ℕ) → at + n ≤ limit → HeadIn limit (ranges_in p at n)
-  unfolding ranges_in
-  heads p at zero limit h = tt
-  heads p at (suc n) limit h =
-      let later : HeadIn limit (ranges_in p (at + 1) n) = heads p (at + 1) n limit (omega arith) in
-      cond_both (p at) (joined at (ranges_in p (at + 1) n)) (ranges_in p (at + 1) n) (HeadIn limit)
-      (λ _. joined-head at limit (ranges_in p (at + 1) n) (omega arith) later) (λ _. later)
-
-  joined-total : (at : ℕ) (rs : List (ℕ × ℕ)) → offset ≤ at → at < offset + length bytes → HeadIn (offset + length bytes) rs → total (joined at rs) ≡ octet at * weight at + total rs
-  joined-total at [] low high h = let one = piece-one at low high in omega (arith, one)
-  joined-total at (r ∷ rs) low high h =
-      let some : r.0 < r.1 = h.0 in
-      let end : r.1 ≤ offset + length bytes = h.1 in
-      cond_both (r.0 == at + 1) ((at, r.1) ∷ rs) ((at, at + 1) ∷ r ∷ rs) (λ l. total l ≡ octet at * weight at + total (r ∷ rs))
-      (λ touches.
-      let e : r.0 ≡ at + 1 = eqb-true r.0 (at + 1) touches in
-      let more = piece-cons at r.1 low (omega arith) end in
-      let same : piece_sum (at + 1, r.1) ≡ piece_sum r = ap (λ s. piece_sum (s, r.1)) (sym e) in
-      omega (arith, more, same))
-      (λ _. let one = piece-one at low high in omega (arith, one))
-
-  ranges-total : (p : ℕ → Bool) (at n : ℕ) → offset ≤ at → at + n ≤ offset + length bytes → total (ranges_in p at n) ≡ sum_where p at (part at n)
-  unfolding ranges_in sum_where
-  ranges-total p at zero low high = refl
-  ranges-total p at (suc n) low high =
-      let rest : total (ranges_in p (at + 1) n) ≡ sum_where p (at + 1) (part (at + 1) n) = ranges-total p (at + 1) n (omega arith) (omega arith) in
-      let head : HeadIn (offset + length bytes) (ranges_in p (at + 1) n) = heads p (at + 1) n (offset + length bytes) (omega arith) in
-      cond_both (p at) (joined at (ranges_in p (at + 1) n)) (ranges_in p (at + 1) n) (λ l. total l ≡ (if p at then octet at * weight at else 0) + sum_where p (at + 1) (part (at + 1) n))
-      (λ counts.
-      let here : (if p at then octet at * weight at else 0) ≡ octet at * weight at = ap (λ c. if c then octet at * weight at else 0) counts in
-      let more = joined-total at (ranges_in p (at + 1) n) low (omega arith) head in
-      omega (arith, here, more, rest))
-      (λ none.
-      let here : (if p at then octet at * weight at else 0) ≡ 0 = ap (λ c. if c then octet at * weight at else 0) none in
-      omega (arith, here, rest))
-      ∙ ap (sum_where p at) (sym (part-cons at n low (omega arith)))
-
-  folded : (s : ℕ) (rs : List (ℕ × ℕ)) → sum_with (s % 2 ^ 32) (pieces_in offset bytes rs) ≡ (s + total rs) % 2 ^ 32
-  folded s [] = omega arith
-  folded s (r ∷ rs) =
-      let step : (s % 2 ^ 32 + piece_sum r) % 2 ^ 32 ≡ (s + piece_sum r) % 2 ^ 32 = omega arith in
-      ap (λ n. sum_with n (pieces_in offset bytes rs)) step ∙ folded (s + piece_sum r) rs ∙ omega arith
-
-  pub sum-new : (s : ℕ) (held : Offsets) → sum_with (s % 2 ^ 32) (new_pieces held offset bytes) ≡ (s + sum_where (λ k. not (set.contains held k)) offset bytes) % 2 ^ 32
-  unfolding gaps_of
-  sum-new s held =
-      let passes : ℕ → Bool = λ k. not (set.contains held k) in
-      let rs : List (ℕ × ℕ) = gaps_of held offset (offset + length bytes) in
-      let count : offset + length bytes - offset ≡ length bytes = omega arith in
-      let begin : offset - offset ≡ 0 = omega arith in
-      let all : total rs ≡ sum_where passes offset bytes =
-      ap (λ n. total (ranges_in passes offset n)) count
-      ∙ ranges-total passes offset (length bytes) (omega arith) (omega arith)
-      ∙ ap (λ n. sum_where passes offset (take (length bytes) (drop n bytes))) begin
-      ∙ ap (sum_where passes offset) (take_all (length bytes) bytes (omega arith)) in
-      folded s rs ∙ ap (λ n. (s + n) % 2 ^ 32) all
-
--- ---- of a file
-is_inside : (start end n : ℕ) → start ≤ n → n < end → is_within start end n ≡ true
-is_inside start end n low high = and_from (nat_le start n) (nat_lt n end) (le-leb start n low) (lt-ltb n end high)
-
-is_below : (start end n : ℕ) (b : Bool) → n < start → (is_within start end n && b) ≡ false
-is_below start end n b low = and_left (is_within start end n) b (and_left (nat_le start n) (nat_lt n end) (lt-leb start n low))
-
-is_behind : (start end n : ℕ) (b : Bool) → end ≤ n → (is_within start end n && b) ≡ false
-is_behind start end n b high = and_left (is_within start end n) b (and_right (nat_le start n) (nat_lt n end) (le-ltb n end high))
-
--- of a file, only what lies in a range counts, and there it is these octets
-sum-part-in : (p : ℕ → Bool) (file bytes : List ℕ) (offset : ℕ) → bytes ≡ take (length bytes) (drop offset file) → offset ≤ length file
-    → sum_where (λ k. is_within offset (offset + length bytes) k && p k) 0 file ≡ sum_where p offset bytes
-sum-part-in p file bytes offset is low =
-    let n : ℕ = length bytes in
-    let end : ℕ = offset + n in
-    let q : ℕ → Bool = λ k. is_within offset end k && p k in
-    let front : List ℕ = take offset file in
-    let back : List ℕ = drop n (drop offset file) in
-    let len : length front ≡ offset = omega (arith, length-take offset file) in
-    let cut : file ≡ front ++ (bytes ++ back) = sym (ap (λ (x : List ℕ). front ++ (x ++ back)) is ∙ ap (λ (x : List ℕ). front ++ x) (take-append-drop n (drop offset file))
-    ∙ take-append-drop offset file) in
-    let zero_more : 0 + length front ≡ offset = omega (arith, len) in
-    let first : sum_where q 0 front ≡ 0 = sum-none q 0 front (λ k from to. is_below offset end k (p k) (omega (arith, len))) in
-    let last : sum_where q (offset + n) back ≡ 0 = sum-none q (offset + n) back (λ k from to. is_behind offset end k (p k) from) in
-    let mid : sum_where q offset bytes ≡ sum_where p offset bytes = sum-same q p offset bytes (λ k from to. ap (λ b. b && p k) (is_inside offset end k from to)) in
-    let one : sum_where q 0 (front ++ (bytes ++ back)) ≡ sum_where q 0 front + sum_where q (0 + length front) (bytes ++ back) = sum-append q 0 front (bytes ++ back) in
-    let two : sum_where q (0 + length front) (bytes ++ back) ≡ sum_where q offset bytes + sum_where q (offset + n) back = ap (λ k. sum_where q k (bytes ++ back)) zero_more
-    ∙ sum-append q offset bytes back in
-    ap (sum_where q 0) cut ∙ omega (arith, first, last, mid, one, two)
-
-sum-part : (p : ℕ → Bool) (file bytes : List ℕ) (offset : ℕ) → bytes ≡ take (length bytes) (drop offset file)
-    → sum_where (λ k. is_within offset (offset + length bytes) k && p k) 0 file ≡ sum_where p offset bytes
-sum-part p file bytes offset is = elim (cases_lt (length file) offset) [
-  | inl behind ↦
-      let none : length bytes ≡ 0 = omega (arith, ap length is, length-take (length bytes) (drop offset file), length-drop offset file) in
-      sum-none (λ k. is_within offset (offset + length bytes) k && p k) 0 file (λ k _ _. nowhere k none (cases_lt k offset))
-      ∙ sym (sum-none p offset bytes (λ k from to. absurd (omega (arith, none))))
-  | inr low ↦ sum-part-in p file bytes offset is low
-]
-  where
-    nowhere : (k : ℕ) → length bytes ≡ 0 → (k < offset) ⊎ (offset ≤ k) → (is_within offset (offset + length bytes) k && p k) ≡ false
-    nowhere k none (inl before) = is_below offset (offset + length bytes) k (p k) before
-    nowhere k none (inr from) = is_behind offset (offset + length bytes) k (p k) (omega (arith, none))
+use Rattle.cfdp_receiver.proofs.Held.{within_parts}
+use Rattle.cfdp_receiver.proofs.FactsPieces.{UnionsHold, DifferencesHold, GapsAre, GapsLieIn, is_below, part-len}
 
 -- what the law of unions says
 abbrev pub SetsHold : Type 0
 SetsHold = (a b : Offsets) (n : ℕ) → set.contains (set.union a b) n ≡ (set.contains a n || set.contains b n)
 
-by_new : (a b c : Bool) → c ≡ b → (a || c) ≡ (a || (b && not a))
-by_new true b c e = refl
-by_new false true c e = e
-by_new false false c e = e
-
--- With file data of a file, what is held is summed.
-pub sum-with : RangesHold → SetsHold → (file : List ℕ) (held : Offsets) (offset : ℕ) (bytes : List ℕ) → bytes ≡ take (length bytes) (drop offset file)
-    → sum_with (held_sum held file) (new_pieces held offset bytes) ≡ held_sum (set.union held (range offset (offset + length bytes))) file
-sum-with ranges sets file held offset bytes is =
-    let end : ℕ = offset + length bytes in
-    let all : Offsets = set.union held (range offset end) in
-    let p : ℕ → Bool = set.contains held in
-    let q : ℕ → Bool = is_within offset end in
-    let grown : sum_where (set.contains all) 0 file ≡ sum_where (λ k. p k || (q k && not (p k))) 0 file =
-    sum-same (set.contains all) (λ k. p k || (q k && not (p k))) 0 file (λ k _ _. sets held (range offset end) k ∙ by_new (p k) (q k) (set.contains (range offset end) k) (ranges offset end k)) in
-    let parts = sum-more p q 0 file in
-    let new : sum_where (λ k. q k && not (p k)) 0 file ≡ sum_where (λ k. not (p k)) offset bytes = sum-part (λ k. not (p k)) file bytes offset is in
-    let whole : sum_where p 0 file + sum_where (λ k. not (p k)) offset bytes ≡ sum_where (set.contains all) 0 file = omega (arith, grown, parts, new) in
-    sum-new offset bytes (sum_where p 0 file) held ∙ ap (λ n. n % 2 ^ 32) whole
-
 -- what the law of checksums says
-abbrev pub WholeSum : Type 0
-WholeSum = (file : List ℕ) → added 0 (record { offset = 0; bytes = file }) ≡ modular_checksum file
+pub record ChecksumsHold : Type 0 where
+  pub none : (wanted : Option ℕ) → AreSumsOf wanted [] nothing_summed
+  pub more : (wanted : Option ℕ) (front back : List Piece) (sums : Checksums) → AreSumsOf wanted front sums → AreSumsOf wanted (front ++ back) (all_summed wanted sums back)
+  pub named : (kind : ℕ) (pieces : List Piece) (sums : Checksums) → AreSumsOf None pieces sums → AreSumsOf (Some kind) pieces sums
+  pub told : (wanted : Option ℕ) (kind : ℕ) (file : List ℕ) (pieces : List Piece) (sums : Checksums) → AreSumsOf wanted pieces sums → wants wanted kind ≡ true → Cuts file pieces →
+      sum_told kind sums ≡ checksum_of kind file
+
+-- what the laws of sets and their gaps say
+pub record SetLaws : Type 0 where
+  pub ranges : RangesHold
+  pub sets : SetsHold
+  pub unions : UnionsHold
+  pub differences : DifferencesHold
+  pub gaps : GapsAre
+  pub lie : GapsLieIn
+
+abbrev mark : Bool → ℕ
+mark b = if b then 1 else 0
+
+-- ---- how often an offset is in the pieces
+count-cons : (n : ℕ) (p : Piece) (ps : List Piece) → count_by (covers n) (p ∷ ps) ≡ mark (covers n p) + count_by (covers n) ps
+count-cons n p ps = sum_by-cons (λ (q : Piece). mark (covers n q)) p ps
+
+count-append : (n : ℕ) (xs ys : List Piece) → count_by (covers n) (xs ++ ys) ≡ count_by (covers n) xs + count_by (covers n) ys
+count-append n [] ys = omega arith
+count-append n (p ∷ xs) ys = omega (arith, count-cons n p (xs ++ ys), count-cons n p xs, count-append n xs ys)
+
+all-append : {X : Type 0} (P : X → Type 0) (xs ys : List X) → AllByRecursion P xs → AllByRecursion P ys → AllByRecursion P (xs ++ ys)
+all-append P [] ys h k = k
+all-append P (x ∷ xs) ys h k = (h.0, all-append P xs ys h.1 k)
+
+none_behind : UnionsHold → (e n : ℕ) (rs : List (ℕ × ℕ)) → AreApart rs → StartBehind e rs → n < e → set.contains (union_of rs) n ≡ false
+unfolding union_of
+none_behind unions e n [] apart behind low = set.contains-empty nat_cmp n
+none_behind unions e n (r ∷ rs) apart behind low =
+    let from : n < r.0 = omega (arith, behind, low) in
+    unions r rs n ∙ ap₂ (λ a b. a || b) (is_below r.0 r.1 n from) (none_behind unions r.1 n rs apart.2 apart.1 (omega (arith, apart.0, from)))
+
+in_one : (a b : Bool) → (a ≡ true → b ≡ false) → mark a + mark b ≡ mark (a || b)
+in_one true true h = absurd (false≢true (sym (h refl)))
+in_one true false h = refl
+in_one false true h = refl
+in_one false false h = refl
+
+module _ (offset : ℕ) (bytes : List ℕ) where
+  covered : (r : ℕ × ℕ) (n : ℕ) → LiesIn offset (offset + length bytes) r → covers n (piece_in offset bytes r) ≡ is_within r.0 r.1 n
+  covered r n lies =
+      let low : offset ≤ r.0 = lies.0 in
+      let some : r.0 < r.1 = lies.1 in
+      let high : r.1 ≤ offset + length bytes = lies.2 in
+      let end : r.0 + length (take (r.1 - r.0) (drop (r.0 - offset) bytes)) ≡ r.1 = omega (arith, part-len offset r.0 r.1 bytes low some high) in
+      ap (λ k. nat_le r.0 n && nat_lt n k) end
+
+  counted : UnionsHold → (rs : List (ℕ × ℕ)) (n : ℕ) → AreApart rs → AllByRecursion (LiesIn offset (offset + length bytes)) rs → count_by (covers n) (pieces_in offset bytes rs) ≡ mark (set.contains (union_of rs) n)
+  unfolding union_of
+  counted unions [] n apart lie = ap mark (sym (set.contains-empty nat_cmp n))
+  counted unions (r ∷ rs) n apart lie =
+      let here : mark (covers n (piece_in offset bytes r)) ≡ mark (is_within r.0 r.1 n) = ap mark (covered r n lie.0) in
+      let rest : count_by (covers n) (pieces_in offset bytes rs) ≡ mark (set.contains (union_of rs) n) = counted unions rs n apart.2 lie.1 in
+      let apart_now : is_within r.0 r.1 n ≡ true → set.contains (union_of rs) n ≡ false = λ is. none_behind unions r.1 n rs apart.2 apart.1 (below r.0 r.1 n is) in
+      count-cons n (piece_in offset bytes r) (pieces_in offset bytes rs)
+      ∙ ap₂ (λ a b. a + b) here rest
+      ∙ in_one (is_within r.0 r.1 n) (set.contains (union_of rs) n) apart_now
+      ∙ ap mark (sym (unions r rs n))
+    where
+      below : (s e k : ℕ) → is_within s e k ≡ true → k < e
+      below s e k is = (within_parts s e k is).1
+
+  -- the pieces are the file's
+  part-is : (file : List ℕ) (r : ℕ × ℕ) → bytes ≡ take (length bytes) (drop offset file) → LiesIn offset (offset + length bytes) r → IsOf file (piece_in offset bytes r)
+  part-is file r truth lies =
+      let low : offset ≤ r.0 = lies.0 in
+      let some : r.0 < r.1 = lies.1 in
+      let high : r.1 ≤ offset + length bytes = lies.2 in
+      let n : ℕ = r.1 - r.0 in
+      let k : ℕ = r.0 - offset in
+      let rest : ℕ = length bytes - k in
+      let len : length (take n (drop k bytes)) ≡ n = part-len offset r.0 r.1 bytes low some high in
+      let whole : length bytes ≡ k + rest = omega arith in
+      let place : offset + k ≡ r.0 = omega arith in
+      let cut : drop k bytes ≡ take rest (drop r.0 file) =
+      ap (drop k) (truth ∙ ap (λ m. take m (drop offset file)) whole)
+      ∙ drop-take k rest (drop offset file)
+      ∙ ap (take rest) (drop-drop k offset file ∙ ap (λ m. drop m file) place) in
+      let few : n ≤ rest = omega arith in
+      record {
+        within = omega (arith, len, ap length truth, length-take (length bytes) (drop offset file), length-drop offset file);
+        same = ap (take n) cut ∙ take-take n rest (drop r.0 file) few ∙ ap (λ m. take m (drop r.0 file)) (sym len);
+      }
+
+  parts-are : (file : List ℕ) (rs : List (ℕ × ℕ)) → bytes ≡ take (length bytes) (drop offset file) → AllByRecursion (LiesIn offset (offset + length bytes)) rs →
+      AllByRecursion (IsOf file) (pieces_in offset bytes rs)
+  parts-are file [] truth lie = tt
+  parts-are file (r ∷ rs) truth lie = (part-is file r truth lie.0, parts-are file rs truth lie.1)
+
+-- ---- what is held
+either : (a b c : Bool) → c ≡ (b && not a) → mark a + mark c ≡ mark (a || b)
+either true true c e = ap (λ x. 1 + mark x) e
+either true false c e = ap (λ x. 1 + mark x) e
+either false true c e = ap (λ x. 0 + mark x) e
+either false false c e = ap (λ x. 0 + mark x) e
+
+-- With file data of a file, what is kept is what is held.
+pub sums-with : SetLaws → ChecksumsHold → (wanted : Option ℕ) (file : List ℕ) (held : Offsets) (sums : Checksums) (offset : ℕ) (bytes : List ℕ) → bytes ≡ take (length bytes) (drop offset file) →
+    SumsHeld wanted held file sums
+    → SumsHeld wanted (set.union held (range offset (offset + length bytes))) file (all_summed wanted sums (new_pieces held offset bytes))
+sums-with sets law wanted file held sums offset bytes truth s =
+    let end : ℕ = offset + length bytes in
+    let rs : List (ℕ × ℕ) = gaps_of held offset end in
+    let lie : AllByRecursion (LiesIn offset end) rs = recursion_from_All (LiesIn offset end) rs (sets.lie held offset end) in
+    let all : Offsets = set.union held (range offset end) in
+    record {
+      pieces = s.pieces ++ new_pieces held offset bytes;
+      cut = record {
+        parts = all-append (IsOf file) s.pieces (new_pieces held offset bytes) s.cut.parts (parts-are offset bytes file rs truth lie);
+        once = λ n inside.
+            let was : Bool = set.contains held n in
+            let comes : Bool = is_within offset end n in
+            let new : set.contains (union_of rs) n ≡ (comes && not was) =
+            ap (λ x. set.contains x n) (sets.gaps held offset end).union ∙ sets.differences (range offset end) held n ∙ ap (λ b. b && not was) (sets.ranges offset end n) in
+            let now : set.contains all n ≡ (was || comes) = sets.sets held (range offset end) n ∙ ap (λ b. was || b) (sets.ranges offset end n) in
+            count-append n s.pieces (new_pieces held offset bytes)
+            ∙ ap₂ (λ a b. a + b) (s.cut.once n inside) (counted offset bytes sets.unions rs n (sets.gaps held offset end).apart lie)
+            ∙ either was comes (set.contains (union_of rs) n) new
+            ∙ ap mark (sym now);
+      };
+      are = law.more wanted s.pieces (new_pieces held offset bytes) sums s.are;
+    }
+
+-- Once the type is known, only its checksum matters.
+pub sums-named : ChecksumsHold → (kind : ℕ) (file : List ℕ) (held : Offsets) (sums : Checksums) → SumsHeld None held file sums → SumsHeld (Some kind) held file sums
+sums-named law kind file held sums s = record { pieces = s.pieces; cut = s.cut; are = law.named kind s.pieces sums s.are }
 
 -- Where all is held, it is the file's checksum.
-pub sum-all : WholeSum → (file : List ℕ) (held : Offsets) → ((k : ℕ) → k < length file → set.contains held k ≡ true) → held_sum held file ≡ modular_checksum file
-sum-all law file held all =
-    let each : sum_where (set.contains held) 0 file ≡ sum_at 0 file = sum-each (set.contains held) 0 file (λ k _ low. all k (omega arith)) in
-    ap (λ n. n % 2 ^ 32) each ∙ ap (λ n. n % 2 ^ 32) (let e : sum_at 0 file ≡ 0 + sum_at 0 file = omega arith in e) ∙ law file
+pub sums-all : ChecksumsHold → (wanted : Option ℕ) (kind : ℕ) (file : List ℕ) (held : Offsets) (sums : Checksums) → wants wanted kind ≡ true → SumsHeld wanted held file sums →
+    ((k : ℕ) → k < length file → set.contains held k ≡ true) → sum_told kind sums ≡ checksum_of kind file
+sums-all law wanted kind file held sums its s all =
+    law.told wanted kind file s.pieces sums s.are its (record { parts = s.cut.parts; once = λ n low. s.cut.once n low ∙ ap mark (all n low) })
 
--- Nothing held sums up to 0.
-pub sum-empty : (file : List ℕ) → held_sum set.empty file ≡ 0
-sum-empty file = ap (λ n. n % 2 ^ 32) (sum-none (set.contains set.empty) 0 file (λ k _ _. set.contains-empty nat_cmp k))
+-- Nothing held leaves nothing.
+pub sums-none : ChecksumsHold → (wanted : Option ℕ) (file : List ℕ) → SumsHeld wanted set.empty file nothing_summed
+sums-none law wanted file = record {
+  pieces = [];
+  cut = record { parts = tt; once = λ n _. ap mark (sym (set.contains-empty nat_cmp n)) };
+  are = law.none wanted;
+}
+
+-- a type that was told is wanted
+pub wants-it : (kind other : ℕ) → kind ≡ other → wants (Some kind) other ≡ true
+wants-it kind other e = eq-eqb kind other e

@@ -24,7 +24,7 @@ use Rattle.cfdp_timers.specs.Waits.{is_anew, wait_by, waited}
 use Rattle.cfdp_receiver.specs.declared.state.ReceiverPhase.TheVariants.{Receiving}
 use Rattle.cfdp_receiver.specs.State.{ReceiverState, IsReady, flagged, is_receiving}
 use Rattle.cfdp_receiver.specs.Steps.{ReceiverAfter, waits}
-use Rattle.cfdp_receiver.specs.Pieces.{staged_with, sum_with}
+use Rattle.cfdp_receiver.specs.Pieces.{staged_with}
 use Rattle.cfdp_receiver.specs.Storing.{Discards, Settles, StopsAt, writes}
 
 -- what a receiver asks of its timers, where one of them is to be armed anew
@@ -184,13 +184,12 @@ pub record LetsGo {S : Type 0} (inbox : Inbox S) (id : TransactionId) (store sto
       → inbox.failures store_now ≡ inbox.failures store → inbox.staged store_now id ≡ None
   pub calls : Discards (MakesIn inbox) id store store_now
 
--- These pieces of a file were staged, each by a write, and added to a checksum; or one write
--- failed. Nothing else of the inbox changed.
+-- These pieces of a file were staged, each by a write; or one write failed. Nothing else of the
+-- inbox changed.
 pub record StagesAll {S : Type 0} (inbox : Inbox S) (stored : Stored) (id : TransactionId)
-    (pieces : List Piece) (sum sum_now : ℕ) (store store_now : S) : Type 0 where
+    (pieces : List Piece) (store store_now : S) : Type 0 where
   pub staged : stored ≡ Done → inbox.staged store_now id
       ≡ Some (staged_with (staged_for (inbox.staged store) id) pieces)
-  pub sums : stored ≡ Done → sum_now ≡ sum_with sum pieces
   pub writes : stored ≡ Done → MakesIn inbox (writes id pieces) store store_now
   pub fails : stored ≡ Refused → StopsAt (MakesIn inbox) id pieces [] store store_now
   pub files : inbox.published store_now ≡ inbox.published store

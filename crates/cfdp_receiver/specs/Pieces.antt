@@ -1,6 +1,6 @@
--- File data of which some octets are held already: the others, as pieces, and what they add.
+-- File data of which some octets are held already: the others, as pieces.
 use Rattle.std.specs.Prelude.{ℕ, ◌+◌, ◌-◌, List, length, take, drop, fold, map}
-use Rattle.cfdp_directives.specs.Pdu.Checksum.{Piece, added}
+use Rattle.cfdp_directives.specs.Pdu.Checksum.{Piece}
 use Rattle.cfdp_extents.specs.Offsets.{Offsets}
 use Rattle.cfdp_extents.specs.Terms.{gaps_of}
 use Rattle.cfdp_store.specs.Staged.{OctetMap, written}
@@ -26,7 +26,3 @@ with_piece m p = written m p.offset p.bytes
 -- what is staged once these pieces were written, in this order
 abbrev pub staged_with : OctetMap → List Piece → OctetMap
 staged_with m pieces = fold with_piece m pieces
-
--- a checksum with these pieces added
-abbrev pub sum_with : ℕ → List Piece → ℕ
-sum_with sum pieces = fold added sum pieces

@@ -1,6 +1,7 @@
 -- What every step of a receiver keeps, whatever its input and the inbox's answer: one step function
 -- of all inputs, and what is true of a receiver that heard only the truth of a put.
-use Rattle.std.specs.Prelude.{◌≡◌, ℕ, ◌+◌, ◌*◌, ◌%◌, ◌^◌, ◌<◌, ◌≤◌, ◌==◌, ◌||◌, ◌&&◌, not, is_some, Bool, true, false, List, [], ◌∷◌, length, Option, Some, None, IfSome, slice_get, count_by, if◌then◌else◌}
+use Rattle.std.specs.Prelude.{◌≡◌, ℕ, ◌+◌, ◌<◌, ◌≤◌, ◌==◌, ◌||◌, ◌&&◌, not, is_some, Bool, true, false, List, [], ◌∷◌, length, Option, Some, None, IfSome, slice_get, count_by, if◌then◌else◌}
+use Rattle.std.specs.List.{AllByRecursion}
 use Rattle.std.specs.FinMap as map
 use Rattle.std.specs.FinSet as set
 use Rattle.cfdp_header.specs.declared.value.TransactionId.{TransactionId}
@@ -16,7 +17,9 @@ use Rattle.cfdp_directives.specs.declared.user.telling.Outcome.{Outcome}
 use Rattle.cfdp_directives.specs.Pdu.Codes.{size_limit, no_error, file_checksum_failure, file_size_error, unsupported_checksum_type}
 use Rattle.cfdp_directives.specs.User.Completions.{completions, is_complete}
 use Rattle.cfdp_directives.specs.Pdu.Content.{Content, FileData, Metadata, Eof, Finished, Ack, Nak, Prompt, KeepAlive}
-use Rattle.cfdp_directives.specs.Pdu.Checksum.{weight, checksum_of}
+use Rattle.cfdp_directives.specs.declared.pdu.sums.Checksums.{Checksums}
+use Rattle.cfdp_directives.specs.Pdu.Checksum.{Piece, IsOf, covers, checksum_of}
+use Rattle.cfdp_directives.specs.Pdu.Sums.{AreSumsOf}
 use Rattle.cfdp_directives.specs.User.Policy.{finished_told}
 use Rattle.cfdp_directives.specs.User.Put.{Put, IsTruthful, SomePdu, IsMetadataOf, IsEofOf, Brings, HeardInFull}
 use Rattle.cfdp_extents.specs.Offsets.{Offsets, range}
@@ -31,7 +34,7 @@ use Rattle.cfdp_receiver.specs.declared.state.ReceiverPhase.TheVariants.{Receivi
 use Rattle.cfdp_receiver.specs.declared.state.FileInfo.{FileInfo}
 use Rattle.cfdp_receiver.specs.declared.state.Ending.{Ending}
 use Rattle.cfdp_receiver.specs.Does.{timers_set}
-use Rattle.cfdp_receiver.specs.State.{ReceiverState, opened_receiver, flagged, is_receiving, is_finishing}
+use Rattle.cfdp_receiver.specs.State.{ReceiverState, kind_told, opened_receiver, flagged, is_receiving, is_finishing}
 use Rattle.cfdp_receiver.specs.Missing.{missing_pairs, is_empty}
 use Rattle.cfdp_receiver.specs.Steps.{ReceiverAfter, leaving, complete, is_supported, hears_metadata, hears_data, hears_eof, hears_ack, hears_prompt, opens, takes, expires, cancels, suspends, resumes}
 
@@ -143,15 +146,19 @@ pub record Publishes (stored : Stored) (id : TransactionId) (phase : ReceiverPha
       completions own a.told ≡ completions own (finished_told id complete ∷ [])
 
 -- ---- of a receiver that hears the truth
--- what octets of a file from an offset on add to its checksum, those alone that are counted
-unfoldable pub sum_where : (ℕ → Bool) → ℕ → List ℕ → ℕ
-sum_where counts at [] = 0
-sum_where counts at (b ∷ bytes) =
-    (if counts at then b * weight at else 0) + sum_where counts (at + 1) bytes
+-- The pieces are what is held of a file, each octet of it once.
+pub record CutsHeld (held : Offsets) (file : List ℕ) (pieces : List Piece) : Type 0 where
+  pub parts : AllByRecursion (IsOf file) pieces
+  pub once : (n : ℕ) → n < length file
+      → count_by (covers n) pieces ≡ (if set.contains held n then 1 else 0)
 
--- the modular checksum of what is held of a file
-abbrev pub held_sum : Offsets → List ℕ → ℕ
-held_sum held file = sum_where (set.contains held) 0 file % 2 ^ 32
+-- What is kept for the checksum that is wanted, or for all of them, is what pieces leave that are
+-- what is held of the file.
+pub record SumsHeld (wanted : Option ℕ) (held : Offsets) (file : List ℕ) (sums : Checksums)
+    : Type 0 where
+  pub pieces : List Piece
+  pub cut : CutsHeld held file pieces
+  pub are : AreSumsOf wanted pieces sums
 
 -- The kept Metadata is the put's, and was heard.
 abbrev pub IsNameOf : Put → List (List ℕ) → FileInfo → Type 0
@@ -173,18 +180,18 @@ pub record HoldsOctet (put : Put) (heard : List (List ℕ)) (m : OctetMap) (n : 
   pub was_heard : SomePdu (Brings put n) heard
 
 -- What is kept of these is true of the put: its Metadata and EOF, and while the file comes in, each
--- octet that is held and the checksum of all that are.
+-- octet that is held and what is kept of all that are for the checksum.
 pub record KeepsTruth (put : Put) (heard : List (List ℕ)) (phase : ReceiverPhase)
-    (metadata : Option FileInfo) (ending : Option Ending) (held : Offsets) (checksum : ℕ)
+    (metadata : Option FileInfo) (ending : Option Ending) (held : Offsets) (sums : Checksums)
     (m : OctetMap) : Type 0 where
   pub name : IfSome metadata (IsNameOf put heard)
   pub end : IfSome ending (IsEndOf put heard)
   pub octets : phase ≡ Receiving → (n : ℕ) → set.contains held n ≡ true → HoldsOctet put heard m n
-  pub sum : phase ≡ Receiving → checksum ≡ held_sum held put.octets
+  pub sum : phase ≡ Receiving → SumsHeld (kind_told metadata) held put.octets sums
 
 -- What a receiver knows is true of the put, and was among the PDUs heard.
 abbrev pub Sound : Put → List (List ℕ) → ReceiverState → OctetMap → Type 0
-Sound put heard r m = KeepsTruth put heard r.phase r.metadata r.ending r.held r.checksum m
+Sound put heard r m = KeepsTruth put heard r.phase r.metadata r.ending r.held r.sums m
 
 -- What a PDU tells of the put is among what was heard.
 abbrev pub IsAmong : Put → List (List ℕ) → Content → Type 0

@@ -1,12 +1,14 @@
 -- What a receiver of one transaction keeps (CCSDS 727.0-B-5, 4.6.1.2 and 4.6.4).
-use Rattle.std.specs.Prelude.{◌≡◌, ◌||◌, ℕ, ◌<◌, ◌≤◌, Bool, true, false, Option, None, IfSome, IsSome}
+use Rattle.std.specs.Prelude.{◌≡◌, ◌||◌, ℕ, ◌<◌, ◌≤◌, Bool, true, false, Option, None, Some, IfSome, IsSome}
 use Rattle.std.specs.FinMap as map
 use Rattle.std.specs.FinSet as set
 use Rattle.cfdp_header.specs.declared.value.TransactionId.{TransactionId}
 use Rattle.cfdp_directives.specs.declared.pdu.addressing.Addressing.{Addressing}
 use Rattle.cfdp_directives.specs.declared.user.telling.Outcome.{Outcome}
 use Rattle.cfdp_directives.specs.Pdu.Addressing.{FitsAddressing}
+use Rattle.cfdp_directives.specs.declared.pdu.sums.Checksums.{Checksums}
 use Rattle.cfdp_directives.specs.Pdu.Codes.{size_limit}
+use Rattle.cfdp_directives.specs.Pdu.Sums.{nothing_summed}
 use Rattle.cfdp_directives.specs.declared.user.phase.Phase.{Phase}
 use Rattle.cfdp_directives.specs.declared.user.phase.Phase.TheVariants as phase
 use Rattle.cfdp_extents.specs.Offsets.{Offsets}
@@ -26,9 +28,9 @@ pub record ReceiverState : Type 0 where
   -- what the first Metadata said, and the first EOF without an error
   pub metadata : Option FileInfo
   pub ending : Option Ending
-  -- the offsets held, and the sum of their octets
+  -- the offsets held, and what is kept of their octets for the file's checksum
   pub held : Offsets
-  pub checksum : ℕ
+  pub sums : Checksums
   -- whether an ACK of EOF is due, and with which condition: that of the EOF heard last
   pub ack_due : Option ℕ
   -- whether a NAK is due, and from which offset on
@@ -42,6 +44,11 @@ pub record ReceiverState : Type 0 where
   pub nak_count : ℕ
   pub finished_count : ℕ
 
+-- the checksum type of the file, once Metadata told it
+abbrev pub kind_told : Option FileInfo → Option ℕ
+kind_told (Some info) = Some info.checksum_kind
+kind_told None = None
+
 -- a receiver that has heard nothing yet
 abbrev pub opened_receiver : Addressing → ReceiverState
 opened_receiver addressing = record {
@@ -52,7 +59,7 @@ opened_receiver addressing = record {
   metadata = None;
   ending = None;
   held = set.empty;
-  checksum = 0;
+  sums = nothing_summed;
   ack_due = None;
   nak_cursor = None;
   keep_alive_due = false;

@@ -15,7 +15,9 @@ use Rattle.cfdp_directives.specs.declared.user.indication.Indication.{Indication
 use Rattle.cfdp_directives.specs.declared.user.indication.Indication.TheVariants as indication
 use Rattle.cfdp_directives.specs.declared.user.policy.Policy.{Policy}
 use Rattle.cfdp_directives.specs.declared.user.telling.Outcome.{Outcome}
-use Rattle.cfdp_directives.specs.Pdu.Codes.{size_limit, no_error, positive_ack_limit, filestore_rejection, file_checksum_failure, file_size_error, nak_limit, inactivity, unsupported_checksum_type, suspend_request, cancel_request, modular, null}
+use Rattle.cfdp_directives.specs.Pdu.Codes.{size_limit, no_error, positive_ack_limit, filestore_rejection, file_checksum_failure, file_size_error, nak_limit, inactivity, unsupported_checksum_type, suspend_request, cancel_request, null, is_known}
+use Rattle.cfdp_directives.specs.declared.pdu.sums.Checksums.{Checksums}
+use Rattle.cfdp_directives.specs.Pdu.Sums.{nothing_summed, all_summed, sum_told}
 use Rattle.cfdp_directives.specs.User.Policy.{another_try, finished_told, fault_told}
 use Rattle.cfdp_extents.specs.Offsets.{range}
 use Rattle.cfdp_extents.specs.Terms.{end_of}
@@ -30,10 +32,10 @@ use Rattle.cfdp_receiver.specs.declared.state.ReceiverPhase.{ReceiverPhase}
 use Rattle.cfdp_receiver.specs.declared.state.ReceiverPhase.TheVariants.{Receiving, Finishing, Closed}
 use Rattle.cfdp_receiver.specs.declared.state.FileInfo.{FileInfo}
 use Rattle.cfdp_receiver.specs.declared.state.Ending.{Ending}
-use Rattle.cfdp_receiver.specs.State.{ReceiverState, opened_receiver, flagged, is_receiving, is_finishing}
+use Rattle.cfdp_receiver.specs.State.{ReceiverState, kind_told, opened_receiver, flagged, is_receiving, is_finishing}
 use Rattle.cfdp_receiver.specs.Missing.{tidied}
 use Rattle.cfdp_receiver.specs.Due.{receiver_taken}
-use Rattle.cfdp_receiver.specs.Pieces.{new_pieces, staged_with, sum_with}
+use Rattle.cfdp_receiver.specs.Pieces.{new_pieces, staged_with}
 
 -- What a step leaves: the receiver, what it indicated, the timer that it armed anew, if it waits
 -- for it, what is staged while it receives, and the published files.
@@ -68,7 +70,7 @@ ended phase r = record r {
   phase = phase;
   suspended = false;
   held = set.empty;
-  checksum = 0;
+  sums = nothing_summed;
   nak_cursor = None;
   keep_alive_due = false;
   finished_due = false;
@@ -106,8 +108,9 @@ faulted condition m files r =
 
 -- ---- the completion test
 -- whether the checksum agrees: the null checksum isn't compared
-abbrev pub agrees : FileInfo → Ending → ℕ → Bool
-agrees info ending sum = not (info.checksum_kind == modular) || (sum == ending.checksum)
+abbrev pub agrees : FileInfo → Ending → Checksums → Bool
+agrees info ending sums =
+    (info.checksum_kind == null) || (sum_told info.checksum_kind sums == ending.checksum)
 
 -- the file is published, and that it is complete is indicated in the same step
 abbrev pub published_by : Stored → FileInfo → Ending →
@@ -120,7 +123,7 @@ abbrev pub completed_by : Stored → Option FileInfo → Option Ending →
     OctetMap → FileMap → ReceiverState → ReceiverAfter
 completed_by stored (Some info) (Some ending) m files r =
     if set.is_subset (range 0 ending.size) r.held then
-    (if agrees info ending r.checksum then published_by stored info ending m files r
+    (if agrees info ending r.sums then published_by stored info ending m files r
     else faulted file_checksum_failure m files r)
     else leaving m files r
 completed_by stored (Some info) None m files r = leaving m files r
@@ -133,7 +136,7 @@ completed stored m files r = completed_by stored r.metadata r.ending m files r
 -- ---- what is heard while it receives
 -- whether a checksum of this kind can be made
 abbrev pub is_supported : ℕ → Bool
-is_supported checksum_kind = (checksum_kind == modular) || (checksum_kind == null)
+is_supported checksum_kind = is_known checksum_kind
 
 -- the first Metadata; others say nothing
 abbrev pub receives_metadata : Stored → (checksum_kind size : ℕ) → (source destination : List ℕ) →
@@ -152,11 +155,12 @@ abbrev pub exceeds : Bool → Option Ending → ℕ → Bool
 exceeds large (Some ending) end = nat_lt ending.size end || nat_lt (size_limit large) end
 exceeds large None end = nat_lt (size_limit large) end
 
--- with octets from an offset on: those that weren't held are summed and held, and some were new
+-- with octets from an offset on: those that weren't held are summed, for the checksum type that
+-- Metadata told or for all of them, and held, and some were new
 abbrev pub with_data : ℕ → List ℕ → ReceiverState → ReceiverState
 with_data offset bytes r = record r {
   held = set.union r.held (range offset (offset + length bytes));
-  checksum = sum_with r.checksum (new_pieces r.held offset bytes);
+  sums = all_summed (kind_told r.metadata) r.sums (new_pieces r.held offset bytes);
   nak_count = 0;
 }
 

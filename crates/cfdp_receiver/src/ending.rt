@@ -11,7 +11,7 @@ ghost use Rattle.cfdp_receiver.specs.Does.{Advances, IsOpen, LetsGo, Performs, t
 use crate::receiver::Receiver;
 use crate::state::{Ending, FileInfo, ReceiverPhase};
 use cfdp_directives::{
-    Checksum, ChecksumKind, Condition, Delivery, FileStatus, Handler, Indication, Outcome,
+    ChecksumKind, Checksums, Condition, Delivery, FileStatus, Handler, Indication, Outcome,
     indicate, indicate_fault,
 };
 use cfdp_header::TransactionId;
@@ -28,7 +28,7 @@ impl Receiver {
         self.phase = phase;
         self.suspended = false;
         self.held.clear();
-        self.checksum = Checksum::new();
+        self.sums = Checksums::new();
         self.nak_cursor = None;
         self.keep_alive_due = false;
         self.finished_due = false;
@@ -111,7 +111,7 @@ impl Receiver {
         if !self.held.covers(0, ending.size) {
             return Stored::Done;
         }
-        if !agrees(info, &ending, self.checksum.value()) {
+        if !agrees(info, &ending, &self.sums) {
             self.fault(&mut effects.told, inbox, Condition::FILE_CHECKSUM_FAILURE);
             return Stored::Done;
         }
@@ -132,10 +132,11 @@ impl Receiver {
 }
 
 /// Whether the checksum of the held octets agrees with the EOF's. The null checksum isn't compared.
-fn agrees(info: &FileInfo, ending: &Ending, sum: u32) -> bool
-    ensures { result ≡ steps.agrees info.now ending.now sum }
+fn agrees(info: &FileInfo, ending: &Ending, sums: &Checksums) -> bool
+    ensures { result ≡ steps.agrees info.now ending.now sums.now }
 {
-    info.checksum_kind != ChecksumKind::MODULAR || sum == ending.checksum
+    let kind = info.checksum_kind;
+    kind == ChecksumKind::NULL || sums.value(kind) == ending.checksum
 }
 
 /// What becomes of the file of a transaction that fails with this condition.

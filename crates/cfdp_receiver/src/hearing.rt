@@ -80,7 +80,7 @@ impl Receiver {
             destination: name,
         });
         self.nak_count = 0;
-        if is_supported(metadata.checksum_kind) {
+        if metadata.checksum_kind.is_known() {
             return Ok(self.complete(effects, inbox));
         }
         let told = &mut effects.told;
@@ -188,19 +188,12 @@ impl Receiver {
             (new_pieces self.old.held offset bytes.now)) inbox.old inbox.new) }
     {
         let end = offset + bytes.len() as u64;
-        let mut checksum = self.checksum;
         let gaps = self.held.missing_in(offset, end);
-        match stage(
-            inbox,
-            self.addressing.id,
-            &mut checksum,
-            gaps,
-            offset,
-            bytes,
-        ) {
+        match stage(inbox, self.addressing.id, gaps, offset, bytes) {
             Stored::Done => {
+                let sums = self.sums_with(offset, bytes);
                 self.held.insert(offset, end)?;
-                self.checksum = checksum;
+                self.sums = sums;
                 self.nak_count = 0;
                 Ok(self.complete(effects, inbox))
             }
@@ -439,13 +432,6 @@ impl Receiver {
         self.tidy();
         self.set_timers(timers, policy, Some(Kind::Inactivity));
     }
-}
-
-/// Whether checksums of this kind can be made.
-fn is_supported(kind: ChecksumKind) -> bool
-    ensures { result ≡ steps.is_supported kind }
-{
-    kind == ChecksumKind::MODULAR || kind == ChecksumKind::NULL
 }
 
 /// Whether file data of so many octets, from an offset on, end behind the EOF's size, where one was

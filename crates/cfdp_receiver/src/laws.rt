@@ -14,7 +14,8 @@ ghost use Rattle.cfdp_header.specs.Ids.{same_id};
 ghost use Rattle.cfdp_directives.specs.declared.pdu.addressing.Addressing.{Addressing};
 ghost use Rattle.cfdp_directives.specs.declared.user.limits.Times.{Times};
 ghost use Rattle.cfdp_directives.specs.declared.user.telling.Outcome.{Outcome};
-ghost use Rattle.cfdp_directives.specs.Pdu.Checksum.{modular_checksum};
+ghost use Rattle.cfdp_directives.specs.Pdu.Checksum.{checksum_of};
+ghost use Rattle.cfdp_directives.specs.Pdu.Sums.{sum_told};
 ghost use Rattle.cfdp_directives.specs.Pdu.Codes.{filestore_rejection};
 ghost use Rattle.cfdp_directives.specs.User.Completions.{is_finished};
 ghost use Rattle.cfdp_directives.specs.Pdu.Content.{Content};
@@ -42,7 +43,7 @@ ghost use Rattle.cfdp_receiver.specs.Sound.{PublishesPut, is_file_fault, IsRecei
 ghost use Rattle.cfdp_receiver.specs.Sound.{is_tidy, owes_finished, is_bad_end, goes_well};
 ghost use Rattle.cfdp_receiver.specs.Alike.{PublishesAlike};
 
-use cfdp_directives::whole_file_has_its_checksum;
+use cfdp_directives::cut_file_has_its_checksum;
 use cfdp_extents::{
     a_set_is_what_it_holds, the_end_is_one_past_the_last, the_gaps_are_those_ranges,
 };
@@ -286,7 +287,8 @@ pub fn what_is_heard_true_is_kept_true()
 {
     a_set_is_what_it_holds();
     the_end_is_one_past_the_last();
-    whole_file_has_its_checksum();
+    the_gaps_are_those_ranges();
+    cut_file_has_its_checksum();
     octets_held_keep_their_value();
 }
 
@@ -317,7 +319,8 @@ pub fn a_completion_publishes_the_put()
 {
     a_set_is_what_it_holds();
     the_end_is_one_past_the_last();
-    whole_file_has_its_checksum();
+    the_gaps_are_those_ranges();
+    cut_file_has_its_checksum();
     octets_held_keep_their_value();
 }
 
@@ -328,7 +331,7 @@ pub fn a_true_file_raises_no_fault()
     ensures sum { (put : Put) (heard : List (List ℕ)) (r : ReceiverState) (m : OctetMap) →
         Sound put heard r m → r.phase ≡ Receiving
         → ((n : ℕ) → n < length put.octets → set.contains r.held n ≡ true)
-        → r.checksum ≡ modular_checksum put.octets }
+        → sum_told put.checksum_kind r.sums ≡ checksum_of put.checksum_kind put.octets }
     ensures none { (put : Put) (heard : List (List ℕ)) (stored : Stored) (input : ReceiverInput)
         (m : OctetMap) (files : FileMap) (r : ReceiverState) →
         IsReceivable put → IsTrueInput put heard input → BeginsWithin put input
@@ -337,6 +340,7 @@ pub fn a_true_file_raises_no_fault()
 {
     a_set_is_what_it_holds();
     the_end_is_one_past_the_last();
-    whole_file_has_its_checksum();
+    the_gaps_are_those_ranges();
+    cut_file_has_its_checksum();
     octets_held_keep_their_value();
 }

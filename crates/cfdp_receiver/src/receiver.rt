@@ -9,7 +9,9 @@ ghost use Rattle.cfdp_receiver.specs.Steps as steps;
 ghost use Rattle.cfdp_receiver.specs.Does.{timers_set};
 
 use crate::state::{Ending, FileInfo, ReceiverPhase};
-use cfdp_directives::{Addressing, Checksum, Condition, Indication, Outcome, Phase, Policy};
+use cfdp_directives::{
+    Addressing, ChecksumKind, Checksums, Condition, Indication, Outcome, Phase, Policy,
+};
 use cfdp_extents::Extents;
 use cfdp_header::TransactionId;
 use cfdp_store::{Inbox, Stored};
@@ -19,8 +21,8 @@ use std::marker::Model;
 
 /// The receiving side of one transaction (CCSDS 727.0-B-5, 4.6.1.2 and 4.6.4).
 ///
-/// It keeps which octets of the file are held, and their checksum, but no octets: those are staged
-/// in the inbox that each call is lent. The caller lends the same inbox and the same effects each
+/// It keeps which octets of the file are held, and what their checksum needs, but no octets: those
+/// are staged in the inbox that each call is lent. The caller lends the same inbox and the same effects each
 /// time, makes room for three more indications before a call, and sends what is due.
 #[derive(Debug, Drop)]
 pub struct Receiver {
@@ -33,8 +35,8 @@ pub struct Receiver {
     pub(crate) metadata: Option<FileInfo>,
     pub(crate) ending: Option<Ending>,
     pub(crate) held: Extents,
-    // Of the octets held.
-    pub(crate) checksum: Checksum,
+    // Of the octets held: for all checksum types, until Metadata tells which one it is.
+    pub(crate) sums: Checksums,
     // The condition of the EOF heard last, while its ACK is due.
     pub(crate) ack_due: Option<Condition>,
     // From which offset on a NAK is due.
@@ -65,7 +67,7 @@ impl Model for Receiver {
       metadata = r.metadata;
       ending = r.ending;
       held = r.held;
-      checksum = r.checksum;
+      sums = r.sums;
       ack_due = r.ack_due;
       nak_cursor = r.nak_cursor;
       keep_alive_due = r.keep_alive_due;
@@ -96,7 +98,7 @@ impl Receiver {
             metadata: None,
             ending: None,
             held: Extents::new(alloc),
-            checksum: Checksum::new(),
+            sums: Checksums::new(),
             ack_due: None,
             nak_cursor: None,
             keep_alive_due: false,
@@ -140,6 +142,16 @@ impl Receiver {
         ensures receiving { result ≡ true → self.now.phase ≡ ReceiverPhase.Receiving }
     {
         self.suspended
+    }
+
+    /// The checksum type of the file, once Metadata told it.
+    pub(crate) fn checksum_kind(&self) -> Option<ChecksumKind>
+        ensures { result ≡ states.kind_told self.now.metadata }
+    {
+        match &self.metadata {
+            Some(info) => Some(info.checksum_kind),
+            None => None,
+        }
     }
 
     /// Whether the receiver waits for a timer.

@@ -1,11 +1,14 @@
-// File data on its way into the inbox.
+// File data on its way into the inbox, and into the checksum.
 ghost use Rattle.std.specs.Prelude.{◌≡◌, [], ◌∷◌, ◌+◌, ◌-◌, ◌<◌, ◌^◌, IsSome, length, take, drop};
 ghost use Rattle.std.specs.List.{All};
 ghost use Rattle.cfdp_extents.specs.Offsets.{LiesIn};
-ghost use Rattle.cfdp_receiver.specs.Pieces.{pieces_in};
+ghost use Rattle.cfdp_directives.specs.Pdu.Sums.{all_summed};
+ghost use Rattle.cfdp_receiver.specs.Pieces.{pieces_in, new_pieces};
+ghost use Rattle.cfdp_receiver.specs.State.{kind_told};
 ghost use Rattle.cfdp_receiver.specs.Does.{StagesAll};
 
-use cfdp_directives::Checksum;
+use crate::receiver::Receiver;
+use cfdp_directives::{ChecksumKind, Checksums};
 use cfdp_extents::Gaps;
 use cfdp_header::TransactionId;
 use cfdp_store::{Inbox, Stored};
@@ -21,33 +24,22 @@ fn piece(offset: u64, bytes: &[u8], start: u64, end: u64) -> &[u8]
     piece
 }
 
-/// Stages a piece of file data, and adds it to a checksum.
-fn stage_piece<I: Inbox>(
-    inbox: &mut I,
-    id: TransactionId,
-    checksum: &mut Checksum,
-    start: u64,
-    piece: &[u8],
-) -> Stored
+/// Stages a piece of file data.
+fn stage_piece<I: Inbox>(inbox: &mut I, id: TransactionId, start: u64, piece: &[u8]) -> Stored
     requires begun { IsSome (I.staged inbox.old id) }
     ensures { StagesAll I.Inbox result id (record { offset = start; bytes = piece.now } ∷ [])
-        checksum.old checksum.new inbox.old inbox.new }
+        inbox.old inbox.new }
 {
     match inbox.write(id, start, piece) {
-        Ok(()) => {
-            checksum.add(start, piece);
-            Stored::Done
-        }
+        Ok(()) => Stored::Done,
         Err(_) => Stored::Refused,
     }
 }
 
-/// Stages those octets of file data that lie in gaps, by a write for each gap, and adds them to a
-/// checksum.
+/// Stages those octets of file data that lie in gaps, by a write for each gap.
 pub(crate) fn stage<I: Inbox>(
     inbox: &mut I,
     id: TransactionId,
-    checksum: &mut Checksum,
     gaps: Gaps<'_>,
     offset: u64,
     bytes: &[u8],
@@ -56,14 +48,48 @@ pub(crate) fn stage<I: Inbox>(
     requires fits { offset + length bytes.now < 2 ^ 64 }
     requires inside { All (LiesIn offset (offset + length bytes.now)) gaps }
     ensures { StagesAll I.Inbox result id (pieces_in offset bytes.now gaps.entry)
-        checksum.old checksum.new inbox.old inbox.new }
+        inbox.old inbox.new }
 {
     for (start, end) in gaps {
         let piece = piece(offset, bytes, start, end);
-        match stage_piece(inbox, id, checksum, start, piece) {
+        match stage_piece(inbox, id, start, piece) {
             Stored::Done => {}
             Stored::Refused => return Stored::Refused,
         }
     }
     Stored::Done
+}
+
+impl Receiver {
+    /// What is kept for the checksum, once those octets of file data came that aren't held.
+    pub(crate) fn sums_with(&self, offset: u64, bytes: &[u8]) -> Checksums
+        requires fits { offset + length bytes.now < 2 ^ 64 }
+        ensures { result ≡ all_summed (kind_told self.now.metadata) self.now.sums
+            (new_pieces self.now.held offset bytes.now) }
+    {
+        let end = offset + bytes.len() as u64;
+        let gaps = self.held.missing_in(offset, end);
+        let wanted = self.checksum_kind();
+        sums_of_gaps(self.sums, &wanted, gaps, offset, bytes)
+    }
+}
+
+/// What is kept for the checksum that is wanted, or for all of them, with those octets of file data
+/// that lie in gaps.
+fn sums_of_gaps(
+    before: Checksums,
+    wanted: &Option<ChecksumKind>,
+    gaps: Gaps<'_>,
+    offset: u64,
+    bytes: &[u8],
+) -> Checksums
+    requires fits { offset + length bytes.now < 2 ^ 64 }
+    requires inside { All (LiesIn offset (offset + length bytes.now)) gaps }
+    ensures { result ≡ all_summed wanted.now before (pieces_in offset bytes.now gaps.entry) }
+{
+    let mut sums = before;
+    for (start, end) in gaps {
+        sums.add(*wanted, start, piece(offset, bytes, start, end));
+    }
+    sums
 }

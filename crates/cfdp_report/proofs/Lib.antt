@@ -2,6 +2,7 @@ pub mod Numbers
 pub mod Numerals
 pub mod AskedRanges
 pub mod HexNumbers
+pub mod FieldTexts
 pub mod TextLines
 pub mod ToldOptions
 pub mod Traces

@@ -1,5 +1,5 @@
 -- Lines that are written, one for each of what is told.
-use Rattle.std.proofs.Common.{ℕ, List, [], ◌∷◌, ◌++◌, Option, Result, Ok, Err, sym, subst}
+use Rattle.std.proofs.Common.{◌≡◌, ◌∙◌, ap, ℕ, List, [], ◌∷◌, ◌++◌, Option, Result, Ok, Err, sym, subst}
 use Rattle.std.proofs.lemmas.List.{append_assoc}
 use Rattle.std.specs.List.{AllZip, flat_map}
 use Rattle.std.specs.Result.{OnOk}
@@ -60,6 +60,16 @@ pub line_is_written : {E : Type 0} (P : List ℕ → Type 0) (r : Result (Unit {
     OnOk r (WritesLine P old new)
 line_is_written P (Ok x) text old new such written = record { text = text; such = such; written = written }
 line_is_written P (Err e) text old new such written = tt
+
+-- the same where an end stands behind the text
+pub line_with_end : {E : Type 0} (P : List ℕ → Type 0) (r : Result (Unit {0}) E) (text end said : List ℕ) (old new : Option (List ℕ))
+    → P (text ++ end) → said ≡ end → OnOk r (Appends old new (text ++ (said ++ 10 ∷ []))) → OnOk r (WritesLine P old new)
+line_with_end P (Ok x) text end said old new such same written = record {
+  text = text ++ end;
+  such = such;
+  written = subst (Appends old new) (ap (λ e. text ++ (e ++ 10 ∷ [])) same ∙ sym (append_assoc text end (10 ∷ []))) written;
+}
+line_with_end P (Err e) text end said old new such same written = tt
 
 -- a line whose front was written before
 pub line_behind : {E : Type 0} (P : List ℕ → Type 0) (Q : List ℕ → Type 0) (r : Result (Unit {0}) E) (front : List ℕ) (old mid new : Option (List ℕ))

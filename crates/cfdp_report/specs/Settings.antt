@@ -9,6 +9,7 @@ use Rattle.cfdp_directives.specs.declared.user.limits.Times.{Times}
 use Rattle.cfdp_directives.specs.declared.user.policy.Policy.{Policy}
 use Rattle.cfdp_entity.specs.declared.config.EntityConfig.{EntityConfig}
 use Rattle.cfdp_station.specs.declared.config.StationConfig.{StationConfig}
+use Rattle.frame_fields.specs.Fields.{no_fields}
 use Rattle.aos_frame.specs.declared.config.LinkConfig.{LinkConfig}
 use Rattle.link_sim.specs.Stations as sides
 use Rattle.link_sim.specs.declared.side.Side.{Side}
@@ -137,6 +138,7 @@ link_of One zone = record {
   data_virtual_channel = 7;
   zone = zone;
   apid = 100;
+  fields = no_fields;
 }
 link_of Two zone = record {
   spacecraft = 42;
@@ -144,6 +146,7 @@ link_of Two zone = record {
   data_virtual_channel = 8;
   zone = zone;
   apid = 101;
+  fields = no_fields;
 }
 
 -- a station receives the frames that the other sends

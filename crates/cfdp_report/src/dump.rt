@@ -3,11 +3,16 @@ ghost use Rattle.std.specs.Prelude.{◌≡◌, ◌≢◌, drop, IfOk, OnOk, Some
 ghost use Rattle.std.specs.Result.{result_err};
 ghost use Rattle.aos_frame.specs.Frame.{SpellsFrame, frame_fault, own_channel};
 ghost use Rattle.mpdu.specs.MpduHeader.{pointer_of};
-ghost use Rattle.cfdp_report.specs.Dump.Lines.{TellsAsFrame, TellsAsPdu, WritesLine};
+ghost use Rattle.cfdp_report.specs.Dump.Lines.{WritesLine};
+ghost use Rattle.cfdp_report.specs.Dump.Told.{TellsAsFrame, TellsAsPdu};
 
+mod field;
+mod fields;
+pub mod form;
 pub mod line;
 pub mod refusal;
 
+use crate::dump::form::DumpForm;
 use crate::dump::line::{DumpedFrame, DumpedPdu, FrameLine};
 use crate::dump::refusal::{FrameRefusal, Refusal};
 use aos_frame::{FrameError, FrameHeader};
@@ -16,8 +21,8 @@ use std::io;
 use std::io::Write;
 
 /// Writes which PDU the octets are, or why they are none.
-pub fn write_pdu<W: Write>(octets: &[u8], long: bool, out: &mut W) -> io::Result<()>
-    ensures { OnOk result (WritesLine (TellsAsPdu long octets.now)
+pub fn write_pdu<W: Write>(octets: &[u8], form: DumpForm, out: &mut W) -> io::Result<()>
+    ensures { OnOk result (WritesLine (TellsAsPdu form octets.now)
         (W.contents out.old) (W.contents out.new)) }
 {
     match cfdp_directives::decode(octets) {
@@ -27,29 +32,30 @@ pub fn write_pdu<W: Write>(octets: &[u8], long: bool, out: &mut W) -> io::Result
             DumpedPdu {
                 header,
                 pdu: &pdu,
-                long
+                octets,
+                form
             }
         ),
-        Err(error) => writeln!(out, "{}", Refusal::Pdu(error)),
+        Err(error) => writeln!(out, "{}{}", Refusal::Pdu(error), form.end()),
     }
 }
 
 /// Writes which frame the octets are, or why they are none.
-pub fn write_frame<W: Write>(octets: &[u8], zone: u16, long: bool, out: &mut W) -> io::Result<()>
-    ensures { OnOk result (WritesLine (TellsAsFrame long zone octets.now)
+pub fn write_frame<W: Write>(
+    octets: &[u8],
+    zone: u16,
+    form: DumpForm,
+    out: &mut W,
+) -> io::Result<()>
+    ensures { OnOk result (WritesLine (TellsAsFrame form zone octets.now)
         (W.contents out.old) (W.contents out.new)) }
 {
     match read_frame(octets, zone) {
-        Ok(frame) => writeln!(out, "{}", DumpedFrame { frame, long }),
-        Err(error) => writeln!(
-            out,
-            "{}",
-            FrameRefusal {
-                error,
-                zone,
-                count: octets.len()
-            }
-        ),
+        Ok(frame) => writeln!(out, "{}", DumpedFrame { frame, zone, form }),
+        Err(error) => {
+            let count = octets.len();
+            writeln!(out, "{}{}", FrameRefusal { error, zone, count }, form.end())
+        }
     }
 }
 

@@ -16,6 +16,7 @@ mod settings;
 mod watch;
 
 pub use cause::cause_text;
+pub use dump::form::DumpForm;
 pub use dump::line::HexNumber;
 pub use dump::refusal::Refusal;
 pub use dump::{write_frame, write_pdu};

@@ -3,6 +3,7 @@ ghost use Rattle.std.specs.Prelude.{◌≡◌};
 
 use crate::report::name::Name;
 use crate::settings::table::{Keys, Setting};
+use link_sim::Side;
 use std::fmt;
 
 /// A bad line of a script, by its number. The first line is 1.
@@ -156,6 +157,8 @@ pub enum LineError {
     BadOctet,
     /// `set`, `file` or `fill` stands behind another command.
     TooLate,
+    /// A line before gave this station a file of the same name. This is its number.
+    GivenAgain { at: Side, line: usize },
     /// The last `set` leaves a setting out of its range. This is the line that set that one.
     OutOfRange { setting: Setting, line: usize },
     /// The last `set` leaves a configuration that isn't valid.
@@ -190,6 +193,13 @@ impl fmt::Display for LineError {
             LineError::FileTooLong => f.write_str("a file to fill has at most 1,048,576 octets"),
             LineError::BadOctet => f.write_str("an octet is two hexadecimal digits, as 0A"),
             LineError::TooLate => f.write_str("set, file and fill stand before all other commands"),
+            LineError::GivenAgain { at, line } => {
+                let station = at.entity();
+                write!(
+                    f,
+                    "station {station} was given a file of this name before, in line {line}"
+                )
+            }
             LineError::OutOfRange { setting, line } => {
                 let (key, range) = (setting.key(), setting.range());
                 write!(f, "{key}, set in line {line}, is out of its range, {range}")

@@ -11,7 +11,7 @@ pub mod table;
 use crate::settings::table::{Setting, TABLE};
 use cfdp_directives::{ChecksumKind, Handler, Handlers, Limits, Policy, Times};
 use cfdp_entity::EntityConfig;
-use cfdp_station::{LinkConfig, StationConfig};
+use cfdp_station::{FrameFields, LinkConfig, StationConfig};
 use link_sim::{Side, WorldConfig};
 use valid_config::{Config, Valid};
 
@@ -266,5 +266,6 @@ fn link(side: Side, zone: u16) -> LinkConfig
         data_virtual_channel,
         zone,
         apid,
+        fields: FrameFields::NONE,
     }
 }

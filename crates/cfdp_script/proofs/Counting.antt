@@ -388,7 +388,7 @@ lacks-puts error e a b ends = (let lacks = for_memory error (WantsMemory e × Fi
 
 once-puts : (e : Event) (answer : Option Answer) (a b : WorldState) → IsNoPut e → HappensOnce e answer a b → length b.puts ≡ length a.puts + 0
 once-puts e None a b is step = event-puts e did.Applied a b is step
-once-puts e (Some Nothing) a b is step = event-puts e did.Nothing a b is step
+once-puts e (Some (Nothing after)) a b is step = event-puts e did.Nothing a b is step.1
 once-puts e (Some (Refused by)) a b is step = event-puts e (did.Refused by) a b is step
 once-puts e (Some (Ended error)) a b is ends = lacks-puts error e a b ends
 
@@ -398,7 +398,7 @@ times-puts e (suc count) a b is h = (let first = times-puts e count a h.0 is h.1
 
 often-puts : (e : Event) (count : ℕ) (answer : Option Answer) (a b : WorldState) → IsNoPut e → HappensOften e count answer a b → length b.puts ≡ length a.puts + 0
 often-puts e count None a b is all = times-puts e count a b is all
-often-puts e count (Some answer) a b is h = (let first = times-puts e h.0 a h.2 is h.3 in let last = once-puts e (Some answer) h.2 b is h.4 in omega (arith, first, last))
+often-puts e count (Some answer) a b is h = (let first = times-puts e h.0 a h.2 is h.3 in let last = once-puts e (Some h.4) h.2 b is h.6 in omega (arith, first, last))
 
 fate-no-put : (fate : Fate) (s : Side) (lane : Lane) → IsNoPut (befalls fate s lane)
 fate-no-put Arrives s lane = tt
@@ -413,12 +413,12 @@ firsts-puts fate s (suc count) a b h = (let first = firsts-puts fate s count a h
 
 often-first : (fate : Fate) (s : Side) (count : ℕ) (answer : Option Answer) (a b : WorldState) → HappensToFirsts fate s count answer a b → length b.puts ≡ length a.puts + 0
 often-first fate s count None a b all = firsts-puts fate s count a b all
-often-first fate s count (Some answer) a b h = (let first = firsts-puts fate s h.0 a h.2 h.3 in let last = first-puts fate s (Some answer) h.2 b h.4 in omega (arith, first, last))
+often-first fate s count (Some answer) a b h = (let first = firsts-puts fate s h.0 a h.2 h.3 in let last = first-puts fate s (Some h.4) h.2 b h.6 in omega (arith, first, last))
 
 done-puts : (answer : Option Answer) (a b : WorldState) (Done : Type 0) (Ends : RecoverError → Type 0) → IsDone answer Done Ends → (Done → Many (GoesBy IsNoPut) a b) →
     ((error : RecoverError) → Ends error → Many (GoesBy IsNoPut) a b) → length b.puts ≡ length a.puts + 0
 done-puts None a b Done Ends h done ended = same-puts a b (row-puts a b (done h))
-done-puts (Some Nothing) a b Done Ends h done ended = absurd h
+done-puts (Some (Nothing after)) a b Done Ends h done ended = absurd h
 done-puts (Some (Refused by)) a b Done Ends h done ended = absurd h
 done-puts (Some (Ended error)) a b Done Ends h done ended = same-puts a b (row-puts a b (ended error h))
 

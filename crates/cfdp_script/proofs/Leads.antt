@@ -39,7 +39,7 @@ for_memory StillArmed P so = absurd so
 
 once_leads : (e : Event) (answer : Option Answer) (a b : WorldState) → HappensOnce e answer a b → Led a b
 once_leads e None a b step = one_event e did.Applied a b step
-once_leads e (Some Nothing) a b step = one_event e did.Nothing a b step
+once_leads e (Some (Nothing after)) a b step = one_event e did.Nothing a b step.1
 once_leads e (Some (Refused by)) a b step = one_event e (did.Refused by) a b step
 once_leads e (Some (Ended error)) a b ends =
     let lacks = for_memory error (WantsMemory e × FindsNoMemory (side_in e) a b) ends in
@@ -50,7 +50,7 @@ so_often e count a b all = many-times Called (Steps e did.Applied) (λ x y step.
 
 often_leads : (e : Event) (count : ℕ) (answer : Option Answer) (a b : WorldState) → HappensOften e count answer a b → Led a b
 often_leads e count None a b all = so_often e count a b all
-often_leads e count (Some answer) a b h = many-both Called a h.2 b (so_often e h.0 a h.2 h.3) (once_leads e (Some answer) h.2 b h.4)
+often_leads e count (Some answer) a b h = many-both Called a h.2 b (so_often e h.0 a h.2 h.3) (once_leads e (Some h.4) h.2 b h.6)
 
 -- what befalls the frame sent first
 first_leads : (fate : Fate) (s : Side) (answer : Option Answer) (a b : WorldState) → HappensToFirst fate s answer a b → Led a b
@@ -61,13 +61,13 @@ firsts_lead fate s count a b all = many-times Called (HappensToFirst fate s None
 
 often_first : (fate : Fate) (s : Side) (count : ℕ) (answer : Option Answer) (a b : WorldState) → HappensToFirsts fate s count answer a b → Led a b
 often_first fate s count None a b all = firsts_lead fate s count a b all
-often_first fate s count (Some answer) a b h = many-both Called a h.2 b (firsts_lead fate s h.0 a h.2 h.3) (first_leads fate s (Some answer) h.2 b h.4)
+often_first fate s count (Some answer) a b h = many-both Called a h.2 b (firsts_lead fate s h.0 a h.2 h.3) (first_leads fate s (Some h.4) h.2 b h.6)
 
 -- all was done, or an error ended it before
 done_leads : (answer : Option Answer) (a b : WorldState) (Done : Type 0) (Ends : RecoverError → Type 0) → IsDone answer Done Ends → (Done → Called a b) →
     ((error : RecoverError) → Ends error → Called a b) → Led a b
 done_leads None a b Done Ends h done ended = one_call a b (done h)
-done_leads (Some Nothing) a b Done Ends h done ended = absurd h
+done_leads (Some (Nothing after)) a b Done Ends h done ended = absurd h
 done_leads (Some (Refused by)) a b Done Ends h done ended = absurd h
 done_leads (Some (Ended error)) a b Done Ends h done ended = one_call a b (ended error h)
 

@@ -1,10 +1,12 @@
 -- What the program's `dump` prints.
 use Rattle.std.specs.List.{flat_map}
-use Rattle.std.specs.Prelude.{◌≡◌, ℕ, ◌<◌, ◌≤◌, ◌==◌, Bool, ◌&&◌, nat_le, slice_index, drop, List, [], ◌∷◌, length, if◌then◌else◌, Option, IfSome, MatchOption}
+use Rattle.std.specs.Prelude.{◌≡◌, ℕ, ◌<◌, ◌≤◌, ◌==◌, ◌&&◌, nat_le, slice_index, drop, List, [], ◌∷◌, ◌++◌, length, if◌then◌else◌, Option, IfSome, MatchOption}
 use Rattle.std.specs.Result.{result_ok}
 use Rattle.std.specs.Io.KnownBytes.{Keeps}
 use Rattle.hex.specs.Hex.{decode_of}
-use Rattle.cfdp_report.specs.Dump.Lines.{TellsAsFrame, TellsAsPdu, WritesLines}
+use Rattle.cfdp_report.specs.Dump.Lines.{WritesLines}
+use Rattle.cfdp_report.specs.Dump.Told.{TellsAsFrame, TellsAsPdu, end_of}
+use Rattle.cfdp_report.specs.declared.dump.form.DumpForm.{DumpForm}
 use Rattle.cfdp_report.specs.Dump.Refusal.{refusal_text}
 use Rattle.cfdp_report.specs.declared.dump.refusal.Refusal.TheVariants.{Hex}
 use Rattle.cfdp_report.specs.declared.exit.Exit.{Exit}
@@ -20,9 +22,9 @@ unfoldable pub lines : List ℕ → List (List ℕ)
 lines [] = []
 lines (octet ∷ rest) = if octet == 10 then [] ∷ lines rest else onto_first octet (lines rest)
 
-abbrev pub TellsAs : DumpKind → (long : Bool) → (zone : ℕ) → List ℕ → List ℕ → Type 0
-TellsAs Pdus long zone = TellsAsPdu long
-TellsAs Frames long zone = TellsAsFrame long zone
+abbrev pub TellsAs : DumpKind → DumpForm → (zone : ℕ) → List ℕ → List ℕ → Type 0
+TellsAs Pdus form zone = TellsAsPdu form
+TellsAs Frames form zone = TellsAsFrame form zone
 
 -- a word without `0x` in front
 abbrev pub bare : List ℕ → List ℕ
@@ -40,8 +42,8 @@ hex_octets line = result_ok (decode_of (digits_of (without_return line)))
 -- This text is written for this line.
 abbrev pub TellsLine : DumpRequest → List ℕ → List ℕ → Type 0
 TellsLine request line text =
-    MatchOption (hex_octets line) (text ≡ refusal_text Hex)
-    (λ octets. TellsAs request.kind request.long request.zone octets text)
+    MatchOption (hex_octets line) (text ≡ refusal_text Hex ++ end_of request.form)
+    (λ octets. TellsAs request.kind request.form request.zone octets text)
 
 -- A text isn't too long to be read, where it is known.
 abbrev pub IsShort : Option (List ℕ) → Type 0

@@ -12,7 +12,7 @@ ghost use Rattle.cfdp_script.specs.Dump as dumps;
 use crate::input::{read_script, write_fault};
 use crate::script::without_return;
 use crate::script::words::cut_at_first;
-use cfdp_report::{Exit, Refusal, write_frame, write_pdu};
+use cfdp_report::{DumpForm, Exit, Refusal, write_frame, write_pdu};
 use hex::FromHexError;
 use std::alloc::{AllocError, Global};
 use std::io;
@@ -34,14 +34,14 @@ pub struct DumpRequest {
     pub kind: DumpKind,
     /// The octets of a frame's packet zone, 16 to 2,040.
     pub zone: u16,
-    /// Whether to tell also what a short line leaves out.
-    pub long: bool,
+    /// How they are told.
+    pub form: DumpForm,
 }
 
 /// Reads lines of hexadecimal digits to their end, and writes for each a line that says what it
-/// spells. Lines end with a line feed, which the last needs not and which may have a carriage return
-/// in front; an empty line is no octets. Spaces may stand anywhere between the digits, and `0x`
-/// behind a space or at the line's beginning.
+/// spells, or with fields a line for each and an empty one. Lines end with a line feed, which the
+/// last needs not and which may have a carriage return in front; an empty line is no octets. Spaces
+/// may stand anywhere between the digits, and `0x` behind a space or at the line's beginning.
 ///
 /// Frames have packet zones of `zone` octets and are told whatever their spacecraft and channel. Of
 /// PDUs `zone` says nothing.
@@ -135,11 +135,11 @@ fn write_line<W: Write>(
         (W.contents out.old) (W.contents out.new)) }
 {
     let Some(octets) = parse_hex_line(alloc, line)? else {
-        return writeln!(out, "{}", Refusal::Hex);
+        return writeln!(out, "{}{}", Refusal::Hex, request.form.end());
     };
     match request.kind {
-        DumpKind::Pdus => write_pdu(octets.as_slice(), request.long, out),
-        DumpKind::Frames => write_frame(octets.as_slice(), request.zone, request.long, out),
+        DumpKind::Pdus => write_pdu(octets.as_slice(), request.form, out),
+        DumpKind::Frames => write_frame(octets.as_slice(), request.zone, request.form, out),
     }
 }
 

@@ -1,5 +1,5 @@
 -- Exported: a sender goes on sending its put, whatever happens to it.
-use Rattle.std.proofs.Common.{◌≡◌, ℕ, ◌-◌, ◌≤◌, ◌==◌, ◌&&◌, min, nat_lt, Bool, true, false, List, [], ◌∷◌, take, drop, length, Option, Some, None, if◌then◌else◌, refl, sym, ap, subst, ◌∙◌, arith}
+use Rattle.std.proofs.Common.{◌≡◌, ℕ, ◌-◌, ◌≤◌, ◌==◌, ◌&&◌, min, nat_lt, Bool, true, false, List, [], ◌∷◌, take, drop, length, Option, Some, None, if◌then◌else◌, refl, sym, ap, ap₂, subst, ◌∙◌, arith}
 use Rattle.std.specs.FinSet as set
 use Rattle.cfdp_extents.specs.Offsets.{range}
 use Rattle.cfdp_timers.specs.declared.kind.Kind.{Kind}
@@ -7,7 +7,7 @@ use Rattle.cfdp_timers.specs.declared.kind.Kind.TheVariants.{EofAck, Nak, Finish
 use Rattle.cfdp_directives.specs.declared.user.handler.Handler.{Handler}
 use Rattle.cfdp_directives.specs.declared.user.handler.Handler.TheVariants.{Cancel, Suspend, Ignore, Abandon}
 use Rattle.cfdp_directives.specs.declared.user.policy.Policy.{Policy}
-use Rattle.cfdp_directives.specs.Pdu.Checksum.{modular_checksum, added, word_sum}
+use Rattle.cfdp_directives.specs.Pdu.Sums.{summed}
 use Rattle.cfdp_directives.specs.Pdu.Codes.{no_error}
 use Rattle.cfdp_directives.specs.User.Policy.{another_try, finished_told}
 use Rattle.cfdp_directives.specs.User.Put.{Put}
@@ -21,13 +21,13 @@ use Rattle.cfdp_sender.specs.State.{SenderState, opened_sender, transfer_of}
 use Rattle.cfdp_sender.specs.Does.{AsksSome}
 use Rattle.cfdp_sender.specs.declared.transfer.Transfer.{Transfer}
 use Rattle.cfdp_sender.specs.Steps.{hearing, cancelled, closed, sender_sends, hears_ack, asks, asks_all, asks_in, sends_again, handled, quiet, with_new, unacknowledged_in, expires, sender_waits, sender_expires, cancels_in, suspends_in, resumes_in, prompts_in}
-use Rattle.cfdp_sender.specs.Inputs.{SenderInput, Sends, HearsAck, HearsNak, HearsFinished, HearsKeepAlive, Expires, Cancels, Suspends, Resumes, Prompts, MayHappen, sender_step, put_of, IsSenderOf}
+use Rattle.cfdp_sender.specs.Inputs.{SenderInput, Sends, HearsAck, HearsNak, HearsFinished, HearsKeepAlive, Expires, Cancels, Suspends, Resumes, Prompts, MayHappen, sender_step, put_of, front_sums, IsSenderOf}
 use Rattle.cfdp_sender.proofs.Dues.{IsDue, due-is}
-use Rattle.cfdp_sender.proofs.Truth.{AtOnce, front-more}
+use Rattle.cfdp_sender.proofs.Truth.{ChecksumsGoOn, front-more}
 
 -- what is to be sent, and how much of it was sent, are the same
 abbrev pub SameFront : SenderState → SenderState → Type 0
-SameFront x y = (transfer_of y ≡ transfer_of x) × (y.sent ≡ x.sent) × (y.checksum ≡ x.checksum)
+SameFront x y = (transfer_of y ≡ transfer_of x) × (y.sent ≡ x.sent) × (y.sums ≡ x.sums)
 
 same : (x : SenderState) → SameFront x x
 same x = (refl, refl, refl)
@@ -42,7 +42,7 @@ still-of put x y of s = record {
   destination = ap (λ (t : Transfer). t.destination) s.0 ∙ of.destination;
   kind = ap (λ (t : Transfer). t.checksum_kind) s.0 ∙ of.kind;
   size = ap (λ (t : Transfer). t.size) s.0 ∙ of.size;
-  front = s.2 ∙ of.front ∙ ap (λ (n : ℕ). modular_checksum (take n put.octets)) (sym s.1);
+  front = s.2 ∙ of.front ∙ ap₂ (λ (k n : ℕ). front_sums k (take n put.octets)) (sym (ap (λ (t : Transfer). t.checksum_kind) s.0)) (sym s.1);
 }
 
 -- ---- hearing
@@ -119,53 +119,52 @@ same-prompts Cancelling o keep_alive x = same x
 same-prompts Closed o keep_alive x = same x
 
 -- ---- sending
-new-of : AtOnce → (put : Put) (x : SenderState) (start end : ℕ) → x.sent ≤ x.size → IsSenderOf put x → IsDue x (due.NewData start end)
+new-of : ChecksumsGoOn → (put : Put) (x : SenderState) (start end : ℕ) → x.sent ≤ x.size → IsSenderOf put x → IsDue x (due.NewData start end)
     → IsSenderOf put (with_new end (take (end - start) (drop start put.octets)) x)
-new-of whole put x start end s of is = record {
+new-of law put x start end s of is = record {
   id = of.id;
   source = of.source;
   destination = of.destination;
   kind = of.kind;
   size = of.size;
   front =
-      ap (λ (n : ℕ). added x.checksum (record { offset = x.sent; bytes = take (end - n) (drop n put.octets) })) is.0
-      ∙ front-more whole put.octets x.sent end x.checksum (omega (arith, is.1, is.2)) (omega (arith, s, of.size)) of.front;
+      ap (λ (n : ℕ). summed (Some x.checksum_kind) x.sums (record { offset = x.sent; bytes = take (end - n) (drop n put.octets) })) is.0
+      ∙ front-more law x.checksum_kind put.octets x.sent end x.sums (omega (arith, is.1, is.2)) (omega (arith, s, of.size)) of.front;
 }
 
-sent-of : AtOnce → (put : Put) (stored : Stored) (x : SenderState) (d : SenderDue) → x.sent ≤ x.size → IsSenderOf put x → IsDue x d
+sent-of : ChecksumsGoOn → (put : Put) (stored : Stored) (x : SenderState) (d : SenderDue) → x.sent ≤ x.size → IsSenderOf put x → IsDue x d
     → IsSenderOf put (sender_sends stored put.octets x d).sender
-sent-of whole put stored x (due.AckOfFinished condition) s of is = still-of put x _ of (same x)
-sent-of whole put stored x (due.Prompt keep_alive) s of is = still-of put x _ of (same x)
-sent-of whole put stored x due.Metadata s of is = still-of put x _ of (same x)
-sent-of whole put Done x (due.AskedData start end) s of is = still-of put x _ of (same x)
-sent-of whole put Refused x (due.AskedData start end) s of is = still-of put x _ of (same x)
-sent-of whole put Done x (due.NewData start end) s of is = new-of whole put x start end s of is
-sent-of whole put Refused x (due.NewData start end) s of is = still-of put x _ of (same x)
-sent-of whole put stored x due.Eof s of is = still-of put x _ of (same x)
+sent-of law put stored x (due.AckOfFinished condition) s of is = still-of put x _ of (same x)
+sent-of law put stored x (due.Prompt keep_alive) s of is = still-of put x _ of (same x)
+sent-of law put stored x due.Metadata s of is = still-of put x _ of (same x)
+sent-of law put Done x (due.AskedData start end) s of is = still-of put x _ of (same x)
+sent-of law put Refused x (due.AskedData start end) s of is = still-of put x _ of (same x)
+sent-of law put Done x (due.NewData start end) s of is = new-of law put x start end s of is
+sent-of law put Refused x (due.NewData start end) s of is = still-of put x _ of (same x)
+sent-of law put stored x due.Eof s of is = still-of put x _ of (same x)
 
-pub step-of : AtOnce → (put : Put) (policy : Policy) (input : SenderInput) (x : SenderState) → x.sent ≤ x.size → IsSenderOf put x → MayHappen input x
+pub step-of : ChecksumsGoOn → (put : Put) (policy : Policy) (input : SenderInput) (x : SenderState) → x.sent ≤ x.size → IsSenderOf put x → MayHappen input x
     → IsSenderOf put (sender_step policy put.octets input x).sender
-step-of whole put policy (Sends stored d) x s of is = sent-of whole put stored x d s of (due-is x d is)
-step-of whole put policy (HearsAck condition) x s of is = still-of put x _ of (same-ack x x.phase condition)
-step-of whole put policy (HearsNak pairs) x s of is = still-of put x _ of (same-nak x x.phase pairs)
-step-of whole put policy (HearsFinished outcome) x s of is = still-of put x _ of (same x)
-step-of whole put policy (HearsKeepAlive progress) x s of is = of
-step-of whole put policy (Expires kind) x s of is = still-of put x _ of (same-expired kind policy x)
-step-of whole put policy Cancels x s of is = still-of put x _ of (same-cancels x.phase x)
-step-of whole put policy Suspends x s of is = still-of put x _ of (same-suspends x.phase x.suspended x)
-step-of whole put policy Resumes x s of is = still-of put x _ of (same-resumes x.phase x.suspended x)
-step-of whole put policy (Prompts keep_alive) x s of is = still-of put x _ of (same-prompts x.phase x.prompt_due keep_alive x)
+step-of law put policy (Sends stored d) x s of is = sent-of law put stored x d s of (due-is x d is)
+step-of law put policy (HearsAck condition) x s of is = still-of put x _ of (same-ack x x.phase condition)
+step-of law put policy (HearsNak pairs) x s of is = still-of put x _ of (same-nak x x.phase pairs)
+step-of law put policy (HearsFinished outcome) x s of is = still-of put x _ of (same x)
+step-of law put policy (HearsKeepAlive progress) x s of is = of
+step-of law put policy (Expires kind) x s of is = still-of put x _ of (same-expired kind policy x)
+step-of law put policy Cancels x s of is = still-of put x _ of (same-cancels x.phase x)
+step-of law put policy Suspends x s of is = still-of put x _ of (same-suspends x.phase x.suspended x)
+step-of law put policy Resumes x s of is = still-of put x _ of (same-resumes x.phase x.suspended x)
+step-of law put policy (Prompts keep_alive) x s of is = still-of put x _ of (same-prompts x.phase x.prompt_due keep_alive x)
 
 -- ---- the ends
-pub opened-of : (t : Transfer) (file : List ℕ) → length file ≡ t.size → IsSenderOf (put_of t file) (opened_sender t)
-unfolding word_sum
-opened-of t file whole = record {
+pub opened-of : ChecksumsGoOn → (t : Transfer) (file : List ℕ) → length file ≡ t.size → IsSenderOf (put_of t file) (opened_sender t)
+opened-of law t file whole = record {
   id = refl;
   source = refl;
   destination = refl;
   kind = refl;
   size = sym whole;
-  front = refl;
+  front = sym (law.none (Some t.checksum_kind));
 }
 
 pub partly-of : (put : Put) (pairs : List (ℕ × ℕ)) (x y : SenderState) → IsSenderOf put x → AsksSome pairs x y → IsSenderOf put y

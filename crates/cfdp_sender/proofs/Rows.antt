@@ -16,6 +16,8 @@ use Rattle.cfdp_directives.specs.declared.user.handler.Handler.TheVariants.{Canc
 use Rattle.cfdp_directives.specs.declared.user.indication.Indication.TheVariants as indication
 use Rattle.cfdp_directives.specs.Pdu.Content.{FileData, Metadata, Eof, Ack}
 use Rattle.cfdp_directives.specs.User.Limits.{default_limits, default_times}
+use Rattle.cfdp_directives.specs.declared.pdu.sums.Checksums.{Checksums}
+use Rattle.cfdp_directives.specs.Pdu.Sums.{nothing_summed, summed, sum_told}
 use Rattle.cfdp_directives.specs.Pdu.Checksum.{added, sum_at}
 use Rattle.cfdp_directives.specs.Pdu.Tlv.{fault_location}
 use Rattle.cfdp_directives.specs.declared.user.telling.Outcome.{Outcome}
@@ -34,7 +36,7 @@ abbrev id : TransactionId
 id = record { source = 1; number = 1 }
 
 abbrev addressing : Addressing
-addressing = record { id = id; destination = 2; id_width = 2; number_width = 4 }
+addressing = record { id = id; destination = 2; id_width = 2; number_width = 4; crc = false }
 
 -- `hello`, put from `a` to `b` in segments of 4 octets
 abbrev transfer : Transfer
@@ -53,9 +55,12 @@ x = opened_sender transfer
 abbrev file : List ℕ
 file = 104 ∷ 101 ∷ 108 ∷ 108 ∷ 111 ∷ []
 
+abbrev words : ℕ → Checksums
+words n = record nothing_summed { modular = n }
+
 -- all of it was sent: Metadata, data and EOF
 abbrev sent : SenderState
-sent = record x { metadata_due = false; sent = 5; checksum = 3613748332; eof_taken = true }
+sent = record x { metadata_due = false; sent = 5; sums = words 3613748332; eof_taken = true }
 
 abbrev policy : Handler → Policy
 policy handler = record {
@@ -97,9 +102,11 @@ eof_last : sender_due (record x { metadata_due = false; sent = 5 }) ≡ Some due
 eof_last = rw (none_asked 4) refl
 
 eof_says : sender_says file sent due.Eof ≡ Eof 0 3613748332 5 []
+unfolding sum_told nothing_summed
 eof_says = refl
 
 null_checksum : sender_says file (record sent { checksum_kind = 15 }) due.Eof ≡ Eof 0 0 5 []
+unfolding sum_told nothing_summed
 null_checksum = refl
 
 nothing_then : sender_due sent ≡ None
@@ -121,7 +128,8 @@ suspended_sends_nothing = refl
 -- ---- sending
 
 new_data_sent : (sender_sends Done file x (due.NewData 0 4)).sender
-    ≡ record x { sent = 4; checksum = added 0 (record { offset = 0; bytes = 104 ∷ 101 ∷ 108 ∷ 108 ∷ [] }) }
+    ≡ record x { sent = 4; sums = words (added 0 (record { offset = 0; bytes = 104 ∷ 101 ∷ 108 ∷ 108 ∷ [] })) }
+unfolding summed nothing_summed
 new_data_sent = refl
 
 front_checksum : added 0 (record { offset = 0; bytes = 104 ∷ 101 ∷ 108 ∷ 108 ∷ [] }) ≡ 1751477356
@@ -150,8 +158,9 @@ eof_not_told_again = refl
 
 -- ---- cancelling
 
-cancelled_says : (sender_says file (sender_cancels (record x { sent = 4; checksum = 1751477356 })).sender due.Eof)
+cancelled_says : (sender_says file (sender_cancels (record x { sent = 4; sums = words 1751477356 })).sender due.Eof)
     ≡ Eof 15 1751477356 4 (fault_location 1 2 ∷ [])
+unfolding sum_told nothing_summed
 cancelled_says = refl
 
 cancelled_sends_eof_alone : (keep_alive : Bool)

@@ -5,7 +5,8 @@ use Rattle.cfdp_directives.specs.declared.pdu.codes.Acknowledged.TheVariants as 
 use Rattle.cfdp_directives.specs.declared.pdu.codes.TransactionStatus.TheVariants.{Terminated}
 use Rattle.cfdp_directives.specs.declared.user.phase.Phase.{Phase}
 use Rattle.cfdp_directives.specs.declared.user.phase.Phase.TheVariants as phases
-use Rattle.cfdp_directives.specs.Pdu.Codes.{no_error, modular}
+use Rattle.cfdp_directives.specs.Pdu.Codes.{no_error}
+use Rattle.cfdp_directives.specs.Pdu.Sums.{sum_told}
 use Rattle.cfdp_directives.specs.Pdu.Content.{Content, FileData, Metadata, Eof, Ack, Prompt}
 use Rattle.cfdp_directives.specs.Pdu.Tlv.{fault_location}
 use Rattle.cfdp_sender.specs.declared.phase.SenderPhase.{SenderPhase}
@@ -75,10 +76,9 @@ carried file (due.AskedData start end) = take (end - start) (drop start file)
 carried file (due.NewData start end) = take (end - start) (drop start file)
 carried file _ = []
 
--- the checksum that an EOF tells: that of the front of the file that was sent, 0 for the null
--- checksum
+-- the checksum that an EOF tells: that of the front of the file that was sent
 abbrev pub told_checksum : SenderState → ℕ
-told_checksum x = if x.checksum_kind == modular then x.checksum else 0
+told_checksum x = sum_told x.checksum_kind x.sums
 
 -- the EOF of a cancelled transaction names this end as the one where it happened, and the size that
 -- was sent

@@ -10,7 +10,8 @@ use Rattle.cfdp_directives.specs.declared.pdu.codes.Delivery.TheVariants.{Comple
 use Rattle.cfdp_directives.specs.declared.pdu.codes.FileStatus.TheVariants.{Retained}
 use Rattle.cfdp_directives.specs.declared.user.indication.Indication.{Indication}
 use Rattle.cfdp_directives.specs.Pdu.Codes.{no_error}
-use Rattle.cfdp_directives.specs.Pdu.Checksum.{modular_checksum}
+use Rattle.cfdp_directives.specs.declared.pdu.sums.Checksums.{Checksums}
+use Rattle.cfdp_directives.specs.Pdu.Sums.{nothing_summed, summed}
 use Rattle.cfdp_directives.specs.User.Completions.{is_finished}
 use Rattle.cfdp_directives.specs.User.Put.{Put}
 use Rattle.cfdp_store.specs.declared.stored.Stored.{Stored}
@@ -57,14 +58,19 @@ MayHappen _ x = Unit {0}
 abbrev pub RestsOnceClosed : SenderState → Type 0
 RestsOnceClosed x = x.phase ≡ Closed → (x.asked ≡ set.empty) × (x.suspended ≡ false)
 
--- A sender sends this put, and the checksum is that of the front of its file that was sent.
+-- what is kept of the front of a file, for its checksum of this type
+abbrev pub front_sums : ℕ → List ℕ → Checksums
+front_sums kind front = summed (Some kind) nothing_summed (record { offset = 0; bytes = front })
+
+-- A sender sends this put, and what is kept for the checksum is that of the front of its file that
+-- was sent.
 pub record IsSenderOf (put : Put) (x : SenderState) : Type 0 where
   pub id : x.addressing.id ≡ put.id
   pub source : x.source ≡ put.source
   pub destination : x.destination ≡ put.destination
   pub kind : x.checksum_kind ≡ put.checksum_kind
   pub size : x.size ≡ length put.octets
-  pub front : x.checksum ≡ modular_checksum (take x.sent put.octets)
+  pub front : x.sums ≡ front_sums x.checksum_kind (take x.sent put.octets)
 
 -- the put that a transfer carries out, of a file with these octets
 abbrev pub put_of : Transfer → List ℕ → Put

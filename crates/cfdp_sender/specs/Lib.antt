@@ -11,6 +11,7 @@ pub use Rattle.cfdp_directives.specs.Pdu.Content
 pub use Rattle.cfdp_directives.specs.Pdu.Addressing
 pub use Rattle.cfdp_directives.specs.Pdu.Written
 pub use Rattle.cfdp_directives.specs.Pdu.Checksum
+pub use Rattle.cfdp_directives.specs.Pdu.Sums
 pub use Rattle.cfdp_directives.specs.User.Put
 pub use Rattle.cfdp_extents.specs.Offsets
 pub use Rattle.cfdp_extents.specs.Terms

@@ -5,6 +5,8 @@ use Rattle.cfdp_extents.specs.Offsets.{Offsets}
 use Rattle.cfdp_directives.specs.declared.pdu.addressing.Addressing.{Addressing}
 use Rattle.cfdp_directives.specs.Pdu.Addressing.{FitsAddressing}
 use Rattle.cfdp_directives.specs.Pdu.Codes.{IsCondition, no_error, size_limit}
+use Rattle.cfdp_directives.specs.declared.pdu.sums.Checksums.{Checksums}
+use Rattle.cfdp_directives.specs.Pdu.Sums.{nothing_summed, SumsFit}
 use Rattle.cfdp_directives.specs.User.FileName.{IsFileName}
 use Rattle.cfdp_sender.specs.declared.transfer.Transfer.{Transfer}
 use Rattle.cfdp_sender.specs.declared.phase.SenderPhase.{SenderPhase}
@@ -23,9 +25,9 @@ pub record SenderState : Type 0 where
   pub size : ℕ
   pub phase : SenderPhase
   pub suspended : Bool
-  -- the end of the data sent first, and the modular checksum of that front of the file
+  -- the end of the data sent first, and what is kept of that front of the file for its checksum
   pub sent : ℕ
-  pub checksum : ℕ
+  pub sums : Checksums
   -- the offsets that were asked for again
   pub asked : Offsets
   pub metadata_due : Bool
@@ -59,7 +61,7 @@ opened_sender t = record {
   phase = Sending;
   suspended = false;
   sent = 0;
-  checksum = 0;
+  sums = nothing_summed;
   asked = set.empty;
   metadata_due = true;
   prompt_due = None;
@@ -101,7 +103,7 @@ IsCause _ condition = Unit {0}
 pub record IsSender (x : SenderState) : Type 0 where
   pub transfer : IsSendable (transfer_of x)
   pub sent : x.sent ≤ x.size
-  pub checksum : x.checksum < 2 ^ 32
+  pub sums : SumsFit x.sums
   pub asked : (n : ℕ) → set.contains x.asked n ≡ true → n < x.sent
   pub ack : IfSome x.ack_due IsCondition
   pub condition : IsCondition x.condition

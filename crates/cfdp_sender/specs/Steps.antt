@@ -13,7 +13,7 @@ use Rattle.cfdp_directives.specs.declared.user.handler.Handler.TheVariants.{Canc
 use Rattle.cfdp_directives.specs.declared.user.indication.Indication.{Indication}
 use Rattle.cfdp_directives.specs.declared.user.indication.Indication.TheVariants as indication
 use Rattle.cfdp_directives.specs.Pdu.Codes.{no_error, positive_ack_limit, filestore_rejection, inactivity, suspend_request, cancel_request}
-use Rattle.cfdp_directives.specs.Pdu.Checksum.{added}
+use Rattle.cfdp_directives.specs.Pdu.Sums.{summed}
 use Rattle.cfdp_directives.specs.declared.user.telling.Outcome.{Outcome}
 use Rattle.cfdp_directives.specs.declared.user.policy.Policy.{Policy}
 use Rattle.cfdp_directives.specs.User.Policy.{another_try, fault_told, finished_told}
@@ -69,11 +69,11 @@ sender_reads Refused x read =
     telling (fault_told Cancel x.addressing.id filestore_rejection)
     (cancelling filestore_rejection x)
 
--- new data, which begin where those sent end, raise the front and its checksum
+-- new data, which begin where those sent end, raise the front, and count for its checksum
 abbrev pub with_new : ℕ → List ℕ → SenderState → SenderState
 with_new end bytes x = record x {
   sent = end;
-  checksum = added x.checksum (record { offset = x.sent; bytes = bytes });
+  sums = summed (Some x.checksum_kind) x.sums (record { offset = x.sent; bytes = bytes });
 }
 
 -- data that were sent again are asked for no more

@@ -12,9 +12,7 @@ ghost use Rattle.cfdp_sender.specs.Due.{carries_by, extent_of};
 
 use crate::phase::SenderPhase;
 use crate::sender::Sender;
-use cfdp_directives::{
-    Acknowledged, ChecksumKind, Condition, Pdu, Tlvs, TransactionStatus, is_large,
-};
+use cfdp_directives::{Acknowledged, Condition, Pdu, Tlvs, TransactionStatus, is_large};
 
 /// What a sender sends next.
 #[derive(Clone, Copy, Debug, PartialEq, Eq)]
@@ -32,12 +30,12 @@ pub enum SenderDue {
 }
 
 impl Sender {
-    /// Octets of the PDU that is due, its header too: of what `take_pdu` would write now. `None`
+    /// Octets of the PDU that is due, its header and its CRC too: of what `take_pdu` would write now. `None`
     /// where none is due, as of a suspended transaction. Whatever the file holds, its size alone
-    /// counts. What is due can be written, and has 4,132 octets at the most.
+    /// counts. What is due can be written, and has 4,134 octets at the most.
     pub fn due(&self) -> Option<usize>
         ensures some { is_some result ≡ is_some (sender_due self.now) }
-        ensures short { IfSome result (λ len. len ≤ 4132) }
+        ensures short { IfSome result (λ len. len ≤ 4134) }
         ensures can_write { (file : List ℕ) → IfSome (sender_due self.now)
             (λ d. let v = sender_says file self.now d in
             CanWrite (header_of self.now.addressing (codes.is_large self.now.size) v) v) }
@@ -188,7 +186,7 @@ impl Sender {
     fn eof(&self) -> Pdu<'_>
         ensures { view result ≡ dues.eof_says self.now.phase self.now }
     {
-        let checksum = self.told_checksum();
+        let checksum = self.sums.value(self.checksum_kind);
         match self.phase {
             SenderPhase::Sending => Pdu::Eof {
                 condition: Condition::NO_ERROR,
@@ -202,17 +200,6 @@ impl Sender {
                 size: self.sent,
                 tlvs: Tlvs::fault_location_of(self.addressing.id.source, self.addressing.id_width),
             },
-        }
-    }
-
-    // The checksum that EOF tells.
-    fn told_checksum(&self) -> u32
-        ensures { result ≡ dues.told_checksum self.now }
-    {
-        if self.checksum_kind == ChecksumKind::MODULAR {
-            self.checksum.value()
-        } else {
-            0
         }
     }
 }

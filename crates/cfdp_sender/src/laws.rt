@@ -72,7 +72,7 @@ pub fn a_sender_says_what_is_so()
     ensures partly { (put : Put) (pairs : List (ℕ × ℕ)) (x y : SenderState) →
         IsSenderOf put x → AsksSome pairs x y → IsSenderOf put y }
 {
-    cfdp_directives::whole_file_has_its_checksum();
+    cfdp_directives::checksums_go_on();
 }
 
 /// The EOF of a sender of a put has the checksum and the size of the whole file, and no error. That
@@ -86,7 +86,9 @@ pub fn an_eof_has_the_checksum_of_what_was_sent()
         → sender_says put.octets x dues.Eof
         ≡ Eof x.condition (checksum_of put.checksum_kind (take x.sent put.octets)) x.sent
         (fault_location put.id.source x.addressing.id_width ∷ []) }
-{}
+{
+    cfdp_directives::checksums_go_on();
+}
 
 /// At most one Finished is ever indicated of a transaction: a step that indicates one closes it,
 /// and once closed it stays so and indicates none. Steps indicate none of other transactions.

@@ -14,7 +14,7 @@ use crate::names::Names;
 use crate::phase::SenderPhase;
 use crate::transfer::Transfer;
 use cfdp_directives::{
-    Addressing, Checksum, ChecksumKind, Condition, Delivery, FileStatus, Indication, Outcome,
+    Addressing, ChecksumKind, Checksums, Condition, Delivery, FileStatus, Indication, Outcome,
     Phase, Times, indicate,
 };
 use cfdp_extents::Extents;
@@ -26,7 +26,7 @@ use std::marker::Model;
 /// The sending side of one transaction (CCSDS 727.0-B-5, 4.6.1.1): what was sent of its file, what
 /// is due, and what is waited for. The time is that of the timers.
 ///
-/// It keeps no octet of the file, but the checksum of the front that was sent. A closed one keeps
+/// It keeps no octet of the file, but what its checksum needs of the front that was sent. A closed one keeps
 /// neither the names nor what was asked for. Only `open` and `on_nak` take memory.
 #[derive(Debug, Drop)]
 pub struct Sender {
@@ -38,7 +38,7 @@ pub struct Sender {
     pub(crate) phase: SenderPhase,
     pub(crate) suspended: bool,
     pub(crate) sent: u64,
-    pub(crate) checksum: Checksum,
+    pub(crate) sums: Checksums,
     pub(crate) asked: Extents,
     pub(crate) metadata_due: bool,
     pub(crate) prompt_due: Option<bool>,
@@ -108,7 +108,7 @@ impl Sender {
             phase: SenderPhase::Sending,
             suspended: false,
             sent: 0,
-            checksum: Checksum::new(),
+            sums: Checksums::new(),
             asked: Extents::new(alloc),
             metadata_due: true,
             prompt_due: None,

@@ -40,13 +40,14 @@ frame_drops s = record {
   other_apid = frame_count link_drops.OtherApid s;
   segmented = frame_count link_drops.Segmented s;
   no_memory = frame_count link_drops.NoMemory s;
+  damaged = frame_count (link_drops.Frame frame_errors.Damaged) s;
 }
 
 abbrev pub pdu_drops : StationState → PduDrops
 pdu_drops s = record {
   too_short = pdu_count (by_header header_errors.Short) s;
   bad_version = pdu_count (by_header header_errors.Version) s;
-  crc_present = pdu_count (by_header header_errors.CrcPresent) s;
+  bad_crc = pdu_count (by_header header_errors.BadCrc) s;
   bad_length = pdu_count (by_header header_errors.Length) s;
   unacknowledged = pdu_count (by_header header_errors.Unacknowledged) s;
   bad_directive = pdu_count (drops.Pdu pdu_errors.Directive) s;

@@ -36,6 +36,8 @@ pub struct FrameDrops {
     pub segmented: u64,
     /// There was no memory for what the zone holds.
     pub no_memory: u64,
+    /// Its check tells that it was damaged on the way.
+    pub damaged: u64,
 }
 
 /// How often a PDU that came up was dropped, by the cause: see [`EntityDrop`]. Each count stays at
@@ -46,8 +48,8 @@ pub struct PduDrops {
     pub too_short: u64,
     /// The version of its header is another.
     pub bad_version: u64,
-    /// It has a CRC.
-    pub crc_present: u64,
+    /// Its CRC is wrong.
+    pub bad_crc: u64,
     /// Its length isn't that of its header.
     pub bad_length: u64,
     /// It is of class 1.
@@ -114,6 +116,7 @@ impl<O: Outbox, I: Inbox> Station<O, I> {
             other_apid: self.link_drops(LinkDrop::OtherApid),
             segmented: self.link_drops(LinkDrop::Segmented),
             no_memory: self.link_drops(LinkDrop::NoMemory),
+            damaged: self.link_drops(LinkDrop::Frame(FrameError::Damaged)),
         }
     }
 
@@ -123,7 +126,7 @@ impl<O: Outbox, I: Inbox> Station<O, I> {
         PduDrops {
             too_short: self.bad_headers(HeaderError::Short),
             bad_version: self.bad_headers(HeaderError::Version),
-            crc_present: self.bad_headers(HeaderError::CrcPresent),
+            bad_crc: self.bad_headers(HeaderError::BadCrc),
             bad_length: self.bad_headers(HeaderError::Length),
             unacknowledged: self.bad_headers(HeaderError::Unacknowledged),
             bad_directive: self.drops(EntityDrop::Pdu(PduError::Directive)),

@@ -12,6 +12,7 @@
 //!     data_virtual_channel: 3,
 //!     zone: 1024,
 //!     apid: 100,
+//!     fields: FrameFields::NONE,
 //! };
 //! let receives = LinkConfig {
 //!     virtual_channel: 2,
@@ -58,7 +59,7 @@ pub use cfdp_timers::Kind as Timer;
 pub use config::{DEFAULT_CAPACITY, LEAST_CAPACITY, MOST_CAPACITY, StationConfig};
 pub use counters::{Counters, FrameDrops, PduDrops};
 pub use laws::a_station_hears_what_was_sent;
-pub use link_stack::{Lane, LinkConfig, LinkDrop, LinkField};
+pub use link_stack::{FrameFields, Lane, LinkConfig, LinkDrop, LinkField};
 pub use polled::Polled;
 pub use station::Station;
 pub use valid_config::{Config, Valid};

@@ -4,9 +4,10 @@ ghost use Rattle.std.specs.Prelude.{drop, length, max, get_or, is_ok, is_some, I
 ghost use Rattle.std.specs.Prelude.{MatchOption, None, IfSome, OnOk, OnErr};
 ghost use Rattle.std.specs.FinMap as map;
 ghost use Rattle.mpdu.specs.Stream.{ArePackets};
-ghost use Rattle.aos_frame.specs.Frame.{lane_channel, other_lane};
+ghost use Rattle.aos_frame.specs.Frame.{frame_len, lane_channel, other_lane};
 ghost use Rattle.link_stack.specs.Downward.{Flushes, IsDown, KeepsLanes, MakesFrame};
-ghost use Rattle.link_stack.specs.Downward.{both_counted_from, first_down, frame_lane, idle_zones};
+ghost use Rattle.link_stack.specs.Downward.{both_controlled, both_counted_from, first_down};
+ghost use Rattle.link_stack.specs.Downward.{frame_lane, idle_zones};
 ghost use Rattle.link_stack.specs.Downward.{lane_down};
 ghost use Rattle.link_stack.specs.Drops as of_link;
 ghost use Rattle.link_stack.specs.Frames.{AreOfLink};
@@ -140,6 +141,23 @@ impl<O: Outbox, I: Inbox> Station<O, I> {
         ensures rest { KeepsRest self.old self.new }
     {
         self.down.count_from(count);
+    }
+
+    /// Has this in the operational control field of the frames that leave from now on, of both lanes
+    /// (CCSDS 732.0-B-4, 4.1.5), if the link has one; at first it is 0.
+    pub fn set_control_field(&mut self, control: u32)
+        ensures set { self.new.down ≡ both_controlled control self.old.down }
+        ensures rest { KeepsRest self.old self.new }
+    {
+        self.down.set_control_field(control);
+    }
+
+    /// The operational control field of the last frame of a lane that came from the peer and was
+    /// one of its channel; `None` where none came, or the link has no such field.
+    pub fn control_field(&self, lane: Lane) -> Option<u32>
+        ensures { result ≡ (lane_up lane self.now.up).control }
+    {
+        self.up.control_field(lane)
     }
 
     /// Sends a file of the outbox, to be published by the peer under the second name; both have 1
@@ -350,9 +368,10 @@ impl<O: Outbox, I: Inbox> Station<O, I> {
         self.down.frames_ahead(lane)
     }
 
-    /// The octets of each frame that it sends, in either lane: 8 more than those of a zone.
+    /// The octets of each frame that it sends, in either lane: 8 more than those of a zone, and
+    /// those of the fields of the link.
     pub fn frame_len(&self) -> usize
-        ensures { (lane : Lane) → result ≡ 8 + (lane_down lane self.now.down).link.zone }
+        ensures { (lane : Lane) → result ≡ frame_len (lane_down lane self.now.down).link }
     {
         self.down.frame_len()
     }
@@ -370,7 +389,7 @@ impl<O: Outbox, I: Inbox> Station<O, I> {
     ///
     /// `None` where no whole frame waits: nothing changed then.
     pub fn next_frame(&mut self, out: &mut [u8]) -> Option<Lane>
-        requires { length out.old ≡ 8 + self.old.down.directives.link.zone }
+        requires { length out.old ≡ frame_len self.old.down.directives.link }
         // Directives go first.
         ensures lane { result ≡ frame_lane self.old.down }
         ensures kept { result ≡ None → (self.new ≡ self.old) × (out.new ≡ out.old) }

@@ -1,5 +1,6 @@
 // The next frame that leaves a station.
 ghost use Rattle.std.specs.Prelude.{◌≡◌, ◌+◌, None, length, IfOk, OnErr, OnOk};
+ghost use Rattle.aos_frame.specs.Frame.{frame_len};
 ghost use Rattle.cfdp_station.specs.Transmitting.{PollsDry, Pulls, PullsInPart, Transmits};
 
 use crate::station::Station;
@@ -31,7 +32,7 @@ impl<O: Outbox, I: Inbox> Station<O, I> {
         ensures sent { IfOk result (λ lane. Transmits lane frame.new.items self.old self.new) }
         ensures err { OnErr result (PullsInPart self.old self.new) }
         ensures len { OnOk result (length frame.new.items
-            ≡ 8 + self.old.down.directives.link.zone) }
+            ≡ frame_len self.old.down.directives.link) }
     {
         fit(frame, self.frame_len())?;
         self.transmit_into(frame.as_mut_slice())
@@ -44,7 +45,7 @@ impl<O: Outbox, I: Inbox> Station<O, I> {
     /// `AllocError` where there is no memory for a poll: what was polled before stays, and waits
     /// for the next call.
     pub fn transmit_into(&mut self, frame: &mut [u8]) -> Result<Option<Lane>, AllocError>
-        requires { length frame.old ≡ 8 + self.old.down.directives.link.zone }
+        requires { length frame.old ≡ frame_len self.old.down.directives.link }
         ensures sent { IfOk result (λ lane. Transmits lane frame.new self.old self.new) }
         ensures err { OnErr result (PullsInPart self.old self.new) }
         // But for a frame the buffer is as it was.
@@ -68,7 +69,7 @@ fn fit(frame: &mut Vec<u8>, len: usize) -> Result<(), AllocError>
 fn pull<O: Outbox, I: Inbox>(station: &mut Station<O, I>) -> Result<(), AllocError>
     ensures ok { OnOk result (Pulls station.old station.new) }
     ensures err { OnErr result (PullsInPart station.old station.new) }
-    ensures zone { station.new.down.directives.link.zone ≡ station.old.down.directives.link.zone }
+    ensures same { station.new.down.directives.link ≡ station.old.down.directives.link }
 {
     if poll_dry(station)? {
         station.flush_lane(Lane::Directives);
@@ -82,7 +83,7 @@ fn pull<O: Outbox, I: Inbox>(station: &mut Station<O, I>) -> Result<(), AllocErr
 fn poll_dry<O: Outbox, I: Inbox>(station: &mut Station<O, I>) -> Result<bool, AllocError>
     ensures ok { IfOk result (λ whole. PollsDry whole station.old station.new) }
     ensures err { OnErr result (PullsInPart station.old station.new) }
-    ensures zone { station.new.down.directives.link.zone ≡ station.old.down.directives.link.zone }
+    ensures same { station.new.down.directives.link ≡ station.old.down.directives.link }
 {
     for _poll in 0..MOST_POLLS {
         match station.next_lane() {

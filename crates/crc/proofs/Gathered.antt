@@ -29,10 +29,10 @@ and_right true false e = e
 and_right false true e = refl
 and_right false false e = e
 
-covered : (p : Piece) (i : ℕ) → covers i p ≡ true → i < p.offset + length p.octets
-covered p i h = ltb-true i (p.offset + length p.octets) (and_right (leb p.offset i) (ltb i (p.offset + length p.octets)) h)
+covered : (p : Piece) (i : ℕ) → covers i p ≡ true → i < p.offset + length p.bytes
+covered p i h = ltb-true i (p.offset + length p.bytes) (and_right (leb p.offset i) (ltb i (p.offset + length p.bytes)) h)
 
-start_below : (k : Crc32) → start32 k < 2 ^ 32
+pub start_below : (k : Crc32) → start32 k < 2 ^ 32
 start_below Proximity1 = omega arith
 start_below Castagnoli = omega arith
 start_below Ieee = omega arith
@@ -42,10 +42,10 @@ after : (ℕ → Bool) → List Piece → (ℕ → Bool)
 after c [] = c
 after c (p ∷ pieces) = after (λ i. odd (covers i p) (c i)) pieces
 
-abbrev mark : Bool → ℕ
+abbrev pub mark : Bool → ℕ
 mark b = cond b 1 0
 
-count_more : (i : ℕ) (p : Piece) (pieces : List Piece) → count_by (covers i) (p ∷ pieces) ≡ mark (covers i p) + count_by (covers i) pieces
+pub count_more : (i : ℕ) (p : Piece) (pieces : List Piece) → count_by (covers i) (p ∷ pieces) ≡ mark (covers i p) + count_by (covers i) pieces
 count_more i p pieces = sum_by-cons (λ (q : Piece). mark (covers i q)) p pieces
 
 after_none : (c : ℕ → Bool) (pieces : List Piece) (i : ℕ) → count_by (covers i) pieces ≡ 0 → after c pieces i ≡ c i
@@ -71,11 +71,11 @@ after_once c (p ∷ pieces) i none h = go (covers i p) refl (after_once (λ j. o
         let zero_more : mark (covers i p) ≡ 0 = ap mark e in
         ih (ap₂ odd e none) (omega (arith, h, count_more i p pieces, zero_more))
 
-piece_octets : (file : List ℕ) (p : Piece) → AreOctets file → IsOf file p → AreOctets p.octets
+piece_octets : (file : List ℕ) (p : Piece) → AreOctets file → IsOf file p → AreOctets p.bytes
 piece_octets file p bytes is i inside =
-    let within : p.offset + length p.octets ≤ length file = is.within in
-    let there : get_or p.octets i 0 ≡ get_or file (p.offset + i) 0 =
-    ap (λ (l : List ℕ). get_or l i 0) is.same ∙ get_or-take (length p.octets) (drop p.offset file) i 0 inside ∙ get_or-drop p.offset file i 0 in
+    let within : p.offset + length p.bytes ≤ length file = is.within in
+    let there : get_or p.bytes i 0 ≡ get_or file (p.offset + i) 0 =
+    ap (λ (l : List ℕ). get_or l i 0) is.same ∙ get_or-take (length p.bytes) (drop p.offset file) i 0 inside ∙ get_or-drop p.offset file i 0 in
     rw there (bytes (p.offset + i) (omega arith))
 
 module _ (kind : Crc32) where
@@ -194,7 +194,7 @@ module _ (kind : Crc32) where
   gathers_more file p c k bytes is g =
       let size : ℕ = length file in
       let o : ℕ = p.offset in
-      let octets : List ℕ = p.octets in
+      let octets : List ℕ = p.bytes in
       let len : ℕ = length octets in
       let n : ℕ = min len (k.end - o) in
       let most : k.end ≤ size = g.within in
@@ -219,7 +219,7 @@ module _ (kind : Crc32) where
             ∙ ap (bit_xor S) (xor_comm came new ∙ sym (spread_odd kind size (λ i. covers i p) c 0 file));
       }
     where
-      reach : (i : ℕ) → i < length file → (b : Bool) → covers i p ≡ b → odd (covers i p) (c i) ≡ true → i < max k.end (p.offset + length p.octets)
+      reach : (i : ℕ) → i < length file → (b : Bool) → covers i p ≡ b → odd (covers i p) (c i) ≡ true → i < max k.end (p.offset + length p.bytes)
       reach i low true e h = omega (arith, covered p i e)
       reach i low false e h = omega (arith, g.reached i low (sym (ap (λ x. odd x (c i)) e) ∙ h))
 

@@ -1,3 +1,6 @@
+mod Walks
+pub mod Detection
+pub mod Ends
 pub mod Xor
 pub mod Divisions
 pub mod Octets
@@ -8,3 +11,4 @@ pub mod Powers
 pub mod Lefts
 pub mod Spreads
 pub mod Gathered
+pub mod Residues

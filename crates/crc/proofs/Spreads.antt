@@ -103,34 +103,34 @@ module _ (kind : Crc32) (n : ℕ) where
   before_piece : (p : Piece) (i : ℕ) → i < p.offset → covers i p ≡ false
   before_piece p i h = let t : leb p.offset i ≡ false = lt-leb p.offset i h in rw t refl
 
-  in_piece : (p : Piece) (i : ℕ) → p.offset ≤ i → i < p.offset + length p.octets → covers i p ≡ true
+  in_piece : (p : Piece) (i : ℕ) → p.offset ≤ i → i < p.offset + length p.bytes → covers i p ≡ true
   in_piece p i low high =
       let s : leb p.offset i ≡ true = le-leb p.offset i low in
-      let t : ltb i (p.offset + length p.octets) ≡ true = lt-ltb i (p.offset + length p.octets) high in
+      let t : ltb i (p.offset + length p.bytes) ≡ true = lt-ltb i (p.offset + length p.bytes) high in
       rw (s, t) refl
 
-  after_piece : (p : Piece) (i : ℕ) → p.offset + length p.octets ≤ i → covers i p ≡ false
+  after_piece : (p : Piece) (i : ℕ) → p.offset + length p.bytes ≤ i → covers i p ≡ false
   after_piece p i h =
       let s : leb p.offset i ≡ true = le-leb p.offset i (omega arith) in
-      let t : ltb i (p.offset + length p.octets) ≡ false = le-ltb i (p.offset + length p.octets) h in
+      let t : ltb i (p.offset + length p.bytes) ≡ false = le-ltb i (p.offset + length p.bytes) h in
       rw (s, t) refl
 
   -- of the file those octets that are a piece's
-  pub spread_piece : (file : List ℕ) (p : Piece) → IsOf file p → spread (λ i. covers i p) 0 file ≡ spread (λ _. true) p.offset p.octets
+  pub spread_piece : (file : List ℕ) (p : Piece) → IsOf file p → spread (λ i. covers i p) 0 file ≡ spread (λ _. true) p.offset p.bytes
   spread_piece file p is =
       let o : ℕ = p.offset in
-      let len : ℕ = length p.octets in
+      let len : ℕ = length p.bytes in
       let c : ℕ → Bool = λ i. covers i p in
       let inside : o + len ≤ length file = is.within in
       let front : List ℕ = take o file in
       let back : List ℕ = drop len (drop o file) in
       let front_len : length front ≡ o = length-take-le o file (omega arith) in
-      let mid : p.octets ++ back ≡ drop o file = ap (λ l. l ++ back) is.same ∙ take-append-drop len (drop o file) in
-      let whole : front ++ (p.octets ++ back) ≡ file = ap (λ l. front ++ l) mid ∙ take-append-drop o file in
+      let mid : p.bytes ++ back ≡ drop o file = ap (λ l. l ++ back) is.same ∙ take-append-drop len (drop o file) in
+      let whole : front ++ (p.bytes ++ back) ≡ file = ap (λ l. front ++ l) mid ∙ take-append-drop o file in
       let one : spread c 0 front ≡ 0 = spread_none c 0 front (λ i low high. before_piece p i (omega (arith, front_len))) in
-      let two : spread c o p.octets ≡ spread (λ _. true) o p.octets = spread_same c (λ _. true) o p.octets (λ i low high. in_piece p i low high) in
+      let two : spread c o p.bytes ≡ spread (λ _. true) o p.bytes = spread_same c (λ _. true) o p.bytes (λ i low high. in_piece p i low high) in
       let three : spread c (o + len) back ≡ 0 = spread_none c (o + len) back (λ i low high. after_piece p i low) in
       let start : 0 + length front ≡ o = omega (arith, front_len) in
       ap (spread c 0) (sym whole)
-      ∙ spread_append c 0 front (p.octets ++ back)
-      ∙ ap₂ bit_xor one (ap (λ k. spread c k (p.octets ++ back)) start ∙ spread_append c o p.octets back ∙ ap₂ bit_xor two three ∙ xor_zero_r (spread (λ _. true) o p.octets))
+      ∙ spread_append c 0 front (p.bytes ++ back)
+      ∙ ap₂ bit_xor one (ap (λ k. spread c k (p.bytes ++ back)) start ∙ spread_append c o p.bytes back ∙ ap₂ bit_xor two three ∙ xor_zero_r (spread (λ _. true) o p.bytes))

@@ -1,5 +1,5 @@
 -- Cyclic redundancy checks, as the CCSDS books define them (732.0-B-4, 4.1.6.2).
-use Rattle.std.specs.Prelude.{ℕ, ◌+◌, ◌-◌, ◌*◌, ◌^◌, List, length, bit_xor}
+use Rattle.std.specs.Prelude.{ℕ, ◌+◌, ◌-◌, ◌*◌, ◌^◌, ◌==◌, Bool, List, length, take, drop, bit_xor}
 use Rattle.cfd_bits.specs.Field.{field}
 use Rattle.crc.specs.Division.{remainder}
 
@@ -23,3 +23,8 @@ crc16_behind start octets = check_from 16 divisor16 start octets
 -- begun with ones
 abbrev pub crc16_of : List ℕ → ℕ
 crc16_of octets = crc16_behind (2 ^ 16 - 1) octets
+
+-- whether the last two octets are the check of all before them
+abbrev pub ends_in_check : List ℕ → Bool
+ends_in_check octets =
+    field (drop (length octets - 2) octets) 0 16 == crc16_of (take (length octets - 2) octets)

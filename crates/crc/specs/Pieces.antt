@@ -9,7 +9,7 @@ use Rattle.crc.specs.FileChecks.{left_behind, moved_octets, start32}
 -- octets, and where in a file they begin
 pub record Piece : Type 0 where
   pub offset : ℕ
-  pub octets : List ℕ
+  pub bytes : List ℕ
 
 -- nothing came
 abbrev pub nothing_kept : Crc32 → FileCheck
@@ -17,21 +17,21 @@ nothing_kept kind = record { kind = kind; end = 0; left = start32 kind }
 
 -- how many octets of a piece lie before the end
 abbrev pub before_end : ℕ → Piece → ℕ
-before_end end p = min (length p.octets) (end - p.offset)
+before_end end p = min (length p.bytes) (end - p.offset)
 
 -- Once a piece came, each octet of it for the first time: those before the end are added, moved by
 -- the octets behind them; those behind it go on, behind zeros if there is a gap.
 abbrev pub kept_with : FileCheck → Piece → FileCheck
 kept_with k p =
     let n = before_end k.end p in
-    let front = left_behind k.kind 0 (take n p.octets) in
+    let front = left_behind k.kind 0 (take n p.bytes) in
     let behind = k.end - (p.offset + n) in
     let gap = p.offset + n - k.end in
     let laid = bit_xor k.left (moved_octets k.kind behind front) in
     record {
       kind = k.kind;
-      end = max k.end (p.offset + length p.octets);
-      left = left_behind k.kind (moved_octets k.kind gap laid) (drop n p.octets);
+      end = max k.end (p.offset + length p.bytes);
+      left = left_behind k.kind (moved_octets k.kind gap laid) (drop n p.bytes);
     }
 
 -- once pieces came, in this order
@@ -40,12 +40,12 @@ kept_of kind pieces = fold kept_with (nothing_kept kind) pieces
 
 -- whether the offset is one of the piece's
 abbrev pub covers : ℕ → Piece → Bool
-covers n p = nat_le p.offset n && nat_lt n (p.offset + length p.octets)
+covers n p = nat_le p.offset n && nat_lt n (p.offset + length p.bytes)
 
 -- The piece is a part of the file.
 pub record IsOf (file : List ℕ) (p : Piece) : Type 0 where
-  pub within : p.offset + length p.octets ≤ length file
-  pub same : p.octets ≡ take (length p.octets) (drop p.offset file)
+  pub within : p.offset + length p.bytes ≤ length file
+  pub same : p.bytes ≡ take (length p.bytes) (drop p.offset file)
 
 -- The pieces are the file, each octet of it once.
 pub record Cuts (file : List ℕ) (pieces : List Piece) : Type 0 where

@@ -8,7 +8,7 @@ use crate::Crc32;
 /// The check of a file of which pieces come in any order, each octet once. Kept is what is left of
 /// the octets up to the end of those that came, with zeros where none came yet; so a piece costs
 /// its octets and, where it doesn't follow the last one, some forty products.
-#[derive(Clone, Copy)]
+#[derive(Clone, Copy, Debug, PartialEq, Eq)]
 pub struct FileCheck {
     kind: Crc32,
     end: u64,
@@ -28,19 +28,19 @@ impl FileCheck {
     }
 
     /// Adds a piece of the file: octets, the first of them at this offset.
-    pub fn add(&mut self, offset: u64, octets: &[u8])
-        requires { offset + length octets.now < 2 ^ 64 }
-        ensures { self.new ≡ kept_with self.old (record { offset = offset; octets = octets.now }) }
+    pub fn add(&mut self, offset: u64, bytes: &[u8])
+        requires { offset + length bytes.now < 2 ^ 64 }
+        ensures { self.new ≡ kept_with self.old (record { offset = offset; bytes = bytes.now }) }
     {
-        let before = self.before_end(offset, octets.len());
-        let (front, back) = octets.split_at(before);
+        let before = self.before_end(offset, bytes.len());
+        let (front, back) = bytes.split_at(before);
         let seam = offset + before as u64;
         let front_left = self.kind.more(0, front);
         let added = self.kind.moved(self.end.saturating_sub(seam), front_left);
         let gap = seam.saturating_sub(self.end);
         let reached = self.kind.moved(gap, self.left ^ added);
         self.left = self.kind.more(reached, back);
-        self.end = self.end.max(offset + octets.len() as u64);
+        self.end = self.end.max(offset + bytes.len() as u64);
     }
 
     /// The check, once each octet of the file came.

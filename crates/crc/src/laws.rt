@@ -4,7 +4,7 @@ ghost use Rattle.std.specs.Prelude.{slice_index};
 ghost use Rattle.crc.specs.Checks.{crc16_behind, crc16_of};
 ghost use Rattle.crc.specs.Division.{remainder, IsLeft};
 ghost use Rattle.crc.specs.FileChecks.{crc32_of, written32};
-ghost use Rattle.crc.specs.Pieces.{kept_of, Cuts, Piece};
+ghost use Rattle.crc.specs.Pieces.{kept_of, kept_with, nothing_kept, Cuts, Piece};
 ghost use Rattle.crc.specs.declared.thirty_two.Crc32.{Crc32};
 ghost use Rattle.crc.specs.declared.thirty_two.Crc32.TheVariants.{Castagnoli, Ieee};
 
@@ -29,9 +29,22 @@ pub fn the_worked_check()
 
 /// However a file is cut, and in whatever order its pieces come, what is kept of them is its check.
 pub fn cut_file_has_its_check()
-    ensures { (kind : Crc32) (file : List ℕ) (pieces : List Piece)
-        → ((i : ℕ) → i < length file → slice_index file i < 256) → Cuts file pieces
+    ensures { (kind : Crc32) (file : List ℕ) (pieces : List Piece) → Cuts file pieces
         → written32 kind (kept_of kind pieces).left ≡ crc32_of kind file }
+{}
+
+/// Octets that follow those that came leave what both do in one piece, where none came that is
+/// nothing, and a whole file in one piece leaves its check.
+pub fn a_file_check_goes_on()
+    ensures none { (kind : Crc32) → kept_with (nothing_kept kind) (record { offset = 0; bytes = [] })
+        ≡ nothing_kept kind }
+    ensures more { (kind : Crc32) (front back : List ℕ) →
+        kept_with (kept_with (nothing_kept kind) (record { offset = 0; bytes = front }))
+        (record { offset = length front; bytes = back })
+        ≡ kept_with (nothing_kept kind) (record { offset = 0; bytes = front ++ back }) }
+    ensures whole { (kind : Crc32) (file : List ℕ) →
+        written32 kind (kept_with (nothing_kept kind) (record { offset = 0; bytes = file })).left
+        ≡ crc32_of kind file }
 {}
 
 /// The checks of the text `123456789` that catalogues give: E3069283 and CBF43926, hexadecimal.

@@ -15,6 +15,7 @@
 //! Tested by the laws `the_worked_check` and `the_worked_file_checks`.
 #![tactic(auto)]
 
+mod damage;
 mod file_check;
 mod laws;
 mod lookup;
@@ -22,10 +23,11 @@ mod moving;
 mod sixteen;
 mod thirty_two;
 
+pub use damage::damage_is_seen;
 pub use file_check::FileCheck;
 pub use laws::{
-    a_check_goes_on, cut_file_has_its_check, the_worked_check, the_worked_file_checks,
-    what_is_left_is_the_remainder,
+    a_check_goes_on, a_file_check_goes_on, cut_file_has_its_check, the_worked_check,
+    the_worked_file_checks, what_is_left_is_the_remainder,
 };
 pub use sixteen::{crc16, crc16_more};
 pub use thirty_two::Crc32;

@@ -11,7 +11,7 @@ use crate::lookup::{
 };
 
 /// A check of thirty-two bits that a file may have, each a checksum type of SANA's registry.
-#[derive(Clone, Copy)]
+#[derive(Clone, Copy, Debug, PartialEq, Eq)]
 pub enum Crc32 {
     /// That of Proximity-1 (CCSDS 211.2-B): checksum type 1.
     Proximity1,

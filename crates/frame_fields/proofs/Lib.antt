@@ -1,4 +1,3 @@
 pub mod RoundTrip
-mod Powers
-mod Detection
 mod Intact
+mod Bare

@@ -1,5 +1,5 @@
--- What is sealed is opened again.
-use Rattle.std.proofs.Common.{◌≡◌, ℕ, ◌+◌, ◌-◌, ◌*◌, ◌^◌, ◌<◌, ◌≤◌, ◌==◌, ◌&&◌, nat_le, Bool, true, false, not, if◌then◌else◌, Option, Some, None, List, [], ◌++◌, length, take, drop, replicate, refl, sym, ap, ap₂, ◌∙◌, arith, append_assoc, append-nil, length-append, length-drop}
+-- Exported: what is sealed is opened again; `opens_sealed` for callers.
+use Rattle.std.proofs.Common.{◌≡◌, ℕ, ◌+◌, ◌-◌, ◌^◌, ◌<◌, ◌≤◌, ◌&&◌, nat_le, Bool, true, false, not, if◌then◌else◌, Some, None, List, [], ◌++◌, length, take, drop, replicate, refl, sym, ap, ◌∙◌, arith, append_assoc, append-nil, length-append, length-drop}
 use Rattle.std.proofs.lemmas.Bool.{eq-eqb, le-leb}
 use Rattle.std.proofs.lemmas.List.{length-take-le, length-replicate, take_at, drop_at}
 use Rattle.cfd_bits.specs.Field.{field, octets}
@@ -7,10 +7,9 @@ use Rattle.cfd_bits.proofs.Fields.{length-octets, field-octets, field-append_lef
 use Rattle.crc.specs.Checks.{divisor16, crc16_behind, check_from, crc16_of}
 use Rattle.crc.proofs.Divisions as div
 use Rattle.frame_fields.specs.declared.config.FrameFields.{FrameFields}
-use Rattle.frame_fields.specs.declared.opening.FieldsFault.{FieldsFault}
 use Rattle.frame_fields.specs.declared.opening.FieldsFault.TheVariants.{Short, Damaged}
 use Rattle.frame_fields.specs.Fields.{extra, fields_fault, is_intact, control_len, check_len, control_octets, guarded, sealed, insert_in, behind_insert, mpdu_len, mpdu_in, control_of, control_in}
-use Rattle.frame_fields.proofs.Detection.{least, most}
+use Rattle.crc.proofs.Detection.{least, most}
 
 check_below : (text : List ℕ) → crc16_of text < 256 ^ 2
 unfolding crc16_behind check_from

@@ -1,8 +1,8 @@
 -- The frames of a link with the fields that they may have beside the header and the M_PDU (CCSDS
 -- 732.0-B-4, 4.1.3, 4.1.5, 4.1.6). A bare frame has neither of these.
-use Rattle.std.specs.Prelude.{◌≡◌, ℕ, ◌+◌, ◌-◌, ◌≤◌, ◌==◌, nat_le, Bool, true, false, not, ◌&&◌, if◌then◌else◌, Option, Some, None, List, [], ◌++◌, length, take, drop, replicate}
+use Rattle.std.specs.Prelude.{ℕ, ◌+◌, ◌-◌, ◌≤◌, nat_le, Bool, false, not, ◌&&◌, if◌then◌else◌, Option, Some, None, List, [], ◌++◌, length, take, drop, replicate}
 use Rattle.cfd_bits.specs.Field.{field, octets}
-use Rattle.crc.specs.Checks.{crc16_of}
+use Rattle.crc.specs.Checks.{crc16_of, ends_in_check}
 use Rattle.frame_fields.specs.declared.config.FrameFields.{FrameFields}
 use Rattle.frame_fields.specs.declared.config.FieldsField.{FieldsField}
 use Rattle.frame_fields.specs.declared.config.FieldsField.TheVariants.{InsertZone}
@@ -15,6 +15,10 @@ pub record AreFields (fields : FrameFields) : Type 0 where
 
 abbrev pub FitsFields : FieldsField → FrameFields → Type 0
 FitsFields InsertZone fields = fields.insert_zone ≤ 64
+
+-- frames with none of them
+abbrev pub no_fields : FrameFields
+no_fields = record { insert_zone = 0; control_field = false; error_control = false }
 
 -- ---- how long they are
 abbrev pub control_len : FrameFields → ℕ
@@ -44,8 +48,7 @@ sealed fields bare control = guarded fields
 -- ---- what is taken
 -- whether the last two octets are the check of all before them
 abbrev pub is_intact : List ℕ → Bool
-is_intact frame = field (drop (length frame - 2) frame) 0 16
-    == crc16_of (take (length frame - 2) frame)
+is_intact frame = ends_in_check frame
 
 -- why octets are no frame with these fields: the first cause in this order, or none
 abbrev pub fields_fault : FrameFields → List ℕ → Option FieldsFault

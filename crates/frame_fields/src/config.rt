@@ -1,5 +1,5 @@
 //! Which fields the frames of a link have.
-ghost use Rattle.std.specs.Prelude.{◌≡◌};
+ghost use Rattle.std.specs.Prelude.{◌≡◌, ◌≤◌};
 ghost use Rattle.frame_fields.specs.Fields.{AreFields, FitsFields, extra};
 
 use thiserror::Error;
@@ -60,7 +60,8 @@ impl FrameFields {
 
     /// By how many octets a frame is longer than a bare one, 0 to 261.
     pub fn extra(self) -> usize
-        ensures { result ≡ extra self }
+        ensures are { result ≡ extra self }
+        ensures most { result ≤ 261 }
     {
         let mut len = usize::from(self.insert_zone);
         if self.control_field {

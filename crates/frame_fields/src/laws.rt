@@ -1,10 +1,11 @@
 //! Laws of frames and their fields, each the contract of a function that does nothing.
 ghost use Rattle.std.specs.Prelude.{◌≡◌, ℕ, ◌^◌, ◌<◌, ◌≤◌, true, if◌then◌else◌, List, Some, None};
 ghost use Rattle.std.specs.Prelude.{length, take, drop, replicate};
+ghost use Rattle.crc.specs.Damage.{IsDamaged};
 ghost use Rattle.frame_fields.specs.declared.config.FrameFields.{FrameFields};
 ghost use Rattle.frame_fields.specs.declared.opening.FieldsFault.TheVariants.{Damaged};
-ghost use Rattle.frame_fields.specs.Damage.{IsDamaged};
-ghost use Rattle.frame_fields.specs.Fields.{control_in, fields_fault, insert_in, mpdu_in, sealed};
+ghost use Rattle.frame_fields.specs.Fields.{control_in, fields_fault, insert_in, mpdu_in};
+ghost use Rattle.frame_fields.specs.Fields.{no_fields, sealed};
 
 /// What is sealed is opened again: nothing is wrong with it, and its parts are those of the bare
 /// frame, with zeros as the insert zone, and the operational control field that was sent.
@@ -15,6 +16,14 @@ pub fn what_is_sealed_is_opened()
         × (insert_in fields frame ≡ replicate fields.insert_zone 0)
         × (mpdu_in fields frame ≡ drop 6 bare)
         × (control_in fields frame ≡ (if fields.control_field then Some control else None)) }
+{}
+
+/// Where a link has none of these fields, what is sealed is the bare frame, octet by octet, and a
+/// whole header is all that is asked of one.
+pub fn without_fields_a_frame_is_bare()
+    ensures sent { (bare : List ℕ) (control : ℕ) → sealed no_fields bare control ≡ bare }
+    ensures taken { (frame : List ℕ) → 6 ≤ length frame →
+        (fields_fault no_fields frame ≡ None) × (mpdu_in no_fields frame ≡ drop 6 frame) }
 {}
 
 /// A frame with error control of up to 2,048 octets of which one, two or three bits were turned, or

@@ -25,6 +25,6 @@ mod opening;
 mod sealing;
 
 pub use config::{FieldsField, FrameFields, MOST_INSERT_ZONE};
-pub use laws::{damage_is_seen, what_is_sealed_is_opened};
-pub use opening::{FieldsFault, Opened, open};
+pub use laws::{damage_is_seen, what_is_sealed_is_opened, without_fields_a_frame_is_bare};
+pub use opening::{FieldsFault, Opened, control_field, open};
 pub use sealing::{HEADER_LEN, seal};

@@ -1,9 +1,9 @@
 //! The frames of a link to bare ones.
-ghost use Rattle.std.specs.Prelude.{◌≡◌, ◌-◌, ◌≤◌, length, take, drop, IfOk};
+ghost use Rattle.std.specs.Prelude.{◌≡◌, ◌+◌, ◌-◌, ◌≤◌, length, take, drop, IfOk};
 ghost use Rattle.std.specs.Result.{result_err};
 ghost use Rattle.cfd_bits.specs.Field.{field};
 ghost use Rattle.frame_fields.specs.Fields.{control_in, control_len, control_of};
-ghost use Rattle.frame_fields.specs.Fields.{fields_fault, insert_in};
+ghost use Rattle.frame_fields.specs.Fields.{extra, fields_fault, insert_in};
 ghost use Rattle.frame_fields.specs.Fields as parts;
 ghost use Rattle.frame_fields.specs.Fields.{mpdu_in};
 
@@ -68,6 +68,18 @@ pub fn open<'a>(fields: FrameFields, frame: &'a [u8]) -> Result<Opened<'a>, Fiel
         mpdu,
         control: control_at(fields, behind),
     })
+}
+
+/// The operational control field of a frame that was opened, if the link has one.
+pub fn control_field(fields: FrameFields, frame: &[u8]) -> Option<u32>
+    requires { 6 + extra fields ≤ length frame.now }
+    ensures { result ≡ control_in fields frame.now }
+{
+    let mpdu_len = frame.len() - HEADER_LEN - fields.extra();
+    let (_, rest) = frame.split_at(HEADER_LEN);
+    let (_, rest) = rest.split_at(usize::from(fields.insert_zone));
+    let (_, behind) = rest.split_at(mpdu_len);
+    control_at(fields, behind)
 }
 
 /// Whether the last two octets are the check of all before them.

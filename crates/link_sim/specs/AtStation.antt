@@ -4,7 +4,7 @@ use Rattle.std.specs.Prelude.{◌≡◌, ◌≢◌, ◌⊎◌, ℕ, ◌+◌, ◌
 use Rattle.std.specs.declared.alloc.AllocError.{AllocError}
 use Rattle.cfd_bits.specs.Counting.{raised}
 use Rattle.cfdp_header.specs.declared.value.TransactionId.{TransactionId}
-use Rattle.aos_frame.specs.Frame.{other_lane}
+use Rattle.aos_frame.specs.Frame.{frame_len, other_lane}
 use Rattle.aos_frame.specs.declared.config.Lane.{Lane}
 use Rattle.mpdu.specs.Packing.{flush_of}
 use Rattle.link_stack.specs.Frames.{packet_of}
@@ -52,10 +52,11 @@ AreSameLinks old new = (l : Lane) → IsSameLink (lane_of_links l old) (lane_of_
 abbrev pub AreSameMarks : (old new : FrameLinksState) → Type 0
 AreSameMarks old new = (l : Lane) → IsSameMarks (lane_of_links l old) (lane_of_links l new)
 
--- Of a lane the link, the capacity, and whether a flush came last, are as they were.
+-- Of a lane the link, the capacity, whether a flush came last, and the control field are as they
+-- were.
 abbrev pub IsSameEnd : (old new : LinkSenderState) → Type 0
 IsSameEnd old new = (new.link ≡ old.link) × (new.capacity ≡ old.capacity)
-    × (new.flushed ≡ old.flushed)
+    × (new.flushed ≡ old.flushed) × (new.control ≡ old.control)
 
 -- So it is of both lanes; and the count of packets is as it was.
 pub record AreSameEnds (old new : DownState) : Type 0 where
@@ -76,7 +77,7 @@ IsNotWhole down = length down.waiting < down.link.zone
 pub record IsReady (down : LinkSenderState) (link : FrameLinkState) : Type 0 where
   pub most_zone : down.link.zone ≤ 2040
   pub none_waits : IsNotWhole down
-  pub fits : link.len ≡ 8 + down.link.zone
+  pub fits : link.len ≡ frame_len down.link
   pub capacity : 8192 ≤ down.capacity
 
 -- Both lanes are ready.
@@ -102,7 +103,7 @@ pub record OnLane (l : Lane) (Does : (link link_now : FrameLinkState) → Type 0
 -- ---- frames leave
 -- The buffers of each lane fit its frames, and are as many as frames wait to leave.
 pub record HasBuffers (down : DownState) (links : FrameLinksState) : Type 0 where
-  pub lens : (l : Lane) → (lane_of_links l links).len ≡ 8 + (lane_down l down).link.zone
+  pub lens : (l : Lane) → (lane_of_links l links).len ≡ frame_len (lane_down l down).link
   pub enough : (l : Lane) → WaitAtMost (lane_of_links l links).blanks (lane_down l down)
 
 -- Of a station nothing changed but the end that sends in one lane.

@@ -1,15 +1,16 @@
 -- One lane of a direction of a link: what was sent, what became of its frames, and what was
 -- delivered.
-use Rattle.std.specs.Prelude.{◌≡◌, ◌≢◌, ℕ, ◌+◌, ◌-◌, ◌*◌, ◌^◌, ◌<◌, ◌≤◌, ◌⊎◌, ◌==◌, ◌&&◌, Bool, true, false, List, [], ◌∷◌, ◌++◌, length, drop, map, not, replicate, slice_index_or, nat_le, nat_lt, if◌then◌else◌}
+use Rattle.std.specs.Prelude.{◌≡◌, ◌≢◌, ℕ, ◌+◌, ◌-◌, ◌*◌, ◌^◌, ◌<◌, ◌≤◌, ◌⊎◌, ◌==◌, ◌&&◌, Bool, true, false, List, [], ◌∷◌, ◌++◌, length, map, not, replicate, slice_index_or, nat_le, nat_lt, if◌then◌else◌}
 use Rattle.std.specs.List.{list_any}
-use Rattle.aos_frame.specs.Frame.{IsChannel}
+use Rattle.aos_frame.specs.Frame.{IsChannel, frame_len}
+use Rattle.aos_frame.specs.declared.config.ChannelConfig.{ChannelConfig}
 use Rattle.mpdu.specs.Stream.{stream, survivors}
 use Rattle.mpdu.specs.Packets.{packets_of, busy}
 use Rattle.mpdu.specs.Parts.{IsPartOf, AreAmong}
 use Rattle.mpdu.specs.Reading.{held_at}
-use Rattle.link_stack.specs.Frames.{frame_of, pdus_in}
+use Rattle.link_stack.specs.Frames.{pdus_in, zone_in}
 use Rattle.link_stack.specs.Drops.{count_of}
-use Rattle.link_stack.specs.Downward.{LinkSenderState, IsDown}
+use Rattle.link_stack.specs.Downward.{LinkSenderState, IsDown, sealed_frame}
 use Rattle.link_stack.specs.Upward.{LinkReceiverState, IsUp}
 use Rattle.link_sim.specs.FrameLink.{FrameLinkState}
 
@@ -33,13 +34,13 @@ one_way down link up = record {
 }
 
 -- ---- what was sent and delivered, read from the frames, the marks and the octets that wait
--- the packet zones of frames, joined: 8 octets of headers stand before each
-abbrev pub zones_of : List (List ℕ) → List ℕ
-zones_of frames = stream (map (λ f. drop 8 f) frames)
+-- the packet zones of frames of a channel, joined
+abbrev pub zones_of : ChannelConfig → List (List ℕ) → List ℕ
+zones_of link frames = stream (map (λ f. zone_in link f) frames)
 
 -- the octets sent: the zones of the frames, and then the octets that wait
 abbrev pub octets_sent : OneWayState → List ℕ
-octets_sent w = zones_of w.frames ++ w.down.waiting
+octets_sent w = zones_of w.down.link w.frames ++ w.down.waiting
 
 -- the packets that they spell
 abbrev pub packets_sent : OneWayState → List (List ℕ)
@@ -84,7 +85,8 @@ pub record IsSent (w : OneWayState) (ps : List (List ℕ)) : Type 0 where
   pub valid : IsChannel w.down.link
   pub made : IsDown w.down ps (length w.frames)
   pub frames : (n : ℕ) → n < length w.frames →
-      slice_index_or w.frames n [] ≡ frame_of w.down.link ps n
+      slice_index_or w.frames n [] ≡ sealed_frame w.down ps n
+  pub fits : w.down.control < 2 ^ 32
   pub octets : octets_sent w ≡ stream ps
   pub taken : length w.marks ≤ length w.frames
 
@@ -124,7 +126,7 @@ pub record IsCarried (down : LinkSenderState) (link : FrameLinkState)
     (up : LinkReceiverState) : Type 0 where
   pub way : IsOneWay (one_way down link up)
   pub rested : IsRested (one_way down link up)
-  pub fits : link.len ≡ 8 + down.link.zone
+  pub fits : link.len ≡ frame_len down.link
 
 -- ---- what the steps do
 -- These packets more were sent, which carry the PDUs with these texts; nothing was delivered.

@@ -2,6 +2,7 @@
 ghost use Rattle.std.specs.Prelude.{◌≡◌, ◌≢◌, ◌+◌, ◌*◌, ◌<◌, ◌≤◌, ◌↔◌, ◌++◌, [], ◌∷◌, true, false};
 ghost use Rattle.std.specs.Prelude.{length, take, drop, slice_get, slice_index_or, OnOk, Some};
 ghost use Rattle.std.specs.Prelude.{IfSome, MatchOption};
+ghost use Rattle.aos_frame.specs.Frame.{frame_len};
 ghost use Rattle.link_stack.specs.Downward.{MakesFrame, frame_lane, lane_down};
 ghost use Rattle.link_sim.specs.FrameLink.{most_struck, mark_at, oldest, oldest_place};
 ghost use Rattle.link_sim.specs.AtStation.{AddsNone, AreSameEnds, IsSameMarks, OnlyLane};
@@ -24,9 +25,9 @@ fn write_frame<O: Outbox, I: Inbox>(
     at: usize,
 )
     requires lane { frame_lane station.old.down ≡ Some lane }
-    requires room { at + (8 + (lane_down lane station.old.down).link.zone) ≤ length octets.old }
+    requires room { at + frame_len (lane_down lane station.old.down).link ≤ length octets.old }
     ensures made { MakesFrame
-        (take (8 + (lane_down lane station.old.down).link.zone) (drop at octets.new))
+        (take (frame_len (lane_down lane station.old.down).link) (drop at octets.new))
         (lane_down lane station.old.down) (lane_down lane station.new.down) }
     ensures only { OnlyLane lane station.old station.new }
     ensures front { take at octets.new ≡ take at octets.old }
@@ -148,7 +149,7 @@ impl FrameLink {
         place: usize,
     ) -> bool
         requires lane { frame_lane station.old.down ≡ Some lane }
-        requires len { self.old.len ≡ 8 + (lane_down lane station.old.down).link.zone }
+        requires len { self.old.len ≡ frame_len (lane_down lane station.old.down).link }
         ensures none { (result ≡ false) ↔ (self.old.blanks ≡ 0) }
         ensures kept { result ≡ false → (self.new ≡ self.old) × (station.new ≡ station.old) }
         // It adds nothing to what was sent in the lane, nor to what was delivered.

@@ -1,10 +1,11 @@
 -- Frames of both lanes in any order, one after another.
-use Rattle.std.proofs.Common.{◌≡◌, ◌≢◌, ℕ, suc, ◌≤◌, ◌==◌, not, if◌then◌else◌, Bool, true, false, Option, Some, None, IfSome, List, [], ◌∷◌, ◌++◌, ◌⊎◌, length, drop, map, refl, sym, ap, subst, ◌∙◌, inl, inr, arith}
+use Rattle.std.proofs.Common.{◌≡◌, ◌≢◌, ℕ, suc, ◌≤◌, ◌==◌, ◌&&◌, not, if◌then◌else◌, Bool, true, false, Option, Some, None, IfSome, List, [], ◌∷◌, ◌++◌, ◌⊎◌, length, drop, map, refl, sym, ap, subst, ◌∙◌, inl, inr, arith}
 use Rattle.std.specs.List.{Contains}
 use Rattle.std.proofs.lemmas.Bool.{eq-eqb, eqb-true}
 use Rattle.std.proofs.lemmas.List.{append_assoc, append-nil}
 use Rattle.std.proofs.lemmas.List.Elements.{Contains-append_cases}
 use Rattle.cfd_bits.specs.Field.{field}
+use Rattle.frame_fields.specs.Fields.{is_intact}
 use Rattle.aos_frame.specs.Counts.{follows}
 use Rattle.aos_frame.specs.Frame.{IsChannel, IsLink, frame_fault, frame_len, idle_channel, lane_channel, other_lane, seen_in}
 use Rattle.aos_frame.specs.declared.config.ChannelConfig.{ChannelConfig}
@@ -12,7 +13,7 @@ use Rattle.aos_frame.specs.declared.config.LinkConfig.{LinkConfig}
 use Rattle.aos_frame.specs.declared.config.Lane.{Lane}
 use Rattle.aos_frame.specs.declared.config.Lane.TheVariants.{Directives, Data}
 use Rattle.aos_frame.specs.declared.error.FrameError.{FrameError}
-use Rattle.aos_frame.specs.declared.error.FrameError.TheVariants.{Length, Version, OtherProfile, OtherSpacecraft, OtherChannel, OnlyIdle}
+use Rattle.aos_frame.specs.declared.error.FrameError.TheVariants.{Length, Version, OtherProfile, OtherSpacecraft, OtherChannel, OnlyIdle, Damaged}
 use Rattle.mpdu.specs.Stream.{begun}
 use Rattle.mpdu.specs.Packets.{busy}
 use Rattle.mpdu.specs.Parts.{IsPartOf}
@@ -32,15 +33,15 @@ record IsReadStray (up : LinkReceiverState) (last : Option Delivery) (read : Fra
 refused_so : (up : LinkReceiverState) (last : Option Delivery) (frame : List ℕ) (error : FrameError) → IsReadStray up last (read_unless (Some error) up frame)
 refused_so up last frame error = record { packets = refl; after = inl (refl, refl) }
 
-idle_so : (up : LinkReceiverState) (last : Option Delivery) (frame : List ℕ) → pointer_of (mpdu_in frame) ≡ 2046 → IsReadStray up last (read_unless None up frame)
+idle_so : (up : LinkReceiverState) (last : Option Delivery) (frame : List ℕ) → pointer_of (mpdu_in up.link frame) ≡ 2046 → IsReadStray up last (read_unless None up frame)
 idle_so up last frame idle =
-    let e : (pointer_of (mpdu_in frame) == 2046) ≡ true = eq-eqb (pointer_of (mpdu_in frame)) 2046 idle in
-    let is : mpdu_read up (seen_in frame) (mpdu_in frame) ≡ idle_read (seen_in frame) =
+    let e : (pointer_of (mpdu_in up.link frame) == 2046) ≡ true = eq-eqb (pointer_of (mpdu_in up.link frame)) 2046 idle in
+    let is : mpdu_read up (seen_in frame) (mpdu_in up.link frame) ≡ idle_read (seen_in frame) =
     ap (λ b. if b then idle_read (seen_in frame)
-    else packets_read (Some (seen_in frame)) up.begun (follows up.last (seen_in frame)) (pointer_of (mpdu_in frame)) (drop 2 (mpdu_in frame))) e in
+    else packets_read (Some (seen_in frame)) up.begun (follows up.last (seen_in frame)) (pointer_of (mpdu_in up.link frame)) (drop 2 (mpdu_in up.link frame))) e in
     subst (λ (r : FrameRead). IsReadStray up last r) (sym is) (record { packets = refl; after = inr refl })
 
-either_so : (up : LinkReceiverState) (last : Option Delivery) (frame : List ℕ) (fault : Option FrameError) → (fault ≢ None) ⊎ (pointer_of (mpdu_in frame) ≡ 2046) →
+either_so : (up : LinkReceiverState) (last : Option Delivery) (frame : List ℕ) (fault : Option FrameError) → (fault ≢ None) ⊎ (pointer_of (mpdu_in up.link frame) ≡ 2046) →
     IsReadStray up last (read_unless fault up frame)
 either_so up last frame (Some error) h = refused_so up last frame error
 either_so up last frame None (inl other) = absurd (other refl)
@@ -48,7 +49,7 @@ either_so up last frame None (inr idle) = idle_so up last frame idle
 
 stray_zone : (link : ChannelConfig) (frame : List ℕ) → IsStray link frame → HasZone link frame → ⊥
 stray_zone link frame (inl other) zone = other zone.of_link
-stray_zone link frame (inr idle) zone = absurd (let bad : true ≡ false = sym (eq-eqb (pointer_of (mpdu_in frame)) 2046 idle) ∙ zone.not_idle in cc)
+stray_zone link frame (inr idle) zone = absurd (let bad : true ≡ false = sym (eq-eqb (pointer_of (mpdu_in link frame)) 2046 idle) ∙ zone.not_idle in cc)
 
 left_same : (up new : LinkReceiverState) (last : Option Delivery) → new.link ≡ up.link → new.last ≡ up.last → new.begun ≡ up.begun → IsLeft up last → IsLeft new last
 left_same up new None link seen kept is = kept ∙ is
@@ -94,8 +95,11 @@ fault_none text c h =
     else r4 in
     let r2 : Option FrameError = if not (field text 0 2 == 1) then Some Version
     else r3 in
-    let a = not_fault (not (length text == frame_len c)) Length r2 h in
-    let h3 = (not_fault (not (field text 0 2 == 1)) Version r3 a.1).1 in
+    let r1 : Option FrameError = if c.fields.error_control && not (is_intact text) then Some Damaged
+    else r2 in
+    let a = not_fault (not (length text == frame_len c)) Length r1 h in
+    let h2 = (not_fault (c.fields.error_control && not (is_intact text)) Damaged r2 a.1).1 in
+    let h3 = (not_fault (not (field text 0 2 == 1)) Version r3 h2).1 in
     let h4 = (not_fault (not (field text 40 1 == 0)) OtherProfile r4 h3).1 in
     let h5 = (not_fault (not (field text 42 2 == 0)) OtherProfile r5 h4).1 in
     let h6 = (not_fault (not (field text 2 8 == c.spacecraft)) OtherSpacecraft r6 h5).1 in
@@ -107,8 +111,8 @@ fault_none text c h =
 
 -- ---- both lanes
 pub valid_lane : (link : LinkConfig) (lane : Lane) → IsLink link → IsChannel (lane_channel lane link)
-valid_lane link Directives valid = record { virtual_channel = valid.virtual_channel; least_zone = valid.least_zone; most_zone = valid.most_zone; apid = valid.apid }
-valid_lane link Data valid = record { virtual_channel = valid.data_virtual_channel; least_zone = valid.least_zone; most_zone = valid.most_zone; apid = valid.apid }
+valid_lane link Directives valid = record { virtual_channel = valid.virtual_channel; least_zone = valid.least_zone; most_zone = valid.most_zone; apid = valid.apid; fields = valid.fields }
+valid_lane link Data valid = record { virtual_channel = valid.data_virtual_channel; least_zone = valid.least_zone; most_zone = valid.most_zone; apid = valid.apid; fields = valid.fields }
 
 -- what holds of a lane and of the other one, holds of each
 pub of_both : (P : Lane → Type 0) (its : Lane) → P its → P (other_lane its) → (lane : Lane) → P lane

@@ -1,10 +1,11 @@
 -- The next frame of a stream, read.
-use Rattle.std.proofs.Common.{◌≡◌, ℕ, ◌+◌, ◌*◌, ◌%◌, ◌<◌, ◌≤◌, ◌==◌, Bool, true, false, None, List, ◌++◌, length, drop, refl, sym, ap, subst, ◌∙◌, arith, length-take, length-drop, length-append}
+use Rattle.std.proofs.Common.{◌≡◌, ℕ, ◌+◌, ◌*◌, ◌%◌, ◌<◌, ◌≤◌, ◌==◌, ◌&&◌, not, Bool, true, false, None, List, ◌++◌, length, drop, refl, sym, ap, subst, ◌∙◌, arith, length-take, length-drop, length-append}
 use Rattle.std.proofs.lemmas.Bool.{eq-eqb, ne_eqb}
 use Rattle.cfd_bits.specs.Field.{field}
 use Rattle.cfd_bits.proofs.Fields.{length-octets}
+use Rattle.frame_fields.specs.Fields.{is_intact, sealed}
 use Rattle.aos_frame.specs.Counts.{frame_counts, CountsFrame}
-use Rattle.aos_frame.specs.Frame.{IsChannel, SpellsFrame, frame_fault, count_in, seen_in}
+use Rattle.aos_frame.specs.Frame.{IsChannel, SpellsFrame, frame_fault, frame_len, count_in, seen_in}
 use Rattle.aos_frame.specs.declared.config.ChannelConfig.{ChannelConfig}
 use Rattle.aos_frame.specs.declared.header.FrameHeader.{FrameHeader}
 use Rattle.aos_frame.specs.declared.count.SeenCount.{SeenCount}
@@ -18,17 +19,23 @@ use Rattle.link_stack.specs.Upward.{IsNextFrame, IsNextFrameOf}
 pub record IsDecoded (all : Bool) (link : ChannelConfig) (ps : List (List ℕ)) (n : ℕ) (frame : List ℕ) : Type 0 where
   pub sound : frame_fault frame link ≡ None
   pub count : CountsFrame all n (seen_in frame)
-  pub pointer : pointer_of (mpdu_in frame) ≡ first_header_pointer link.zone (n * link.zone) 0 ps
-  pub not_idle : (pointer_of (mpdu_in frame) == 2046) ≡ false
-  pub zone_is : drop 2 (mpdu_in frame) ≡ zone link.zone (n * link.zone) (stream ps)
-  pub size : length (drop 2 (mpdu_in frame)) ≡ link.zone
+  pub pointer : pointer_of (mpdu_in link frame) ≡ first_header_pointer link.zone (n * link.zone) 0 ps
+  pub not_idle : (pointer_of (mpdu_in link frame) == 2046) ≡ false
+  pub zone_is : drop 2 (mpdu_in link frame) ≡ zone link.zone (n * link.zone) (stream ps)
+  pub size : length (drop 2 (mpdu_in link frame)) ≡ link.zone
+
+is_whole : (check whole : Bool) → (check ≡ true → whole ≡ true) → (check && not whole) ≡ false
+is_whole false whole h = refl
+is_whole true true h = refl
+is_whole true false h = let no = h refl in absurd cc
 
 -- what spells a frame has no fault
 pub no_fault : (link : ChannelConfig) (h : FrameHeader) (text : List ℕ) → SpellsFrame link h text → frame_fault text link ≡ None
 no_fault link h text s =
     let busy : field text 10 6 ≡ 63 → ⊥ = λ (e : field text 10 6 ≡ 63). omega (arith, e, s.virtual_channel, s.carries_packets) in
     rw (
-      eq-eqb (length text) (6 + 2 + link.zone) s.size,
+      eq-eqb (length text) (frame_len link) s.size,
+      is_whole link.fields.error_control (is_intact text) s.intact,
       eq-eqb (field text 0 2) 1 s.version,
       eq-eqb (field text 40 1) 0 s.not_replayed,
       eq-eqb (field text 42 2) 0 s.two_bits,
@@ -70,10 +77,11 @@ made_is_next link ps marks frame valid byte next =
     let long : length body ≡ link.zone = long_zone link ps n next.inside in
     let two : length (pointer_octets p) ≡ 2 = length-octets 2 p in
     let all : length (mpdu_of link ps n) ≡ 2 + link.zone = omega (arith, length-append (pointer_octets p) body) in
-    let read : SpellsFrame link h (frame_of link ps n) × (drop 6 (frame_of link ps n) ≡ mpdu_of link ps n) =
-    written_frame_is_read link h (mpdu_of link ps n) (record { spacecraft = byte; virtual_channel = valid.virtual_channel; count = omega arith }) refl refl all in
-    let s : SpellsFrame link h frame = subst (SpellsFrame link h) (sym next.octets) read.0 in
-    let behind : drop 6 frame ≡ pointer_octets p ++ body = ap (λ l. drop 6 l) next.octets ∙ read.1 in
+    let k : ℕ = next.sealed.control in
+    let read : SpellsFrame link h (sealed link.fields (frame_of link ps n) k) × (mpdu_in link (sealed link.fields (frame_of link ps n) k) ≡ mpdu_of link ps n) =
+    written_frame_is_read link h (mpdu_of link ps n) k (record { spacecraft = byte; virtual_channel = valid.virtual_channel; count = omega arith }) refl refl all next.sealed.fits in
+    let s : SpellsFrame link h frame = subst (SpellsFrame link h) (sym next.sealed.octets) read.0 in
+    let behind : mpdu_in link frame ≡ pointer_octets p ++ body = ap (λ l. mpdu_in link l) next.sealed.octets ∙ read.1 in
     let again = written_pointer p body (pointer_fits link.zone (n * link.zone) 0 ps valid.most_zone) in
     record {
       of_link = no_fault link h frame s;

@@ -15,12 +15,12 @@ use Rattle.mpdu.specs.Packing.{ZoneOf, flush_of}
 use Rattle.mpdu.specs.Stream.{ArePackets, stream, keep, is_idle}
 use Rattle.mpdu.proofs.Later.{stream-push}
 use Rattle.link_stack.specs.Downward.{DownState, LinkSenderState, IsDown, SendsPdu, Flushes, MakesFrame, packing, lane_down, first_lane_down, first_down, counted_from, both_counted_from, idle_zones}
-use Rattle.link_stack.specs.Frames.{frame_of, mpdu_in, packet_of, pdus_in}
+use Rattle.link_stack.specs.Frames.{IsSealed, mpdu_in, packet_of, pdus_in}
 use Rattle.link_stack.specs.Upward.{UpState, IsNextFrameOf, first_up}
 use Rattle.link_stack.specs.AnyOrder.{Delivery, IsWithinCounts, CountsTell, CountsTellAll, Arrival, OfStream, Stray, octets_in, AreArrivals, no_last, now_last, ReceivesAll, ComesOf}
 use Rattle.link_stack.specs.EndToEnd.{DownCall, Put, Fill, Make, Does, DoesAll, put_by, puts_of, made_by, made_of, Coming, Copy, Noise, coming_octets, AreComing, places_of, AreNear, WerePut}
 use Rattle.link_stack.proofs.Decoded.{made_is_next}
-use Rattle.link_stack.proofs.Grown.{frame-push}
+use Rattle.link_stack.proofs.Grown.{sealed-push}
 use Rattle.link_stack.proofs.Counted.{counted_is, are_idle}
 use Rattle.link_stack.proofs.AnyOrder.{none_came, none_came-length}
 use Rattle.link_stack.proofs.AnyLanes.{valid_lane, of_both, tell_less, all_were_sent}
@@ -29,13 +29,13 @@ use Rattle.link_stack.proofs.Numbers.{numbers_tell}
 -- ---- one lane of the sending end
 -- These octets are frame n of the stream.
 pub record IsMadeAt (link : ChannelConfig) (ps : List (List ℕ)) (n : ℕ) (frame : List ℕ) : Type 0 where
-  pub octets : frame ≡ frame_of link ps n
+  pub sealed : IsSealed link ps n frame
   pub inside : n * link.zone + link.zone ≤ length (stream ps)
 
 made_push : (link : ChannelConfig) (ps : List (List ℕ)) (q : List ℕ) (n : ℕ) (frame : List ℕ) → IsMadeAt link ps n frame → IsMadeAt link (ps ++ q ∷ []) n frame
 made_push link ps q n frame is =
     record {
-      octets = is.octets ∙ sym (frame-push link ps q n is.inside);
+      sealed = sealed-push link ps q n frame is.inside is.sealed;
       inside = omega (arith, is.inside, ap length (stream-push ps q), length-append (stream ps) q);
     }
 
@@ -95,7 +95,7 @@ make_so link first old new ps puts frames frame s is =
     let more : length (frames ++ frame ∷ []) ≡ length frames + 1 = length-append frames (frame ∷ []) in
     let sum : n + 1 ≡ first + length (frames ++ frame ∷ []) = omega arith in
     let this : IsMadeAt link ps n frame =
-    subst (λ (c : ChannelConfig). IsMadeAt c ps n frame) is.same_link (record { octets = s.is_next ps n is.down; inside = s.inside ps n is.down }) in
+    subst (λ (c : ChannelConfig). IsMadeAt c ps n frame) is.same_link (record { sealed = record { control = old.control; fits = s.fits; octets = s.is_next ps n is.down }; inside = s.inside ps n is.down }) in
     let at_end : slice_index_or (frames ++ frame ∷ []) (length frames + 0) [] ≡ frame = get_or-append-add frames (frame ∷ []) 0 [] in
     subst (λ l. IsStreamSo link first new ps l (frames ++ frame ∷ [])) (sym (append-nil puts)) (record {
       same_link = s.link ∙ is.same_link;
@@ -201,13 +201,13 @@ ends_so link capacity first calls start now lane valid is all =
 pub record IsMadeFrame (link : ChannelConfig) (ps : List (List ℕ)) (n : ℕ) (frame : List ℕ) : Type 0 where
   pub sound : frame_fault frame link ≡ None
   pub counted : CountsFrame true n (seen_in frame)
-  pub zoned : ZoneOf ps n link.zone (pointer_of (mpdu_in frame)) (drop 2 (mpdu_in frame))
+  pub zoned : ZoneOf ps n link.zone (pointer_of (mpdu_in link frame)) (drop 2 (mpdu_in link frame))
 
 made_frame : (link : ChannelConfig) (ps : List (List ℕ)) (n : ℕ) (frame : List ℕ) → IsChannel link → link.spacecraft < 256 → IsMadeAt link ps n frame → IsMadeFrame link ps n frame
 made_frame link ps n frame valid byte is =
     let m : List Bool = none_came n in
     let at : IsMadeAt link ps (length m) frame = subst (λ k. IsMadeAt link ps k frame) (sym (none_came-length n)) is in
-    let next : IsNextFrameOf true link ps m frame = made_is_next link ps m frame valid byte (record { inside = at.inside; octets = at.octets }) in
+    let next : IsNextFrameOf true link ps m frame = made_is_next link ps m frame valid byte (record { inside = at.inside; sealed = at.sealed }) in
     subst (λ k. IsMadeFrame link ps k frame) (none_came-length n) (record { sound = next.of_link; counted = next.counted; zoned = next.zoned })
 
 -- What the calls leave: of each lane the packets of its stream.

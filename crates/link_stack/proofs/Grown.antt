@@ -2,6 +2,7 @@
 use Rattle.std.proofs.Common.{◌≡◌, ℕ, ◌+◌, ◌*◌, ◌%◌, ◌<◌, ◌≤◌, Bool, true, false, Option, Some, None, IfSome, List, [], ◌∷◌, ◌++◌, ◌⊎◌, length, drop, refl, sym, ap, ◌∙◌, arith, length-append}
 use Rattle.std.proofs.lemmas.Bool.{ne_eqb}
 use Rattle.cfd_bits.specs.Field.{field, octets}
+use Rattle.frame_fields.specs.Fields.{sealed}
 use Rattle.aos_frame.specs.Counts.{frame_counts, counts_of, CountsFrame}
 use Rattle.aos_frame.specs.declared.count.SeenCount.{SeenCount}
 use Rattle.aos_frame.specs.Frame.{IsChannel, frame_octets}
@@ -13,7 +14,7 @@ use Rattle.mpdu.specs.Stream.{IsPacket, ArePackets, stream, zone, first_header_p
 use Rattle.mpdu.specs.Reading.{held_at}
 use Rattle.mpdu.proofs.Struck.{begun-struck, begun-none}
 use Rattle.mpdu.proofs.Later.{ArePackets-push, begun-push, zone-push, pointer-push}
-use Rattle.link_stack.specs.Frames.{packet_drop, AreOfLink, carrying, packet_of, frame_of, pdus_in}
+use Rattle.link_stack.specs.Frames.{packet_drop, AreOfLink, carrying, packet_of, frame_of, IsSealed, pdus_in}
 use Rattle.link_stack.specs.Upward.{LinkReceiverState, IsUpOf}
 use Rattle.mpdu.specs.Packets.{busy}
 use Rattle.link_stack.proofs.Sent.{ours, of_link-push}
@@ -41,8 +42,8 @@ pub some_counts : (all : Bool) → 0 < counts_of all
 some_counts true = omega arith
 some_counts false = omega arith
 
-pub new_is : (all : Bool) (link : ChannelConfig) (ps : List (List ℕ)) (counts : List ℕ) → length counts ≡ 11 → ArePackets ps → AreOfLink link ps →
-    IsUpOf all (record { link = link; last = None; begun = []; drops = counts }) ps [] 0
+pub new_is : (all : Bool) (link : ChannelConfig) (ps : List (List ℕ)) (counts : List ℕ) → length counts ≡ 12 → ArePackets ps → AreOfLink link ps →
+    IsUpOf all (record { link = link; last = None; begun = []; drops = counts; control = None }) ps [] 0
 new_is all link ps counts size whole ours_all =
     record { packets_whole = whole; of_link = ours_all; few = some_counts all; seen = tt; unseen = λ e. refl; as_left = sym (begun-none link.zone ps whole); counts = size }
 
@@ -52,6 +53,12 @@ frame-push link ps q n h =
     let e : ℕ = n * link.zone in
     ap (λ p. frame_octets header (octets 2 p ++ zone link.zone e (stream (ps ++ q ∷ [])))) (pointer-push link.zone e 0 ps q (omega (arith, h)))
     ∙ ap (λ l. frame_octets header (octets 2 (first_header_pointer link.zone e 0 ps) ++ l)) (zone-push link.zone e ps q h)
+
+-- the same of the sealed frame
+pub sealed-push : (link : ChannelConfig) (ps : List (List ℕ)) (q : List ℕ) (n : ℕ) (frame : List ℕ) → n * link.zone + link.zone ≤ length (stream ps) → IsSealed link ps n frame →
+    IsSealed link (ps ++ q ∷ []) n frame
+sealed-push link ps q n frame h is =
+    record { control = is.control; fits = is.fits; octets = is.octets ∙ ap (λ l. sealed link.fields l is.control) (sym (frame-push link ps q n h)) }
 
 pub up-push : {all : Bool} (up : LinkReceiverState) (ps : List (List ℕ)) (q : List ℕ) (marks : List Bool) (missed : ℕ) → IsPacket q → ((is_idle q ≡ true) ⊎ (packet_drop up.link q ≡ None)) →
     length marks * up.link.zone ≤ length (stream ps) →

@@ -1,18 +1,18 @@
 -- From the calls of sending ends that are made anew to what comes up at the other end.
-use Rattle.std.proofs.Common.{◌≡◌, ◌≢◌, ℕ, zero, suc, ◌+◌, ◌<◌, ◌≤◌, true, Option, Some, None, IfSome, List, [], ◌∷◌, ◌++◌, ◌⊎◌, length, map, slice_index_or, refl, sym, ap, subst, ◌∙◌, inl, inr, arith}
+use Rattle.std.proofs.Common.{◌≡◌, ℕ, zero, suc, ◌+◌, ◌<◌, true, Option, Some, None, IfSome, List, [], ◌∷◌, ◌⊎◌, length, map, slice_index_or, refl, sym, ap, subst, ◌∙◌, inl, inr, arith}
 use Rattle.std.specs.List.{Contains}
 use Rattle.std.proofs.lemmas.Bool.{cases_lt}
 use Rattle.std.proofs.lemmas.List.{get_or_past}
-use Rattle.aos_frame.specs.Frame.{IsLink, lane_channel}
+use Rattle.aos_frame.specs.Frame.{IsLink}
 use Rattle.aos_frame.specs.declared.config.LinkConfig.{LinkConfig}
 use Rattle.aos_frame.specs.declared.config.Lane.{Lane}
 use Rattle.aos_frame.specs.declared.config.Lane.TheVariants.{Directives, Data}
 use Rattle.mpdu.specs.Packets.{busy}
-use Rattle.link_stack.specs.Downward.{DownState, both_counted_from, first_down}
+use Rattle.link_stack.specs.Downward.{both_counted_from, first_down}
 use Rattle.link_stack.specs.Frames.{pdus_in}
 use Rattle.link_stack.specs.Upward.{UpState, first_up}
 use Rattle.link_stack.specs.AnyOrder.{Delivery, IsWithinCounts, CountsTell, CountsTellAll, Arrival, OfStream, Stray, octets_in, AreArrivals, no_last, now_last, ReceivesAll, ComesOf}
-use Rattle.link_stack.specs.EndToEnd.{AreNear, DoesAll, puts_of}
+use Rattle.link_stack.specs.EndToEnd.{AreNear, puts_of}
 use Rattle.link_stack.specs.Lives.{Life, life_at, made_in, IsLife, AreApart, ComingOf, CopyOf, NoiseOf, octets_coming, AreComingOf, numbers_of, WerePutIn}
 use Rattle.link_stack.proofs.AnyLanes.{of_both, tell_less, all_were_sent}
 use Rattle.link_stack.proofs.EndToEnd.{AreStreams, are_streams, ends_so}

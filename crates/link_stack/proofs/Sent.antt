@@ -1,19 +1,21 @@
 -- What the sending end of a link adds to its stream.
-use Rattle.std.proofs.Common.{◌≡◌, ℕ, ◌+◌, ◌*◌, ◌%◌, true, false, None, Result, Ok, Err, OnOk, IsErr, List, [], ◌∷◌, ◌++◌, ◌⊎◌, refl, sym, ap, subst, ◌∙◌, inl, inr, arith}
+use Rattle.std.proofs.Common.{◌≡◌, ℕ, ◌+◌, ◌*◌, ◌%◌, ◌^◌, ◌<◌, ◌≤◌, true, false, None, Result, Ok, Err, OnOk, IsErr, List, [], ◌∷◌, ◌++◌, ◌⊎◌, length, take, drop, refl, sym, ap, subst, ◌∙◌, inl, inr, arith}
 use Rattle.std.proofs.lemmas.Bool.{cases_Bool, eq-eqb}
-use Rattle.std.proofs.lemmas.List.{append_assoc}
+use Rattle.std.proofs.lemmas.List.{append_assoc, drop-drop}
 use Rattle.cfd_bits.specs.Field.{flag}
 use Rattle.mpdu.specs.MpduHeader.{pointer_octets}
 use Rattle.space_packet.specs.Packet.{Parts, SpellsPacket, flag_bits}
 use Rattle.space_packet.specs.declared.packet.SequenceFlags.TheVariants.{Unsegmented}
+use Rattle.frame_fields.specs.Fields.{sealed}
+use Rattle.frame_fields.proofs.RoundTrip.{opens_sealed}
 use Rattle.aos_frame.specs.Counts.{frame_counts}
 use Rattle.aos_frame.specs.Frame.{header_octets, frame_octets}
 use Rattle.aos_frame.specs.declared.config.ChannelConfig.{ChannelConfig}
-use Rattle.mpdu.specs.Stream.{is_idle, first_header_pointer}
+use Rattle.mpdu.specs.Stream.{is_idle, stream, first_header_pointer}
 use Rattle.mpdu.specs.Packets.{busy}
 use Rattle.mpdu.specs.Packing.{PackerState, IsAt, ZoneOf}
-use Rattle.link_stack.specs.Frames.{packet_drop, AreOfLink, mpdu_of, frame_of}
-use Rattle.link_stack.specs.Downward.{LinkSenderState, packing, IsDown}
+use Rattle.link_stack.specs.Frames.{packet_drop, AreOfLink, mpdu_of, frame_of, zone_in}
+use Rattle.link_stack.specs.Downward.{LinkSenderState, packing, IsDown, MakesFrame}
 
 -- a packet more
 pub of_link-push : (link : ChannelConfig) (ps : List (List ℕ)) (q : List ℕ) → AreOfLink link ps → ((is_idle q ≡ true) ⊎ (packet_drop link q ≡ None)) → AreOfLink link (ps ++ q ∷ [])
@@ -46,25 +48,46 @@ written_frame link ps made count pointer headers body counted written zo =
     ap (λ n. pointer_octets n ++ body) zo.pointed ∙ ap (λ l. pointer_octets (first_header_pointer link.zone (made * link.zone) 0 ps) ++ l) zo.cut_out in
     ap (λ l. l ++ body) written ∙ append_assoc (h count) (pointer_octets pointer) body ∙ ap (λ n. h n ++ (pointer_octets pointer ++ body)) counted ∙ ap (λ l. h (made % frame_counts) ++ l) same
 
--- a lane of the link, by its packer and the count of its frames
-abbrev pub descent : ChannelConfig → PackerState → ℕ → LinkSenderState
-descent link p b = record { link = link; capacity = p.capacity; waiting = p.waiting; first = p.first; flushed = p.flushed; frame_count = b }
+-- what it is once it is sealed
+pub makes_sealed : (old new : LinkSenderState) (bare frame : List ℕ) → length bare ≡ 8 + old.link.zone → old.control < 256 ^ 4 → frame ≡ sealed old.link.fields bare old.control →
+    ((ps : List (List ℕ)) (made : ℕ) → IsDown old ps made → (bare ≡ frame_of old.link ps made) × (made * old.link.zone + old.link.zone ≤ length (stream ps)) × IsDown new ps (made + 1)) →
+    drop 8 bare ≡ take old.link.zone old.waiting → new.waiting ≡ drop old.link.zone old.waiting → (new.link ≡ old.link) × (new.capacity ≡ old.capacity) × (new.flushed ≡ old.flushed) × (new.control ≡ old.control) →
+    MakesFrame frame old new
+makes_sealed old new bare frame long fits is streams zone rest fixed =
+    let o = opens_sealed old.link.fields bare old.control (omega (arith, long)) fits in
+    let its : zone_in old.link frame ≡ drop 2 (drop 6 bare) = ap (λ l. zone_in old.link l) is ∙ ap (λ l. drop 2 l) o.3 in
+    record {
+      is_next = λ ps made d. is ∙ ap (λ l. sealed old.link.fields l old.control) (streams ps made d).0;
+      inside = λ ps made d. (streams ps made d).1;
+      after = λ ps made d. (streams ps made d).2;
+      zone = its ∙ drop-drop 2 6 bare ∙ zone;
+      waiting = rest;
+      link = fixed.0;
+      capacity = fixed.1;
+      flushed = fixed.2;
+      control = fixed.3;
+      fits = fits;
+    }
 
-pub same_packing : (d : LinkSenderState) (link : ChannelConfig) (p : PackerState) (b : ℕ) → d ≡ descent link p b → p.size ≡ link.zone → p ≡ packing d
-same_packing d link p b is size =
-    let sized : p ≡ packing (descent link p b) = ap (λ n. record { size = n; capacity = p.capacity; waiting = p.waiting; first = p.first; flushed = p.flushed }) size in
+-- a lane of the link, by its packer and the count of its frames
+abbrev pub descent : ChannelConfig → PackerState → ℕ → ℕ → LinkSenderState
+descent link p b k = record { link = link; capacity = p.capacity; waiting = p.waiting; first = p.first; flushed = p.flushed; frame_count = b; control = k }
+
+pub same_packing : {k : ℕ} (d : LinkSenderState) (link : ChannelConfig) (p : PackerState) (b : ℕ) → d ≡ descent link p b k → p.size ≡ link.zone → p ≡ packing d
+same_packing {k} d link p b is size =
+    let sized : p ≡ packing (descent link p b k) = ap (λ n. record { size = n; capacity = p.capacity; waiting = p.waiting; first = p.first; flushed = p.flushed }) size in
     sized ∙ sym (ap packing is)
 
 -- what its packer's stream is
-pub at_of : (d : LinkSenderState) (link : ChannelConfig) (p : PackerState) (b : ℕ) (ps : List (List ℕ)) (made : ℕ) → d ≡ descent link p b → p.size ≡ link.zone → IsDown d ps made → IsAt p ps made
+pub at_of : {k : ℕ} (d : LinkSenderState) (link : ChannelConfig) (p : PackerState) (b : ℕ) (ps : List (List ℕ)) (made : ℕ) → d ≡ descent link p b k → p.size ≡ link.zone → IsDown d ps made → IsAt p ps made
 at_of d link p b ps made same size is = subst (λ (x : PackerState). IsAt x ps made) (sym (same_packing d link p b same size)) is.packed
 
 -- a step that keeps the link
-pub down_is : (d : LinkSenderState) (link : ChannelConfig) (p q : PackerState) (b b' : ℕ) (ps qs : List (List ℕ)) (made made' : ℕ) → d ≡ descent link p b → q.size ≡ link.zone →
-    (AreOfLink link ps → AreOfLink link qs) → (b ≡ made % frame_counts → b' ≡ made' % frame_counts) → IsDown d ps made → IsAt q qs made' → IsDown (descent link q b') qs made'
-down_is d link p q b b' ps qs made made' same size ours counts is at =
+pub down_is : {k k' : ℕ} (d : LinkSenderState) (link : ChannelConfig) (p q : PackerState) (b b' : ℕ) (ps qs : List (List ℕ)) (made made' : ℕ) → d ≡ descent link p b k → q.size ≡ link.zone →
+    (AreOfLink link ps → AreOfLink link qs) → (b ≡ made % frame_counts → b' ≡ made' % frame_counts) → IsDown d ps made → IsAt q qs made' → IsDown (descent link q b' k') qs made'
+down_is {k} {k'} d link p q b b' ps qs made made' same size ours counts is at =
     record {
-      packed = subst (λ (x : PackerState). IsAt x qs made') (same_packing (descent link q b') link q b' refl size) at;
+      packed = subst (λ (x : PackerState). IsAt x qs made') (same_packing (descent link q b' k') link q b' refl size) at;
       of_link = ours (subst (λ (l : ChannelConfig). AreOfLink l ps) (ap (λ x. x.link) same) is.of_link);
       counted = counts (sym (ap (λ x. x.frame_count) same) ∙ is.counted);
     }

@@ -16,7 +16,7 @@ use Rattle.link_stack.specs.declared.drops.LinkDrop.TheVariants.{NoMemory}
 use Rattle.link_stack.specs.Frames.{packet_drop, mpdu_in, AreOfLink, pdus_in}
 use Rattle.cfd_bits.specs.Counting.{raised}
 use Rattle.link_stack.specs.Drops.{counted, all_counted, count_of}
-use Rattle.link_stack.specs.Upward.{LinkReceiverState, FrameRead, pdus_of, drops_of, with_pdu, with_drop, zone_drops, idle_read, packets_read, read_unless, frame_read, Takes, TakesFront, HasZone, IsUpOf, IsUp, IsNextFrame, IsNextFrameOf, TakesNextOf, TakesNextFrontOf, TakesNext, TakesNextFront, LaneTakes}
+use Rattle.link_stack.specs.Upward.{LinkReceiverState, FrameRead, pdus_of, drops_of, with_pdu, with_drop, zone_drops, idle_read, packets_read, read_unless, frame_read, Takes, TakesFront, HasZone, IsUpOf, IsUp, IsNextFrame, IsNextFrameOf, TakesNextOf, TakesNextFrontOf, TakesNext, TakesNextFront, LaneTakes, control_after}
 use Rattle.link_stack.proofs.Decoded.{IsDecoded, decoded, made_is_next}
 use Rattle.link_stack.proofs.Grown.{some_counts}
 use Rattle.mpdu.proofs.Following.{held_follows}
@@ -38,7 +38,7 @@ no_memory_length : (counts : List ℕ) → length (counted counts NoMemory) ≡ 
 unfolding counted
 no_memory_length counts = length-set counts 10 (raised (slice_index_or counts 10 0))
 
-no_memory_told : (counts new : List ℕ) → length counts ≡ 11 → new ≡ counted counts NoMemory → 1 ≤ count_of new 11
+no_memory_told : (counts new : List ℕ) → length counts ≡ 12 → new ≡ counted counts NoMemory → 1 ≤ count_of new 11
 unfolding counted
 no_memory_told counts new size e =
     let lt : 10 < length counts = omega arith in
@@ -79,12 +79,12 @@ drops-none link [] all = refl
 drops-none link (p ∷ ps) all = ap (λ o. with_drop o (drops_of link ps)) all.0 ∙ drops-none link ps all.1
 
 -- a frame of the link with packets in its zone
-pub packets_are_read : (up : LinkReceiverState) (frame : List ℕ) → frame_fault frame up.link ≡ None → (pointer_of (mpdu_in frame) == 2046) ≡ false →
-    frame_read up frame ≡ packets_read (Some (seen_in frame)) up.begun (follows up.last (seen_in frame)) (pointer_of (mpdu_in frame)) (drop 2 (mpdu_in frame))
+pub packets_are_read : (up : LinkReceiverState) (frame : List ℕ) → frame_fault frame up.link ≡ None → (pointer_of (mpdu_in up.link frame) == 2046) ≡ false →
+    frame_read up frame ≡ packets_read (Some (seen_in frame)) up.begun (follows up.last (seen_in frame)) (pointer_of (mpdu_in up.link frame)) (drop 2 (mpdu_in up.link frame))
 packets_are_read up frame sound busy =
     let count : SeenCount = seen_in frame in
     ap (λ e. read_unless e up frame) sound ∙ ap (λ b. if b then idle_read count
-    else packets_read (Some count) up.begun (follows up.last count) (pointer_of (mpdu_in frame)) (drop 2 (mpdu_in frame))) busy
+    else packets_read (Some count) up.begun (follows up.last count) (pointer_of (mpdu_in up.link frame)) (drop 2 (mpdu_in up.link frame))) busy
 
 -- what is read of it
 pub record IsRight (all : Bool) (up : LinkReceiverState) (ps : List (List ℕ)) (marks : List Bool) (missed : ℕ) (read : FrameRead) : Type 0 where
@@ -102,8 +102,8 @@ pub right : (all : Bool) (up : LinkReceiverState) (ps : List (List ℕ)) (marks 
 right all up ps marks missed frame valid is whole room d =
     let z : ℕ = up.link.zone in
     let n : ℕ = length marks in
-    let at : ℕ = pointer_of (mpdu_in frame) in
-    let oct : List ℕ = drop 2 (mpdu_in frame) in
+    let at : ℕ = pointer_of (mpdu_in up.link frame) in
+    let oct : List ℕ = drop 2 (mpdu_in up.link frame) in
     let f : Bool = follows up.last (seen_in frame) in
     let held : List ℕ = held_at f up.begun in
     let told = held_follows all up.last (seen_in frame) n missed up.begun is.few is.seen is.unseen d.count in
@@ -211,10 +211,10 @@ all_given all up new ps marks missed old out none (inl t) =
 all_given all up new ps marks missed old out none (inr t) = inr t.drops
 
 -- all that a frame does to its lane
-pub lane_takes : (whole : Bool) (up new : LinkReceiverState) (frame : List ℕ) (old out : List (List ℕ)) → IsChannel up.link → up.link.spacecraft < 256 →
+pub lane_takes : (whole : Bool) (up new : LinkReceiverState) (frame : List ℕ) (old out : List (List ℕ)) → IsChannel up.link → up.link.spacecraft < 256 → new.control ≡ control_after up frame →
     (whole ≡ true → Takes (frame_read up frame) up new old out) → (whole ≡ false → HasZone up.link frame × TakesFront (frame_read up frame) up new old out) →
     LaneTakes frame up new old out
-lane_takes whole up new frame old out valid byte whole_is front =
+lane_takes whole up new frame old out valid byte control whole_is front =
     let others : (all : Bool) (ps : List (List ℕ)) (marks : List Bool) (missed : ℕ) → IsUpOf all up ps marks missed → IsNextFrameOf all up.link ps marks frame →
     TakesNextOf all up new ps marks missed old out ⊎ TakesNextFrontOf all up new ps marks old out =
     λ all ps marks missed is next. taken_either all whole up new ps marks missed frame old out valid is next whole_is front in
@@ -226,4 +226,5 @@ lane_takes whole up new frame old out valid byte whole_is front =
       next = next;
       others = others;
       delivered = λ ps marks missed is made none. all_given true up new ps marks missed old out none (next ps marks missed is made);
+      control = control;
     }

@@ -6,7 +6,7 @@ use Rattle.mpdu.specs.Stream.{keep, header_len, header_ok, is_idle}
 use Rattle.mpdu.specs.Reading.{scan}
 use Rattle.link_stack.specs.declared.drops.LinkDrop.TheVariants.{NoMemory}
 use Rattle.link_stack.specs.Drops.{counted, all_counted}
-use Rattle.link_stack.specs.Upward.{LinkReceiverState, AreLong, pdus_of, drops_of, FrameRead, TakesFront}
+use Rattle.link_stack.specs.Upward.{LinkReceiverState, AreLong, pdus_of, drops_of, FrameRead, Takes, TakesFront}
 
 header_len-long : (xs : List ℕ) → 7 ≤ header_len xs
 unfolding header_len
@@ -84,4 +84,16 @@ front_again read same up mid new old out e link drops t =
       drops = t.drops ∙ ap (λ l. all_counted (counted l NoMemory) (drops_of mid.link (take t.count read.packets))) drops
           ∙ ap (λ l. all_counted (counted up.drops NoMemory) (drops_of l (take t.count read.packets))) link;
       pdus = t.pdus ∙ ap (λ l. old ++ pdus_of l (take t.count read.packets)) link;
+    })
+
+pub all_again : (read same : FrameRead) (up mid new : LinkReceiverState) (old out : List (List ℕ)) → read ≡ same → mid.link ≡ up.link → mid.drops ≡ up.drops → Takes read mid new old out →
+    Takes same up new old out
+all_again read same up mid new old out e link drops t =
+    subst (λ (r : FrameRead). Takes r up new old out) e (record {
+      link = t.link ∙ link;
+      last = t.last;
+      begun = t.begun;
+      drops = t.drops ∙ ap (λ l. all_counted (all_counted l read.told) (drops_of mid.link read.packets)) drops
+          ∙ ap (λ l. all_counted (all_counted up.drops read.told) (drops_of l read.packets)) link;
+      pdus = t.pdus ∙ ap (λ l. old ++ pdus_of l read.packets) link;
     })

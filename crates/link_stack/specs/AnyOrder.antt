@@ -1,5 +1,5 @@
 -- Frames that are delivered in any order, and any number of times, and among them what is no frame.
-use Rattle.std.specs.Prelude.{◌≡◌, ◌≢◌, ◌⊎◌, ℕ, ◌+◌, ◌<◌, ◌≤◌, Bool, true, List, [], ◌∷◌, ◌++◌, length, drop, Option, Some, None, IfSome, Contains}
+use Rattle.std.specs.Prelude.{◌≡◌, ◌≢◌, ◌⊎◌, ℕ, ◌+◌, ◌<◌, ◌≤◌, Bool, true, List, [], ◌∷◌, ◌++◌, length, Option, Some, None, IfSome, Contains}
 use Rattle.cfd_bits.specs.Field.{field}
 use Rattle.aos_frame.specs.Counts.{counts_of, follows, CountsFrame}
 use Rattle.aos_frame.specs.Frame.{frame_fault, lane_channel, other_lane, seen_in}
@@ -12,7 +12,7 @@ use Rattle.mpdu.specs.Packets.{busy}
 use Rattle.mpdu.specs.Packing.{ZoneOf}
 use Rattle.mpdu.specs.Parts.{IsPartOf}
 use Rattle.mpdu.specs.Stream.{ArePackets, begun}
-use Rattle.link_stack.specs.Frames.{mpdu_in, pdus_in}
+use Rattle.link_stack.specs.Frames.{mpdu_in, zone_in, pdus_in}
 use Rattle.link_stack.specs.Upward.{LinkReceiverState, UpState, LaneTakes, lane_of, lane_up}
 
 -- A frame that is delivered: its lane, all packets that its lane's stream ever has, its number in
@@ -28,13 +28,13 @@ pub record Delivery : Type 0 where
 pub record IsFrameOf (link : ChannelConfig) (d : Delivery) : Type 0 where
   pub packets_whole : ArePackets d.packets
   pub of_link : frame_fault d.octets link ≡ None
-  pub zoned : ZoneOf d.packets d.number link.zone (pointer_of (mpdu_in d.octets))
-      (drop 2 (mpdu_in d.octets))
+  pub zoned : ZoneOf d.packets d.number link.zone (pointer_of (mpdu_in link d.octets))
+      (zone_in link d.octets)
 
 -- No packet can come of these octets: they are no frame of the channel, or it tells that it has
 -- idle data only.
 abbrev pub IsStray : ChannelConfig → List ℕ → Type 0
-IsStray link octets = (frame_fault octets link ≢ None) ⊎ (pointer_of (mpdu_in octets) ≡ 2046)
+IsStray link octets = (frame_fault octets link ≢ None) ⊎ (pointer_of (mpdu_in link octets) ≡ 2046)
 
 -- ---- what the counts tell
 -- If the count of the second frame follows that of the first, the second is the frame behind the

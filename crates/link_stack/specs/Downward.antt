@@ -1,5 +1,6 @@
 -- The sending end of a link, and the stream of packets that each of its two lanes was given.
-use Rattle.std.specs.Prelude.{◌≡◌, ℕ, ◌-◌, ◌%◌, ◌*◌, ◌+◌, ◌≤◌, ◌++◌, ◌∷◌, nat_le, Bool, false, List, [], length, take, drop, replicate, Option, Some, None, if◌then◌else◌}
+use Rattle.std.specs.Prelude.{◌≡◌, ℕ, ◌-◌, ◌%◌, ◌*◌, ◌+◌, ◌^◌, ◌<◌, ◌≤◌, ◌++◌, ◌∷◌, nat_le, Bool, false, List, [], length, take, drop, replicate, Option, Some, None, if◌then◌else◌}
+use Rattle.frame_fields.specs.Fields.{sealed}
 use Rattle.aos_frame.specs.Counts.{frame_counts}
 use Rattle.aos_frame.specs.Frame.{lane_channel}
 use Rattle.aos_frame.specs.declared.config.ChannelConfig.{ChannelConfig}
@@ -9,11 +10,11 @@ use Rattle.aos_frame.specs.declared.config.Lane.TheVariants.{Directives, Data}
 use Rattle.mpdu.specs.Packets.{busy}
 use Rattle.mpdu.specs.Packing.{PackerState, IsAt, flush_of, idle_packet}
 use Rattle.mpdu.specs.Stream.{stream}
-use Rattle.link_stack.specs.Frames.{AreOfLink, frame_of, packet_of, pdus_in}
+use Rattle.link_stack.specs.Frames.{AreOfLink, frame_of, packet_of, pdus_in, zone_in}
 
 -- A lane of a sending end: its channel of the link; the most octets of packets that may wait,
 -- those that do, the place among them where the next packet starts or will, and whether a flush's
--- packet came last; the count of the next frame.
+-- packet came last; the count of the next frame; and what its operational control field says.
 pub record LinkSenderState : Type 0 where
   pub link : ChannelConfig
   pub capacity : ℕ
@@ -21,6 +22,7 @@ pub record LinkSenderState : Type 0 where
   pub first : ℕ
   pub flushed : Bool
   pub frame_count : ℕ
+  pub control : ℕ
 
 -- its packer
 abbrev pub packing : LinkSenderState → PackerState
@@ -45,10 +47,11 @@ pub record IsDown (down : LinkSenderState) (ps : List (List ℕ)) (made : ℕ) :
   pub counted : down.frame_count ≡ made % frame_counts
 
 -- ---- what the calls do to a lane
--- The link, the capacity and the count of frames are as they were.
+-- The link, the capacity, the count of frames and the control field are as they were.
 abbrev pub IsFixed : (old new : LinkSenderState) → Type 0
 IsFixed old new =
     (new.link ≡ old.link) × (new.capacity ≡ old.capacity) × (new.frame_count ≡ old.frame_count)
+    × (new.control ≡ old.control)
 
 -- The stream is longer by one packet, that of this PDU, with this count.
 pub record SendsPdu (pdu : List ℕ) (count : ℕ) (old new : LinkSenderState) : Type 0 where
@@ -72,18 +75,25 @@ pub record Flushes (old new : LinkSenderState) : Type 0 where
   pub waiting : new.waiting ≡ old.waiting ++ stream (flush_of (packing old))
   pub fixed : IsFixed old new
 
--- The oldest whole zone became a frame: of a stream, its next one behind those made.
+-- frame n of the packets' stream, as the lane sends it: with the fields of its channel
+abbrev pub sealed_frame : LinkSenderState → List (List ℕ) → ℕ → List ℕ
+sealed_frame d ps n = sealed d.link.fields (frame_of d.link ps n) d.control
+
+-- The oldest whole zone became a frame: of a stream, its next one behind those made, with the
+-- fields of the channel.
 pub record MakesFrame (frame : List ℕ) (old new : LinkSenderState) : Type 0 where
   pub is_next : (ps : List (List ℕ)) (made : ℕ) → IsDown old ps made →
-      frame ≡ frame_of old.link ps made
+      frame ≡ sealed_frame old ps made
   pub inside : (ps : List (List ℕ)) (made : ℕ) → IsDown old ps made →
       made * old.link.zone + old.link.zone ≤ length (stream ps)
   pub after : (ps : List (List ℕ)) (made : ℕ) → IsDown old ps made → IsDown new ps (made + 1)
-  pub zone : drop 8 frame ≡ take old.link.zone old.waiting
+  pub zone : zone_in old.link frame ≡ take old.link.zone old.waiting
   pub waiting : new.waiting ≡ drop old.link.zone old.waiting
   pub link : new.link ≡ old.link
   pub capacity : new.capacity ≡ old.capacity
   pub flushed : new.flushed ≡ old.flushed
+  pub control : new.control ≡ old.control
+  pub fits : old.control < 2 ^ 32
 
 -- ---- both lanes
 -- Both lanes of a sending end, and the count of the next packet, which runs over both.
@@ -119,6 +129,7 @@ first_lane_down link capacity = record {
   first = 0;
   flushed = false;
   frame_count = 0;
+  control = 0;
 }
 
 -- the end of a link that sent nothing: each lane has the capacity
@@ -143,6 +154,18 @@ abbrev pub both_counted_from : ℕ → DownState → DownState
 both_counted_from count d = record d {
   directives = counted_from count d.directives;
   file_data = counted_from count d.file_data;
+}
+
+-- ---- the operational control field
+-- the lane, whose frames have this control field from now on
+abbrev pub controlled : ℕ → LinkSenderState → LinkSenderState
+controlled control d = record d { control = control }
+
+-- both lanes so
+abbrev pub both_controlled : ℕ → DownState → DownState
+both_controlled control d = record d {
+  directives = controlled control d.directives;
+  file_data = controlled control d.file_data;
 }
 
 -- so many idle packets, each of which fills a zone

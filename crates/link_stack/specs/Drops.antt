@@ -6,7 +6,7 @@ use Rattle.aos_frame.specs.Frame.{refusal_number, refusal_name}
 use Rattle.link_stack.specs.declared.drops.LinkDrop.{LinkDrop}
 use Rattle.link_stack.specs.declared.drops.LinkDrop.TheVariants.{Frame, Resync, BadPacket, OtherApid, Segmented, NoMemory}
 
--- the number of a drop, 1 to 11, and its name: those of a frame's refusal are its own
+-- the number of a drop, 1 to 12, and its name: those of a frame's refusal are its own
 abbrev pub drop_number : LinkDrop → ℕ
 drop_number (Frame error) = refusal_number error
 drop_number Resync = 7

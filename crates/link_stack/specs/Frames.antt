@@ -1,8 +1,10 @@
 -- The packets of a link that carry PDUs, and the frames of their stream.
-use Rattle.std.specs.Prelude.{◌≡◌, ℕ, ◌*◌, ◌%◌, true, false, ◌||◌, ◌==◌, not, if◌then◌else◌, Option, Some, None, List, [], ◌∷◌, ◌++◌, ◌⊎◌, drop, map}
+use Rattle.std.specs.Prelude.{◌≡◌, ℕ, ◌*◌, ◌%◌, ◌^◌, ◌<◌, true, false, ◌||◌, ◌==◌, not, if◌then◌else◌, Option, Some, None, List, [], ◌∷◌, ◌++◌, ◌⊎◌, drop, map}
 use Rattle.space_packet.specs.Packet.{Parts, packet_octets, apid_field, flags_field, flag_bits, secondary_field}
 use Rattle.space_packet.specs.declared.packet.PacketType.TheVariants.{Telemetry}
 use Rattle.space_packet.specs.declared.packet.SequenceFlags.TheVariants.{Unsegmented}
+use Rattle.frame_fields.specs.Fields.{sealed}
+use Rattle.frame_fields.specs.Fields as of_fields
 use Rattle.aos_frame.specs.Counts.{frame_counts}
 use Rattle.aos_frame.specs.Frame.{frame_octets}
 use Rattle.aos_frame.specs.declared.config.ChannelConfig.{ChannelConfig}
@@ -33,9 +35,14 @@ packet_drop link packet =
     then Some Segmented
     else None
 
--- the M_PDU of a frame: what stands behind the frame's header
-abbrev pub mpdu_in : List ℕ → List ℕ
-mpdu_in frame = drop 6 frame
+-- the M_PDU of a frame of the channel: what stands between its header, with the insert zone, and
+-- the fields behind
+abbrev pub mpdu_in : ChannelConfig → List ℕ → List ℕ
+mpdu_in link frame = of_fields.mpdu_in link.fields frame
+
+-- its packet zone, which stands behind the M_PDU header
+abbrev pub zone_in : ChannelConfig → List ℕ → List ℕ
+zone_in link frame = drop 2 (mpdu_in link frame)
 
 -- the PDUs that packets carry: what stands behind their headers
 abbrev pub pdus_in : List (List ℕ) → List (List ℕ)
@@ -52,7 +59,8 @@ mpdu_of link ps n =
     pointer_octets (first_header_pointer link.zone (n * link.zone) 0 ps)
     ++ zone link.zone (n * link.zone) (stream ps)
 
--- frame n of the packets' stream, counted modulo 2^28 (CCSDS 732.0-B-4, 4.1.2.4, 4.1.2.5)
+-- frame n of the packets' stream without other fields, counted modulo 2^28 (CCSDS 732.0-B-4,
+-- 4.1.2.4, 4.1.2.5)
 abbrev pub frame_of : ChannelConfig → List (List ℕ) → ℕ → List ℕ
 frame_of link ps n =
     frame_octets (record {
@@ -62,3 +70,11 @@ frame_of link ps n =
           n % frame_counts;
       cycle = true;
     }) (mpdu_of link ps n)
+
+-- These octets are frame n of the packets' stream with the fields of the channel, whatever its
+-- operational control field says.
+pub record IsSealed (link : ChannelConfig) (ps : List (List ℕ)) (n : ℕ) (frame : List ℕ)
+    : Type 0 where
+  pub control : ℕ
+  pub fits : control < 2 ^ 32
+  pub octets : frame ≡ sealed link.fields (frame_of link ps n) control

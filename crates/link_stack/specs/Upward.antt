@@ -2,6 +2,7 @@
 -- stream leave.
 use Rattle.std.specs.Prelude.{◌≡◌, ◌⊎◌, ℕ, ◌+◌, ◌-◌, ◌*◌, ◌^◌, ◌<◌, ◌≤◌, nat_le, min, Bool, true, false, ◌==◌, ◌&&◌, not, if◌then◌else◌, Option, Some, None, IfSome, List, [], ◌∷◌, ◌++◌, length, take, drop, replicate}
 use Rattle.cfd_bits.specs.Field.{field}
+use Rattle.frame_fields.specs.Fields.{control_in}
 use Rattle.aos_frame.specs.Counts.{counts_of, follows, CountsFrame}
 use Rattle.aos_frame.specs.Frame.{frame_fault, lane_channel, seen_in}
 use Rattle.aos_frame.specs.declared.count.SeenCount.{SeenCount}
@@ -17,16 +18,18 @@ use Rattle.mpdu.specs.Packing.{ZoneOf}
 use Rattle.mpdu.specs.Reading.{reading, held_at, resync, bad_count, is_some}
 use Rattle.link_stack.specs.declared.drops.LinkDrop.{LinkDrop}
 use Rattle.link_stack.specs.declared.drops.LinkDrop.TheVariants.{Frame, Resync, BadPacket, NoMemory}
-use Rattle.link_stack.specs.Frames.{packet_drop, mpdu_in, AreOfLink, frame_of, pdus_in}
+use Rattle.link_stack.specs.Frames.{packet_drop, mpdu_in, zone_in, AreOfLink, IsSealed, pdus_in}
 use Rattle.link_stack.specs.Drops.{counted, all_counted, count_of}
 
 -- A lane of a receiving end: its channel of the link, the count of the last frame seen with its
--- usage flag of the count cycle, what is held of a begun packet, and the counts of drops.
+-- usage flag of the count cycle, what is held of a begun packet, the counts of drops, and the
+-- operational control field that came last.
 pub record LinkReceiverState : Type 0 where
   pub link : ChannelConfig
   pub last : Option SeenCount
   pub begun : List ℕ
   pub drops : List ℕ
+  pub control : Option ℕ
 
 -- the PDUs of those packets that carry one of the link
 abbrev pub with_pdu : Option LinkDrop → List ℕ → List (List ℕ) → List (List ℕ)
@@ -95,15 +98,24 @@ read_unless (Some error) up frame = record {
   told =
       Frame error ∷ [];
 }
-read_unless None up frame = mpdu_read up (seen_in frame) (mpdu_in frame)
+read_unless None up frame = mpdu_read up (seen_in frame) (mpdu_in up.link frame)
 
 abbrev pub frame_read : LinkReceiverState → List ℕ → FrameRead
 frame_read up frame = read_unless (frame_fault frame up.link) up frame
 
+-- the operational control field that came last, once a frame came: that of the frame, where it is
+-- one of the channel
+abbrev pub control_unless : Option FrameError → LinkReceiverState → List ℕ → Option ℕ
+control_unless (Some error) up frame = up.control
+control_unless None up frame = control_in up.link.fields frame
+
+abbrev pub control_after : LinkReceiverState → List ℕ → Option ℕ
+control_after up frame = control_unless (frame_fault frame up.link) up frame
+
 -- The frame has a zone to read: it is one of the link, and its pointer doesn't tell of idle data.
 pub record HasZone (link : ChannelConfig) (frame : List ℕ) : Type 0 where
   pub of_link : frame_fault frame link ≡ None
-  pub not_idle : (pointer_of (mpdu_in frame) == 2046) ≡ false
+  pub not_idle : (pointer_of (mpdu_in link frame) == 2046) ≡ false
 
 -- All of it was taken: its PDUs were appended, and each drop counted.
 pub record Takes (read : FrameRead) (up new : LinkReceiverState)
@@ -142,7 +154,7 @@ pub record IsUpOf (all : Bool) (up : LinkReceiverState) (ps : List (List ℕ)) (
       × (length marks ≡ n + 1 + missed))
   pub unseen : up.last ≡ None → up.begun ≡ []
   pub as_left : held_at (missed == 0) up.begun ≡ begun up.link.zone marks 0 ps
-  pub counts : length up.drops ≡ 11
+  pub counts : length up.drops ≡ 12
 
 -- the same of a stream whose frames a sending end made: all have the flag
 abbrev pub IsUp : LinkReceiverState → List (List ℕ) → List Bool → ℕ → Type 0
@@ -152,7 +164,7 @@ IsUp up ps marks missed = IsUpOf true up ps marks missed
 pub record IsNextFrame (link : ChannelConfig) (ps : List (List ℕ)) (marks : List Bool)
     (frame : List ℕ) : Type 0 where
   pub inside : length marks * link.zone + link.zone ≤ length (stream ps)
-  pub octets : frame ≡ frame_of link ps (length marks)
+  pub sealed : IsSealed link ps (length marks) frame
 
 -- The frame behind the marked ones, whoever makes it: a frame of the link with that count and that
 -- zone. Where not all frames of the stream have the flag, it may have it or not.
@@ -160,8 +172,8 @@ pub record IsNextFrameOf (all : Bool) (link : ChannelConfig) (ps : List (List �
     (frame : List ℕ) : Type 0 where
   pub of_link : frame_fault frame link ≡ None
   pub counted : CountsFrame all (length marks) (seen_in frame)
-  pub zoned : ZoneOf ps (length marks) link.zone (pointer_of (mpdu_in frame))
-      (drop 2 (mpdu_in frame))
+  pub zoned : ZoneOf ps (length marks) link.zone (pointer_of (mpdu_in link frame))
+      (zone_in link frame)
 
 -- It was taken whole: appended are the PDUs of the survivors that it completes. Nothing is dropped
 -- but a begun packet, where a frame was missed.
@@ -212,7 +224,13 @@ lane_up Data u = u.file_data
 
 -- a lane that took no frame
 abbrev pub first_lane_up : ChannelConfig → LinkReceiverState
-first_lane_up link = record { link = link; last = None; begun = []; drops = replicate 11 0 }
+first_lane_up link = record {
+  link = link;
+  last = None;
+  begun = [];
+  drops = replicate 12 0;
+  control = None;
+}
 
 -- the end of a link that took no frame
 abbrev pub first_up : LinkConfig → UpState
@@ -258,3 +276,5 @@ pub record LaneTakes (frame : List ℕ) (up new : LinkReceiverState) (old out : 
       (pdus_in (survivors up.link.zone (marks ++ true ∷ []) 0 ps)
       ≡ pdus_in (survivors up.link.zone marks 0 ps) ++ out)
       ⊎ (new.drops ≡ counted up.drops NoMemory)
+  -- the operational control field of a frame of the channel is kept
+  pub control : new.control ≡ control_after up frame

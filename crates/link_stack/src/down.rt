@@ -1,10 +1,10 @@
 //! PDUs down to frames.
 ghost use Rattle.std.specs.Prelude.{◌≡◌, ◌+◌, ◌*◌, ◌%◌, ◌<◌, ◌≤◌, ◌↔◌, [], length, Some, None};
 ghost use Rattle.std.specs.Prelude.{IfOk, IfSome, OnOk, OnErr, IsErr};
-ghost use Rattle.aos_frame.specs.Frame.{other_lane};
+ghost use Rattle.aos_frame.specs.Frame.{frame_len, other_lane};
 ghost use Rattle.link_stack.specs.Downward.{Flushes, IsBounded, IsDown, KeepsLanes, MakesFrame};
-ghost use Rattle.link_stack.specs.Downward.{SendsPdu, both_counted_from, first_down, frame_lane};
-ghost use Rattle.link_stack.specs.Downward.{idle_zones, lane_down};
+ghost use Rattle.link_stack.specs.Downward.{SendsPdu, both_controlled, both_counted_from};
+ghost use Rattle.link_stack.specs.Downward.{first_down, frame_lane, idle_zones, lane_down};
 ghost use Rattle.link_stack.specs.Downward as downward;
 
 use crate::down_lane::DownLane;
@@ -14,6 +14,13 @@ use space_packet::Counter;
 use std::alloc::{AllocError, Global};
 use std::marker::Model;
 use valid_config::Valid;
+
+/// The octets of a frame of the link without other fields.
+fn bare_len(link: Valid<LinkConfig>) -> usize
+    ensures { result ≡ 8 + link.zone }
+{
+    FRAME_HEADER_LEN + MPDU_HEADER_LEN + usize::from(link.get().zone)
+}
 
 /// The sending end of one direction of a link: each PDU in a packet of its own, the packets of each
 /// lane end to end over the frames of its virtual channel.
@@ -28,6 +35,8 @@ pub struct Down {
     packets: Counter,
     // room for one packet of the capacity
     packet: Vec<u8>,
+    // room for one frame without other fields
+    bare: Vec<u8>,
 }
 
 impl Model for Down {
@@ -46,6 +55,7 @@ impl Model for Down {
     ghost invariant = { λ d. AreLanes d.directives.link d.file_data.link
         × (d.file_data.capacity ≡ d.directives.capacity)
         × (length d.packet.items ≡ d.directives.capacity)
+        × (length d.bare.items ≡ 8 + d.directives.link.zone)
         × (d.packets < 16384)
         × (length d.directives.waiting ≤ d.directives.capacity + 2047)
         × (length d.file_data.waiting ≤ d.file_data.capacity + 2047) };
@@ -66,6 +76,7 @@ impl Down {
             file_data: DownLane::new(alloc, ChannelConfig::of(link, Lane::Data), capacity)?,
             packets: Counter::new(),
             packet: vec![in alloc; 0u8; capacity]?,
+            bare: vec![in alloc; 0u8; bare_len(link)]?,
         })
     }
 
@@ -87,6 +98,17 @@ impl Down {
         self.file_data.count_from(count);
     }
 
+    /// Has this in the operational control field of the frames of both lanes from now on (CCSDS
+    /// 732.0-B-4, 4.1.5), if the link has one; at first it is 0.
+    pub fn set_control_field(&mut self, control: u32)
+        ensures set { self.new ≡ both_controlled control self.old }
+        ensures fixed { KeepsLanes self.old self.new }
+        ensures bounded { IsBounded self.new }
+    {
+        self.directives.set_control(control);
+        self.file_data.set_control(control);
+    }
+
     fn lane(&self, lane: Lane) -> &DownLane
         ensures { result.now ≡ lane_down lane self.now }
     {
@@ -106,11 +128,12 @@ impl Down {
         self.lane(lane).room()
     }
 
-    /// The octets of each frame, of either lane: 8 more than those of a zone.
+    /// The octets of each frame, of either lane: 8 more than those of a zone, and those of the
+    /// fields of the link.
     pub fn frame_len(&self) -> usize
-        ensures { (lane : Lane) → result ≡ 8 + (lane_down lane self.now).link.zone }
+        ensures { (lane : Lane) → result ≡ frame_len (lane_down lane self.now).link }
     {
-        FRAME_HEADER_LEN + MPDU_HEADER_LEN + usize::from(self.directives.link().zone)
+        self.directives.link().frame_len()
     }
 
     /// The octets of packets that wait in a lane to be made frames.
@@ -216,12 +239,12 @@ impl Down {
     }
 
     /// Writes the oldest whole zone of [`next_lane`](Self::next_lane) as a frame with the lane's
-    /// next count, takes it off, and tells the lane. The buffer has
+    /// next count and the fields of the link, takes it off, and tells the lane. The buffer has
     /// [`frame_len`](Self::frame_len) octets.
     ///
     /// `None` where no whole zone waits: nothing changed then.
     pub fn next_frame(&mut self, out: &mut [u8]) -> Option<Lane>
-        requires { length out.old ≡ 8 + self.old.directives.link.zone }
+        requires { length out.old ≡ frame_len self.old.directives.link }
         // Directives go first.
         ensures lane { result ≡ frame_lane self.old }
         ensures kept { result ≡ None → (self.new ≡ self.old) × (out.new ≡ out.old) }
@@ -233,9 +256,9 @@ impl Down {
         ensures packet_count { self.new.packet_count ≡ self.old.packet_count }
         ensures fixed { KeepsLanes self.old self.new }
     {
-        if self.directives.next_frame(out) {
+        if self.directives.next_frame(&mut self.bare, out) {
             Some(Lane::Directives)
-        } else if self.file_data.next_frame(out) {
+        } else if self.file_data.next_frame(&mut self.bare, out) {
             Some(Lane::Data)
         } else {
             None

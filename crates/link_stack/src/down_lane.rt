@@ -1,17 +1,18 @@
 //! One lane of the way down: PDUs to the frames of one virtual channel.
 ghost use Rattle.std.specs.Prelude.{◌≡◌, ℕ, ◌+◌, ◌*◌, ◌<◌, ◌≤◌, ◌++◌, List, [], ◌∷◌, true, false};
 ghost use Rattle.std.specs.Prelude.{length, take, drop, IfOk};
-ghost use Rattle.aos_frame.specs.Frame.{FitsHeader, IsChannel, frame_octets};
+ghost use Rattle.aos_frame.specs.Frame.{FitsHeader, IsChannel, frame_len, frame_octets};
 ghost use Rattle.mpdu.specs.MpduHeader.{pointer_octets};
 ghost use Rattle.mpdu.specs.Stream.{stream};
 ghost use Rattle.mpdu.specs.Packing.{flush_of};
 ghost use Rattle.mpdu.specs.Packets.{busy};
 ghost use Rattle.link_stack.specs.Frames.{packet_of, frame_of, pdus_in};
-ghost use Rattle.link_stack.specs.Downward.{packing, IsDown, IsFixed, counted_from};
-ghost use Rattle.link_stack.specs.Downward.{first_lane_down, idle_zones};
+ghost use Rattle.link_stack.specs.Downward.{packing, IsDown, IsFixed, MakesFrame, controlled};
+ghost use Rattle.link_stack.specs.Downward.{counted_from, first_lane_down, idle_zones};
 ghost use Rattle.link_stack.specs.Downward as downward;
 
 use aos_frame::{ChannelConfig, FrameHeader, HEADER_LEN as FRAME_HEADER_LEN, VcCounter};
+use frame_fields::seal;
 use mpdu::{MPDU_HEADER_LEN, Packer, put_pointer};
 use space_packet::header::HEADER_LEN as PACKET_HEADER_LEN;
 use space_packet::{Packet, PacketType, SequenceFlags};
@@ -38,6 +39,8 @@ pub(crate) struct DownLane {
     link: ChannelConfig,
     packer: Packer,
     frames: VcCounter,
+    // what the operational control field of the next frame says
+    control: u32,
 }
 
 impl Model for DownLane {
@@ -55,6 +58,7 @@ impl Model for DownLane {
       first = d.packer.first;
       flushed = d.packer.flushed;
       frame_count = d.frames;
+      control = d.control;
     } };
 
     ghost invariant = { λ d. IsChannel d.link × (d.packer.size ≡ d.link.zone)
@@ -77,6 +81,7 @@ impl DownLane {
             link,
             packer: Packer::new(alloc, link.zone as usize, capacity)?,
             frames: VcCounter::new(),
+            control: 0,
         })
     }
 
@@ -89,6 +94,13 @@ impl DownLane {
             IsDown self.new (idle_zones self.old.link.zone count) count }
     {
         self.frames = VcCounter::from_count(count);
+    }
+
+    /// Has this in the operational control field of the frames from now on.
+    pub(crate) fn set_control(&mut self, control: u32)
+        ensures { self.new ≡ controlled control self.old }
+    {
+        self.control = control;
     }
 
     /// Its virtual channel, and what is in the frames of that.
@@ -168,9 +180,29 @@ impl DownLane {
         self.packer.flush();
     }
 
-    /// Writes the oldest whole zone as a frame with the next count, and takes it off. False where
-    /// no whole zone waits: nothing changed then.
-    pub(crate) fn next_frame(&mut self, out: &mut [u8]) -> bool
+    /// Writes the oldest whole zone as a frame with the next count and the fields of the channel,
+    /// and takes it off. False where no whole zone waits: nothing changed then. The first buffer is
+    /// written, too.
+    pub(crate) fn next_frame(&mut self, bare: &mut [u8], out: &mut [u8]) -> bool
+        requires bare { length bare.old ≡ 8 + self.old.link.zone }
+        requires room { length out.old ≡ frame_len self.old.link }
+        ensures whole { result ≡ downward.has_whole self.old }
+        ensures kept { result ≡ false → (self.new ≡ self.old) × (out.new ≡ out.old) }
+        ensures made { result ≡ true → MakesFrame out.new self.old self.new }
+        ensures link { self.new.link ≡ self.old.link }
+        ensures fixed { (self.new.capacity ≡ self.old.capacity)
+            × (length self.new.waiting ≤ length self.old.waiting) }
+    {
+        if !self.next_bare(bare) {
+            return false;
+        }
+        seal(Valid::known(self.link.fields), bare, self.control, out);
+        true
+    }
+
+    /// Writes the oldest whole zone as a bare frame with the next count, and takes it off. False
+    /// where no whole zone waits: nothing changed then.
+    fn next_bare(&mut self, out: &mut [u8]) -> bool
         requires { length out.old ≡ 8 + self.old.link.zone }
         ensures whole { result ≡ downward.has_whole self.old }
         ensures kept { result ≡ false → (self.new ≡ self.old) × (out.new ≡ out.old) }
@@ -182,7 +214,7 @@ impl DownLane {
         ensures zone { result ≡ true → drop 8 out.new ≡ take self.old.link.zone self.old.waiting }
         ensures rest { result ≡ true → self.new.waiting ≡ drop self.old.link.zone self.old.waiting }
         ensures fixed { (self.new.link ≡ self.old.link) × (self.new.capacity ≡ self.old.capacity)
-            × (self.new.flushed ≡ self.old.flushed) }
+            × (self.new.flushed ≡ self.old.flushed) × (self.new.control ≡ self.old.control) }
     {
         let (header, zone) = out.split_at_mut(FRAME_HEADER_LEN + MPDU_HEADER_LEN);
         let Some(pointer) = self.packer.zone(zone) else {

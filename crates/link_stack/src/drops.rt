@@ -32,7 +32,7 @@ pub enum LinkDrop {
 
 impl LinkDrop {
     /// All drops, in the order of their numbers.
-    pub const ALL: [LinkDrop; 11] = [
+    pub const ALL: [LinkDrop; 12] = [
         LinkDrop::Frame(FrameError::Length),
         LinkDrop::Frame(FrameError::Version),
         LinkDrop::Frame(FrameError::OtherProfile),
@@ -44,6 +44,7 @@ impl LinkDrop {
         LinkDrop::OtherApid,
         LinkDrop::Segmented,
         LinkDrop::NoMemory,
+        LinkDrop::Frame(FrameError::Damaged),
     ];
 
     /// Why the octets are no frame of the link, where that is the cause.
@@ -56,7 +57,7 @@ impl LinkDrop {
         }
     }
 
-    /// The number that stands for this drop in reports, 1 to 11; of a frame's refusal, its own.
+    /// The number that stands for this drop in reports, 1 to 12; of a frame's refusal, its own.
     pub fn number(self) -> u8
         ensures { result ≡ drop_number self }
     {

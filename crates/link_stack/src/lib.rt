@@ -31,7 +31,7 @@ mod laws;
 mod up;
 mod up_lane;
 
-pub use aos_frame::{Lane, LinkConfig, LinkField};
+pub use aos_frame::{FrameFields, Lane, LinkConfig, LinkField};
 pub use down::Down;
 pub use drops::LinkDrop;
 pub use laws::{

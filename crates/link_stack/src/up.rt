@@ -53,15 +53,26 @@ impl Up {
         })
     }
 
-    /// How often something was dropped under a number, on either lane: 1 to 6 are
-    /// [`FrameError`](aos_frame::FrameError)'s, 7 to 11 those of [`LinkDrop`](crate::LinkDrop). It
-    /// stays at the greatest `u64`; of any other number it is 0.
+    /// How often something was dropped under a number, on either lane: 1 to 6 and
+    /// 12 are [`FrameError`](aos_frame::FrameError)'s, 7 to 11 those of
+    /// [`LinkDrop`](crate::LinkDrop). It stays at the greatest `u64`; of any other number it is 0.
     pub fn drops(&self, number: u8) -> u64
         ensures { result ≡ drop_count self.now number }
     {
         self.directives
             .drops(number)
             .saturating_add(self.file_data.drops(number))
+    }
+
+    /// The operational control field of the last frame of a lane that was one of its channel;
+    /// `None` where none came, or the link has no such field.
+    pub fn control_field(&self, lane: Lane) -> Option<u32>
+        ensures { result ≡ (lane_up lane self.now).control }
+    {
+        match lane {
+            Lane::Directives => self.directives.control(),
+            Lane::Data => self.file_data.control(),
+        }
     }
 
     /// The lane that takes a frame: that of its virtual channel. What is of neither channel, or no
@@ -79,11 +90,12 @@ impl Up {
     /// Takes a frame, whatever its octets are, appends the PDUs that it completes, and counts what
     /// is dropped of it.
     ///
-    /// A frame that `decode` of `aos_frame` refuses counts as its refusal, 1 to 6, and changes
-    /// nothing else. A first header pointer of 2046 counts as 6 alone, and lets a begun packet of
-    /// its lane go. Else a zone counts at most one `Resync`, a `BadPacket` for each header of
-    /// another version than `000`, and an `OtherApid` or else a `Segmented` for each whole packet
-    /// that isn't idle and carries no PDU of the link.
+    /// A frame that `decode` of `aos_frame` refuses counts as its refusal, 1 to 6 or 12, and
+    /// changes nothing else: so does one of the wrong length, or whose check tells that it was damaged. A
+    /// first header pointer of 2046 counts as 6 alone, and lets a begun packet of its lane go. Else
+    /// a zone counts at most one `Resync`, a `BadPacket` for each header of another version than
+    /// `000`, and an `OtherApid` or else a `Segmented` for each whole packet that isn't idle and
+    /// carries no PDU of the link.
     ///
     /// Where a growth was refused, at a zone that completes a packet, `NoMemory` is counted in the
     /// place of what the zone tells: a front of its PDUs was appended, the lane's begun packet and

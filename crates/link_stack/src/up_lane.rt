@@ -10,11 +10,12 @@ ghost use Rattle.cfd_bits.specs.Counting.{raised};
 ghost use Rattle.link_stack.specs.Drops.{counted, all_counted, count_of};
 ghost use Rattle.link_stack.specs.Upward.{AreLong, pdus_of, drops_of, zone_drops, packets_read};
 ghost use Rattle.link_stack.specs.Upward.{mpdu_read, frame_read, HasZone, LaneTakes, Takes};
-ghost use Rattle.link_stack.specs.Upward.{TakesFront, IsUpOf, first_lane_up};
+ghost use Rattle.link_stack.specs.Upward.{TakesFront, IsUpOf, control_after, first_lane_up};
 ghost use Rattle.link_stack.specs.declared.drops.LinkDrop.TheVariants.{BadPacket, NoMemory};
 
 use crate::drops::LinkDrop;
 use aos_frame::{ChannelConfig, FrameError, VcMonitor, decode};
+use frame_fields::control_field;
 use mpdu::{MPDU_HEADER_LEN, Notes, ONLY_IDLE, Reassembler, read_pointer};
 use space_packet::{SequenceFlags, header};
 use std::alloc::{AllocError, Global};
@@ -22,7 +23,7 @@ use std::marker::Model;
 use valid_config::Valid;
 
 /// The causes that drops are counted under.
-const CAUSES: usize = 11;
+const CAUSES: usize = 12;
 
 /// How often something was dropped, for each cause.
 #[derive(Debug, Drop)]
@@ -48,7 +49,7 @@ fn one_more(count: u64) -> u64
 
 impl Drops {
     fn new() -> Self
-        ensures { result ≡ replicate 11 0 }
+        ensures { result ≡ replicate 12 0 }
     {
         Drops {
             counts: [0; CAUSES],
@@ -59,7 +60,7 @@ impl Drops {
         ensures { result ≡ count_of self.now number }
     {
         match number {
-            1..=11 => self.counts[usize::from(number) - 1],
+            1..=12 => self.counts[usize::from(number) - 1],
             _ => 0,
         }
     }
@@ -173,6 +174,8 @@ pub(crate) struct UpLane {
     monitor: VcMonitor,
     reassembler: Reassembler,
     drops: Drops,
+    // the operational control field that came last
+    control: Option<u32>,
 }
 
 impl Model for UpLane {
@@ -187,6 +190,7 @@ impl Model for UpLane {
       begun = u.reassembler;
       drops =
           u.drops;
+      control = u.control;
     } };
 
     ghost invariant = { λ u. IsChannel u.link };
@@ -205,6 +209,7 @@ impl UpLane {
             monitor: VcMonitor::new(),
             reassembler: Reassembler::new(alloc)?,
             drops: Drops::new(),
+            control: None,
         })
     }
 
@@ -213,6 +218,13 @@ impl UpLane {
         ensures { result ≡ count_of self.now.drops number }
     {
         self.drops.of(number)
+    }
+
+    /// The operational control field that came last; `None` where none came.
+    pub(crate) fn control(&self) -> Option<u32>
+        ensures { result ≡ self.now.control }
+    {
+        self.control
     }
 
     /// The virtual channel of the lane.
@@ -241,6 +253,7 @@ impl UpLane {
             TakesFront (packets_read self.old.last self.old.begun follows pointer zone.now) self.old
             self.new
             (octets_of_each out.old.items) (octets_of_each out.new.items) }
+        ensures control { self.new.control ≡ self.old.control }
     {
         let first = out.len();
         let fed = self.reassembler.feed(pointer, zone, follows, out);
@@ -259,6 +272,7 @@ impl UpLane {
         ensures front { result ≡ false → ((pointer_of mpdu.now == 2046) ≡ false)
             × TakesFront (mpdu_read self.old (record { count = count; cycle = cycle }) mpdu.now)
             self.old self.new (octets_of_each out.old.items) (octets_of_each out.new.items) }
+        ensures control { self.new.control ≡ self.old.control }
     {
         let in_order = self.monitor.follows(count, cycle);
         let pointer = read_pointer(mpdu);
@@ -278,9 +292,13 @@ impl UpLane {
         ensures front { result ≡ false → HasZone self.old.link frame.now
             × TakesFront (frame_read self.old frame.now) self.old self.new
             (octets_of_each out.old.items) (octets_of_each out.new.items) }
+        ensures control { self.new.control ≡ control_after self.old frame.now }
     {
         match decode(frame, &self.link) {
-            Ok((header, mpdu)) => self.read_mpdu(header.count, header.cycle, mpdu, out),
+            Ok((header, mpdu)) => {
+                self.control = control_field(self.link.fields, frame);
+                self.read_mpdu(header.count, header.cycle, mpdu, out)
+            }
             Err(error) => {
                 self.drops.count(LinkDrop::Frame(error));
                 true

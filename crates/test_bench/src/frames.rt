@@ -17,13 +17,15 @@
 //! CYCLE is `true` with the usage flag of the count cycle, where a count has 28 bits, else `false`.
 ghost use Rattle.std.specs.Prelude.{◌≡◌, ◌+◌, ◌<◌, length};
 ghost use Rattle.aos_frame.specs.Frame.{FitsHeader};
+ghost use Rattle.frame_fields.specs.Fields.{no_fields};
 
 use crate::bench::{Bench, played, unknown};
 use crate::words::{flag, half, lane, narrow, octet, octets, pair, tell_octets, word};
 use aos_frame::{
-    ChannelConfig, Continuity, FrameError, FrameHeader, Lane, LinkConfig, VcCounter, VcMonitor,
-    decode, encode, written_frame_is_read,
+    ChannelConfig, Continuity, FrameError, FrameFields, FrameHeader, Lane, LinkConfig, VcCounter,
+    VcMonitor, decode, encode, written_frame_is_read,
 };
+use frame_fields::without_fields_a_frame_is_bare;
 use std::alloc::{AllocError, Global};
 use valid_config::Config;
 
@@ -34,6 +36,7 @@ pub const LINK: LinkConfig = LinkConfig {
     data_virtual_channel: 7,
     zone: 32,
     apid: 100,
+    fields: FrameFields::NONE,
 };
 
 /// The octets of a frame of the link.
@@ -127,6 +130,7 @@ fn link(words: &str) -> LinkConfig {
         data_virtual_channel: octet(word(words, 2)),
         zone: half(word(words, 3)),
         apid: half(word(words, 4)),
+        fields: FrameFields::NONE,
     }
 }
 
@@ -169,10 +173,12 @@ fn written_and_read(header: &FrameHeader, frame: &mut [u8], config: &ChannelConf
     requires spacecraft { header.now.spacecraft ≡ config.now.spacecraft }
     requires virtual_channel { header.now.virtual_channel ≡ config.now.virtual_channel }
     requires whole { length frame.old ≡ 8 + config.now.zone }
+    requires bare { config.now.fields ≡ no_fields }
     ensures { result ≡ header.now.count }
 {
     encode(header, frame);
     written_frame_is_read();
+    without_fields_a_frame_is_bare();
     match decode(frame, config) {
         Ok((read, _)) => read.count,
         Err(_) => unreachable!(),

@@ -1,6 +1,7 @@
 //! How a program drives a station over a link of its own. README.md shows it.
 use cfdp_station::{
-    Config, EntityConfig, Inbox, LinkConfig, Outbox, Station, StationConfig, StationField,
+    Config, EntityConfig, FrameFields, Inbox, LinkConfig, Outbox, Station, StationConfig,
+    StationField,
 };
 use std::alloc::{AllocError, Global};
 
@@ -47,6 +48,7 @@ pub fn default_station<O: Outbox, I: Inbox>(
         data_virtual_channel: 3,
         zone: 1024,
         apid: 100,
+        fields: FrameFields::NONE,
     };
     let receives = LinkConfig {
         virtual_channel: 2,

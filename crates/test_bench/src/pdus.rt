@@ -103,10 +103,11 @@ fn tell_fields(header: &Header, out: &mut String) -> Result<(), AllocError> {
         (false, true) => ", large",
         (false, false) => "",
     };
+    let check = if header.crc { ", CRC" } else { "" };
     let id = header.id;
     write!(
         out,
-        " {kind} toward {end}, {} octets, widths {} {}, {}:{} to {}{behind}\n",
+        " {kind} toward {end}, {} octets, widths {} {}, {}:{} to {}{behind}{check}\n",
         header.length,
         header.id_width,
         header.number_width,

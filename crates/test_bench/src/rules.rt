@@ -10,10 +10,12 @@
 //!                               `location` among options, of which these are lengths
 //!     large VERB ..             to ask `progress`, `size`, `pairs` or `len` of a large file
 //!     condition N, checksum N, handler N   to tell what has this number
-//!     codes                     to tell those of Cancel, of both checksums, and of Suspend
+//!     codes                     to tell those of Cancel, of the modular and the null checksum, and
+//!                               of Suspend
 //!     policy                    to tell the limits, times and handlers of a policy by default
 //!     times N N N N             whether these can be times
-//!     new, sum OFFSET OCTETS    to begin a checksum, and to add octets to it; both tell it
+//!     new, sum OFFSET OCTETS    to begin checksums, and to add octets; both tell those of types 0
+//!                               to 3
 //!     copy WORD                 to copy octets twice
 //!     less ID ID                whether one transaction stands in front of another
 ghost use Rattle.std.specs.Prelude.{◌<◌};
@@ -21,7 +23,7 @@ ghost use Rattle.std.specs.Prelude.{◌<◌};
 use crate::bench::{Bench, played, unknown};
 use crate::words::{count, half, id, narrow, number, octet, octets, pair, plain, text, word};
 use cfdp_directives::{
-    Checksum, ChecksumKind, Condition, Handler, Octets, Pdu, Policy, SegmentRequests, Times,
+    ChecksumKind, Checksums, Condition, Handler, Octets, Pdu, Policy, SegmentRequests, Times,
     ack_len, can_write, eof_len, fault_location_len, file_data_len, finished_len, is_file_name,
     is_file_size, keep_alive_len, metadata_len, nak_len, prompt_len,
 };
@@ -30,16 +32,16 @@ use std::alloc::{AllocError, Global};
 
 /// Plays a transcript.
 pub fn play(alloc: Global, transcript: &str, out: &mut String) -> Result<(), AllocError> {
-    let checksum = Checksum::new();
-    let bench = RuleBench { alloc, checksum };
+    let sums = Checksums::new();
+    let bench = RuleBench { alloc, sums };
     played(bench, transcript, out)
 }
 
-/// A checksum that is begun.
+/// The checksums of a file that is begun.
 #[derive(Drop)]
 struct RuleBench {
     alloc: Global,
-    checksum: Checksum,
+    sums: Checksums,
 }
 
 impl Bench for RuleBench {
@@ -61,19 +63,30 @@ impl Bench for RuleBench {
 
 impl RuleBench {
     fn begins(&mut self, out: &mut String) -> Result<(), AllocError> {
-        self.checksum = Checksum::new();
+        self.sums = Checksums::new();
         self.tells(out)
     }
 
     fn adds(&mut self, words: &str, out: &mut String) -> Result<(), AllocError> {
         let (offset, digits) = pair(words);
         let octets = octets(self.alloc, digits)?;
-        self.checksum.add(number(offset), &octets);
+        let start = number(offset);
+        if start.checked_add(octets.len() as u64).is_some() {
+            self.sums.add(None, start, &octets);
+        }
         self.tells(out)
     }
 
     fn tells(&self, out: &mut String) -> Result<(), AllocError> {
-        write!(out, " {:08X}\n", self.checksum.value())
+        let told = |kind| self.sums.value(kind);
+        write!(
+            out,
+            " {:08X} {:08X} {:08X} {:08X}\n",
+            told(ChecksumKind::MODULAR),
+            told(ChecksumKind::PROXIMITY),
+            told(ChecksumKind::CASTAGNOLI),
+            told(ChecksumKind::IEEE)
+        )
     }
 }
 
@@ -122,6 +135,7 @@ fn of_ack(words: &str) -> Header {
     Header {
         pdu_type: PduType::FileDirective,
         direction: Direction::TowardSender,
+        crc: false,
         large: false,
         length: 3,
         segment_metadata: false,

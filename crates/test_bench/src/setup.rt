@@ -8,7 +8,7 @@
 use crate::bench::{Bench, played, unknown};
 use crate::words::{number, pair};
 use cfdp_directives::{ChecksumKind, Handler, Handlers, Limits, Policy, Times};
-use cfdp_station::{Config, EntityConfig, LinkConfig, StationConfig};
+use cfdp_station::{Config, EntityConfig, FrameFields, LinkConfig, StationConfig};
 use std::alloc::AllocError;
 
 /// Plays a transcript of setups.
@@ -146,6 +146,7 @@ fn link(virtual_channel: u64, data_virtual_channel: u64, zone: u64, apid: u64) -
         data_virtual_channel: octet(data_virtual_channel),
         zone: half_word(zone),
         apid: half_word(apid),
+        fields: FrameFields::NONE,
     }
 }
 

@@ -61,12 +61,28 @@ is_refused condition = (condition == 12) || (condition == 13)
 abbrev pub IsCondition : ℕ → Type 0
 IsCondition condition = (condition < 16) × (is_refused condition ≡ false)
 
--- checksum types (CCSDS 727.0-B-5, 4.2.2)
+-- checksum types (CCSDS 727.0-B-5, 4.2.2, and SANA's registry of them): the sum of words, the
+-- checks of thirty-two bits of Proximity-1, of CRC-32C and of IEEE 802.3, and none
 abbrev pub modular : ℕ
 modular = 0
 
+abbrev pub proximity : ℕ
+proximity = 1
+
+abbrev pub castagnoli : ℕ
+castagnoli = 2
+
+abbrev pub ieee : ℕ
+ieee = 3
+
 abbrev pub null : ℕ
 null = 15
+
+-- whether a checksum of this type can be made
+unfoldable pub is_known : ℕ → Bool
+is_known kind =
+    (kind == modular) || (kind == proximity) || (kind == castagnoli) || (kind == ieee)
+    || (kind == null)
 
 -- delivery code (CCSDS 727.0-B-5, table 5-7)
 abbrev pub delivery_code : Delivery → ℕ

@@ -3,6 +3,7 @@
 use Rattle.std.specs.Prelude.{ℕ, ◌+◌, ◌-◌, ◌*◌, ◌%◌, Bool, false, List, [], ◌∷◌, length, drop, Option, Some, None, is_none, ◌==◌, nat_lt, nat_le, not, ◌&&◌, if◌then◌else◌, codes}
 use Rattle.cfd_bits.specs.Field.{field}
 use Rattle.cfdp_header.specs.declared.error.HeaderError.{HeaderError}
+use Rattle.cfdp_header.specs.Crc.{before_crc}
 use Rattle.cfdp_header.specs.Header.{header_fault, header_len_told, refusal_number, refusal_name}
 use Rattle.cfdp_directives.specs.declared.pdu.error.PduError.{PduError}
 use Rattle.cfdp_directives.specs.declared.pdu.error.PduError.TheVariants.{Header, Directive, Truncated, Trailing, Tlv, Condition}
@@ -90,12 +91,14 @@ abbrev after_header : Option HeaderError → Option PduError → Option PduError
 after_header None next = next
 after_header (Some e) next = Some (Header e)
 
--- what is wrong with octets that are no PDU: the header tells how many octets a file-size field has
+-- what is wrong with octets that are no PDU: the header tells how many octets a file-size field
+-- has, and of a CRC at the end of the data field
 abbrev pub pdu_fault : List ℕ → Option PduError
 pdu_fault text =
     after_header (header_fault text)
     (content_fault (file_size_octets (field text 7 1 == 1)) (field text 3 1)
-    (field text 28 1 == 1) (drop (header_len_told text) text))
+    (field text 28 1 == 1)
+    (before_crc (field text 6 1 == 1) (drop (header_len_told text) text)))
 
 -- the number of a refusal
 abbrev pub pdu_refusal_number : PduError → ℕ

@@ -4,6 +4,7 @@ use Rattle.std.specs.Prelude.{◌≡◌, ℕ, ◌+◌, ◌*◌, ◌≤◌, Bool,
 use Rattle.std.specs.List.{flat_map}
 use Rattle.cfd_bits.specs.Field.{field, flag}
 use Rattle.cfdp_header.specs.declared.value.Header.{Header}
+use Rattle.cfdp_header.specs.Crc.{before_crc}
 use Rattle.cfdp_header.specs.Header.{SpellsHeader, header_len}
 use Rattle.cfdp_directives.specs.declared.pdu.codes.Delivery.{Delivery}
 use Rattle.cfdp_directives.specs.declared.pdu.codes.FileStatus.{FileStatus}
@@ -112,7 +113,8 @@ IsContent w segment_metadata (KeepAlive progress) d = IsKeepAlive w progress d
 abbrev pub Says : Header → Content → List ℕ → Type 0
 Says h v d = (h.pdu_type ≡ pdu_type_of v) × IsContent (fss h) h.segment_metadata v d
 
--- The octets, all of them, are this PDU.
+-- The octets, all of them, are this PDU. A CRC at their end is no part of what it says (CCSDS
+-- 727.0-B-5, 4.1).
 pub record SpellsPdu (h : Header) (v : Content) (text : List ℕ) : Type 0 where
   pub header : SpellsHeader h text
-  pub content : Says h v (drop (header_len h.id_width h.number_width) text)
+  pub content : Says h v (before_crc h.crc (drop (header_len h.id_width h.number_width) text))

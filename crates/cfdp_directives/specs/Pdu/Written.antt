@@ -3,6 +3,7 @@ use Rattle.std.specs.Prelude.{◌≡◌, ℕ, ◌+◌, ◌*◌, ◌^◌, ◌<◌
 use Rattle.std.specs.List.{flat_map, AllByRecursion}
 use Rattle.cfd_bits.specs.Field.{octets, flag}
 use Rattle.cfdp_header.specs.declared.value.Header.{Header}
+use Rattle.cfdp_header.specs.Crc.{crc_len, with_crc}
 use Rattle.cfdp_header.specs.Header.{FitsHeader, header_octets}
 use Rattle.cfdp_directives.specs.Pdu.Codes.{IsCondition, delivery_code, file_status_code, transaction_status_code, acknowledged_code, acknowledged_subtype}
 use Rattle.cfdp_directives.specs.Pdu.Tlv.{tlv}
@@ -64,15 +65,15 @@ pub record CanWrite (h : Header) (v : Content) : Type 0 where
   pub content : FitsContent (fss h) v
   pub kind : h.pdu_type ≡ pdu_type_of v
   pub no_segment_metadata : h.segment_metadata ≡ false
-  pub len : h.length ≡ content_len (fss h) v
+  pub len : h.length ≡ content_len (fss h) v + crc_len h.crc
 
--- The header tells of the kind and the length of this content.
+-- The header tells of the kind and the length of this content, and of the CRC behind it.
 abbrev pub IsHeaderOf : Header → Content → Type 0
 IsHeaderOf h v =
     (h.pdu_type ≡ pdu_type_of v)
     × (h.segment_metadata ≡ false)
-    × (h.length ≡ content_len (fss h) v)
+    × (h.length ≡ content_len (fss h) v + crc_len h.crc)
 
--- the octets that a PDU is written as
+-- the octets that a PDU is written as, with a CRC where its flag says so
 abbrev pub pdu_octets : Header → Content → List ℕ
-pdu_octets h v = header_octets h ++ content_octets (fss h) v
+pdu_octets h v = with_crc h.crc (header_octets h ++ content_octets (fss h) v)

@@ -1,6 +1,5 @@
 ghost use Rattle.std.specs.Prelude.{◌≡◌, ℕ, ◌+◌, ◌%◌, ◌^◌, List, sum_by};
-ghost use Rattle.cfdp_directives.specs.Pdu.Checksum.{sum_at, modular_checksum, Piece, Cuts, added};
-ghost use Rattle.cfdp_directives.specs.Pdu.Checksum.{sum_of};
+ghost use Rattle.cfdp_directives.specs.Pdu.Checksum.{sum_at, modular_checksum, added};
 
 use std::marker::Model;
 
@@ -77,13 +76,6 @@ fn sum_words(old: u32, words: &[[u8; 4]]) -> u32
     }
     sum
 }
-
-/// A law: however a file is cut, and in whatever order its pieces are added, their sum is its
-/// modular checksum.
-pub fn cut_file_has_its_checksum()
-    ensures { (file : List ℕ) (pieces : List Piece) → Cuts file pieces → sum_of pieces
-        ≡ modular_checksum file }
-{}
 
 /// A law: a whole file, added at once at offset 0, gives its modular checksum.
 pub fn whole_file_has_its_checksum()

@@ -2,7 +2,7 @@
 ghost use Rattle.std.specs.Prelude.{◌≡◌, ℕ, ◌<◌, ◌↔◌, IsSome, IfSome};
 ghost use Rattle.cfdp_directives.specs.Pdu.Codes.{IsCondition, delivery_code, file_status_code};
 ghost use Rattle.cfdp_directives.specs.Pdu.Codes.{transaction_status_code, acknowledged_code};
-ghost use Rattle.cfdp_directives.specs.Pdu.Codes.{acknowledged_subtype};
+ghost use Rattle.cfdp_directives.specs.Pdu.Codes.{acknowledged_subtype, is_known};
 
 use std::marker::Model;
 
@@ -116,7 +116,8 @@ pub enum Acknowledged {
     Finished,
 }
 
-/// Which checksum a file has: a checksum type of 4 bits (CCSDS 727.0-B-5, 4.2.2).
+/// Which checksum a file has: a checksum type of 4 bits (CCSDS 727.0-B-5, 4.2.2), as SANA's registry
+/// numbers them. `Checksums` makes those that are known.
 #[derive(Clone, Copy, Debug, PartialEq, Eq)]
 pub struct ChecksumKind {
     code: u8,
@@ -133,8 +134,14 @@ impl Model for ChecksumKind {
 }
 
 impl ChecksumKind {
-    /// The sum of the file's words: 0. `Checksum` makes it.
+    /// The sum of the file's words: 0.
     pub const MODULAR: ChecksumKind = ChecksumKind { code: 0 };
+    /// The check of thirty-two bits of Proximity-1 (CCSDS 211.2-B): 1.
+    pub const PROXIMITY: ChecksumKind = ChecksumKind { code: 1 };
+    /// CRC-32C, by the polynomial of Castagnoli: 2.
+    pub const CASTAGNOLI: ChecksumKind = ChecksumKind { code: 2 };
+    /// The CRC-32 of IEEE 802.3, as Ethernet and zip have it: 3.
+    pub const IEEE: ChecksumKind = ChecksumKind { code: 3 };
     /// No checksum, which is written as 0: 15.
     pub const NULL: ChecksumKind = ChecksumKind { code: 15 };
 
@@ -156,6 +163,14 @@ impl ChecksumKind {
         ensures valid { result < 16 }
     {
         self.code
+    }
+
+    /// Whether checksums of this type can be made: those of type 0 to 3, and the null checksum, 15.
+    #[tactic(auto, unfolding(crate::specs::Pdu::Codes::is_known))]
+    pub fn is_known(self) -> bool
+        ensures { result ≡ is_known self }
+    {
+        self.code <= ChecksumKind::IEEE.code || self == ChecksumKind::NULL
     }
 }
 

@@ -1,4 +1,4 @@
-ghost use Rattle.std.specs.Prelude.{◌≡◌, ◌^◌, ◌<◌, ◌↔◌, IsTrue};
+ghost use Rattle.std.specs.Prelude.{◌≡◌, ◌+◌, ◌^◌, ◌<◌, ◌↔◌, IsTrue};
 ghost use Rattle.cfdp_directives.specs.Pdu.Codes.{file_size_octets};
 ghost use Rattle.cfdp_directives.specs.Pdu.Content.{view, pdu_type_of};
 ghost use Rattle.cfdp_directives.specs.Pdu.Written.{content_len, FitsContent};
@@ -80,8 +80,8 @@ pub enum Pdu<'a> {
 }
 
 impl Pdu<'_> {
-    /// Octets of the data field that it is written as: the `length` of its header. File-size fields
-    /// have the octets of a large file, or of one that isn't.
+    /// Octets of the data field that it is written as: the `length` of its header, which counts a
+    /// CRC too. File-size fields have the octets of a large file, or of one that isn't.
     pub fn len(&self, large: bool) -> usize
         requires { content_len (file_size_octets large) (view self.now) < 2 ^ 64 }
         ensures { result ≡ content_len (file_size_octets large) (view self.now) }
@@ -157,11 +157,13 @@ impl Pdu<'_> {
         }
     }
 
-    /// Whether its data field has this length.
-    pub(crate) fn has_len(&self, large: bool, len: u16) -> bool
-        ensures { IsTrue result ↔ (content_len (file_size_octets large) (view self.now) ≡ len) }
+    /// Whether its data field has this length, with a CRC of so many octets at its end.
+    pub(crate) fn has_len(&self, large: bool, crc_len: usize, len: u16) -> bool
+        ensures { IsTrue result
+            ↔ (len ≡ content_len (file_size_octets large) (view self.now) + crc_len) }
     {
-        self.has_short_parts(large) && self.len(large) == usize::from(len)
+        let len = usize::from(len);
+        crc_len <= len && self.has_short_parts(large) && self.len(large) == len - crc_len
     }
 
     /// Whether each part of it may stand in a data field, so that their sum is a number.

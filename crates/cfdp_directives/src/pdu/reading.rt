@@ -3,6 +3,7 @@ ghost use Rattle.std.specs.Prelude.{None, is_some, IfSome, IfOk, IsOkAnd, true, 
 ghost use Rattle.std.specs.Prelude.{if◌then◌else◌};
 ghost use Rattle.std.specs.Result.{result_err};
 ghost use Rattle.cfd_bits.specs.Field.{field};
+ghost use Rattle.cfdp_header.specs.Header.{type_bit};
 ghost use Rattle.cfdp_header.specs.declared.value.Header.{Header};
 ghost use Rattle.cfdp_header.specs.declared.value.PduType.TheVariants as types;
 ghost use Rattle.cfdp_directives.specs.declared.pdu.error.PduError.TheVariants as errors;
@@ -290,16 +291,24 @@ fn directive<'a>(header: &Header, body: &'a [u8]) -> Result<Pdu<'a>, PduError>
     }
 }
 
+fn content<'a>(header: &Header, body: &'a [u8]) -> Result<Pdu<'a>, PduError>
+    ensures found { IfOk result (λ v. Says header.now (view v) body.now) }
+    ensures refused { result_err result ≡ content_fault (fss header.now)
+        (type_bit header.now.pdu_type) header.now.segment_metadata body.now }
+{
+    match header.pdu_type {
+        PduType::FileData => file_data(header, body),
+        PduType::FileDirective => directive(header, body),
+    }
+}
+
+#[tactic(auto, using(crate::proofs::Only::behind_header))]
 fn pdu(bytes: &[u8]) -> Result<(Header, Pdu<'_>), PduError>
     ensures found { IfOk result (λ x. SpellsPdu x.0 (view x.1) bytes.now) }
     ensures refused { result_err result ≡ pdu_fault bytes.now }
 {
     let (header, body) = cfdp_header::decode(bytes)?;
-    let content = match header.pdu_type {
-        PduType::FileData => file_data(&header, body),
-        PduType::FileDirective => directive(&header, body),
-    };
-    match content {
+    match content(&header, body) {
         Ok(pdu) => Ok((header, pdu)),
         Err(e) => Err(e),
     }
@@ -307,7 +316,8 @@ fn pdu(bytes: &[u8]) -> Result<(Header, Pdu<'_>), PduError>
 
 /// The PDU that the octets are, all of them.
 ///
-/// Spare bits and the subtype of an ACK are read as anything.
+/// Spare bits and the subtype of an ACK are read as anything. Where the header tells of a CRC, the
+/// PDU is read as if it were not there.
 ///
 /// # Errors
 ///

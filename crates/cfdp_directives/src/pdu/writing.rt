@@ -1,10 +1,11 @@
 ghost use Rattle.std.specs.Prelude.{◌≡◌, ℕ, ◌+◌, ◌*◌, ◌^◌, ◌<◌, ◌≤◌, ◌++◌, false, List, length};
-ghost use Rattle.std.specs.Prelude.{take, drop, IsTrue, ◌↔◌};
+ghost use Rattle.std.specs.Prelude.{take, drop, true, IsTrue, ◌↔◌};
+ghost use Rattle.cfdp_header.specs.Crc.{crc_len, with_crc};
 ghost use Rattle.cfdp_header.specs.Header.{header_len};
 ghost use Rattle.cfdp_directives.specs.Pdu.Codes.{file_size_octets};
 ghost use Rattle.cfdp_directives.specs.Pdu.Content.{Content, FileData, Metadata, Eof, Finished};
 ghost use Rattle.cfdp_directives.specs.Pdu.Content.{Ack, Nak, Prompt, KeepAlive, view};
-ghost use Rattle.cfdp_directives.specs.Pdu.Grammar.{lv};
+ghost use Rattle.cfdp_directives.specs.Pdu.Grammar.{fss, lv};
 ghost use Rattle.cfdp_directives.specs.Pdu.Written.{content_octets, content_len, FitsContent};
 ghost use Rattle.cfdp_directives.specs.Pdu.Written.{CanWrite, IsHeaderOf, pdu_octets};
 
@@ -17,6 +18,10 @@ use crate::pdu::pairs::SegmentRequests;
 use crate::pdu::tlv::Tlvs;
 use cfd_bits::{put_bytes, put_uint};
 use cfdp_header::Header;
+use crc::crc16;
+
+// Octets of the CRC of a PDU.
+pub(crate) const CRC_LEN: usize = 2;
 
 #[tactic(auto, using(crate::proofs::Spelling::one_octet))]
 fn put_lv(out: &mut [u8], at: usize, value: &[u8]) -> usize
@@ -195,19 +200,20 @@ pub fn can_write(header: &Header, pdu: &Pdu<'_>) -> bool
     header.fits() && pdu.fits(header.large) && is_header_of(header, pdu)
 }
 
-/// Whether the header tells of this kind of content and of its length.
+/// Whether the header tells of this kind of content and of its length with the CRC.
 fn is_header_of(header: &Header, pdu: &Pdu<'_>) -> bool
     ensures { IsTrue result ↔ IsHeaderOf header.now (view pdu.now) }
 {
     header.pdu_type == pdu.pdu_type()
         && !header.segment_metadata
-        && pdu.has_len(header.large, header.length)
+        && pdu.has_len(header.large, header.crc_len(), header.length)
 }
 
 /// Writes the PDU into the first octets of `out`, spare bits as 0, and says how many they are. The
 /// octets behind stay.
 ///
-/// `header.length` has to be `pdu.len()`, and `header.pdu_type` has to say what kind of PDU it is:
+/// Where `header.crc` is true, its last two octets are the CRC of those before. `header.length` has
+/// to be `pdu.len()` and those octets, and `header.pdu_type` has to say what kind of PDU it is:
 /// `can_write` tells.
 #[tactic(auto, using(crate::proofs::Spelling::behind_data))]
 pub fn encode(header: &Header, pdu: &Pdu<'_>, out: &mut [u8]) -> usize
@@ -220,15 +226,50 @@ pub fn encode(header: &Header, pdu: &Pdu<'_>, out: &mut [u8]) -> usize
     ensures behind { drop result out.new ≡ drop result out.old }
 {
     let at = cfdp_header::encode(header, out);
-    put_content(
-        &mut out[..at + header.length as usize],
-        at,
-        header.large,
-        pdu,
-    )
+    put_data_field(&mut out[..at + header.length as usize], at, header, pdu)
 }
 
-/// Writes the data field of a PDU behind the first `at` octets, and says where it ends.
+/// Writes the data field of a PDU behind its header, the first `at` octets, with the CRC that the
+/// header tells of, and says where it ends.
+fn put_data_field(out: &mut [u8], at: usize, header: &Header, pdu: &Pdu<'_>) -> usize
+    requires fits { FitsContent (fss header.now) (view pdu.now) }
+    requires room { at + content_len (fss header.now) (view pdu.now) + crc_len header.now.crc
+        ≤ length out.old }
+    ensures end { result
+        ≡ at + content_len (fss header.now) (view pdu.now) + crc_len header.now.crc }
+    ensures front { take result out.new ≡ with_crc header.now.crc
+        (take at out.old ++ content_octets (fss header.now) (view pdu.now)) }
+{
+    let end = put_content(out, at, header.large, pdu);
+    put_crc_if(header.crc, out, end)
+}
+
+/// Writes the CRC of the first `at` octets behind them, where there is to be one, and says where
+/// the PDU ends. The octets behind stay.
+pub(crate) fn put_crc_if(crc: bool, out: &mut [u8], at: usize) -> usize
+    requires { at + crc_len crc ≤ length out.old }
+    ensures end { result ≡ at + crc_len crc }
+    ensures front { take result out.new ≡ with_crc crc (take at out.old) }
+    ensures behind { drop result out.new ≡ drop result out.old }
+{
+    if crc { put_crc(out, at) } else { at }
+}
+
+/// Writes the CRC of the first `at` octets behind them, and says where it ends. The octets behind
+/// stay.
+fn put_crc(out: &mut [u8], at: usize) -> usize
+    requires { at + 2 ≤ length out.old }
+    ensures end { result ≡ at + 2 }
+    ensures front { take result out.new ≡ with_crc true (take at out.old) }
+    ensures behind { drop result out.new ≡ drop result out.old }
+{
+    let (covered, _) = out.split_at(at);
+    let check = crc16(covered);
+    put_uint(out, at, CRC_LEN, u64::from(check))
+}
+
+/// Writes the data field of a PDU, without a CRC, behind the first `at` octets, and says where it
+/// ends.
 fn put_content(out: &mut [u8], at: usize, large: bool, pdu: &Pdu<'_>) -> usize
     requires fits { FitsContent (file_size_octets large) (view pdu.now) }
     requires room { at + content_len (file_size_octets large) (view pdu.now) ≤ length out.old }

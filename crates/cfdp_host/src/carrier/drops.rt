@@ -51,6 +51,22 @@ impl CarrierDrop {
         CarrierDrop::ShortFrame,
         CarrierDrop::Damaged,
     ];
+
+    /// The name of the cause, in one word.
+    pub fn name(self) -> &'static str {
+        match self {
+            CarrierDrop::Empty => "Empty",
+            CarrierDrop::Short => "Short",
+            CarrierDrop::Long => "Long",
+            CarrierDrop::Version => "Version",
+            CarrierDrop::OtherApid => "OtherApid",
+            CarrierDrop::Segmented => "Segmented",
+            CarrierDrop::SecondaryHeader => "SecondaryHeader",
+            CarrierDrop::NoRoom => "NoRoom",
+            CarrierDrop::ShortFrame => "ShortFrame",
+            CarrierDrop::Damaged => "Damaged",
+        }
+    }
 }
 
 /// How often datagrams that came were dropped, for each cause. It is lent to the wire, which counts,

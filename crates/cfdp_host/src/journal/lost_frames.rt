@@ -5,11 +5,14 @@ use std::cell::Cell;
 /// A frame whose count is so far behind the last one came late: what seems to be missing isn't.
 const LATE: u32 = 8_388_608;
 
-/// How often frames were missing between those that came to a station, and how many; how many were
-/// damaged; and how many datagrams were thrown away: shared by who counts them and who tells it.
+/// How many datagrams left a station and came to it; how often frames were missing between those
+/// that came, and how many; how many were damaged; and how many datagrams were thrown away: shared
+/// by who counts them and who tells it.
 /// Each count stays at the greatest `u64`.
 #[derive(Drop)]
 pub struct FrameGaps {
+    sent: Cell<u64>,
+    came: Cell<u64>,
     gaps: Cell<u64>,
     missing: Cell<u64>,
     damaged: Cell<u64>,
@@ -20,11 +23,33 @@ impl FrameGaps {
     /// None so far.
     pub fn new() -> FrameGaps {
         FrameGaps {
+            sent: Cell::new(0),
+            came: Cell::new(0),
             gaps: Cell::new(0),
             missing: Cell::new(0),
             damaged: Cell::new(0),
             thrown_away: Cell::new(0),
         }
+    }
+
+    /// How many datagrams left.
+    pub fn sent(&self) -> u64 {
+        self.sent.get()
+    }
+
+    /// Counts one more of these.
+    pub fn adds_sent(&self) {
+        self.sent.set(self.sent.get().saturating_add(1));
+    }
+
+    /// How many datagrams came while the link wasn't down by plan.
+    pub fn came(&self) -> u64 {
+        self.came.get()
+    }
+
+    /// Counts one more of these.
+    pub fn adds_came(&self) {
+        self.came.set(self.came.get().saturating_add(1));
     }
 
     /// How often some were missing.

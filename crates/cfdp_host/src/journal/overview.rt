@@ -4,6 +4,7 @@ use crate::journal::lost_frames::FrameGaps;
 use crate::journal::meaning::phase_word;
 use crate::journal::register::{Known, Register, is_open};
 use crate::journal::totals::Totals;
+use cfdp_console::Way;
 use cfdp_header::TransactionId;
 use cfdp_report::Name;
 use cfdp_station::{EntityDrop, LinkDrop, Phase, SentPdus, Station, Timer};
@@ -120,16 +121,112 @@ fn open_transactions<O: Outbox, I: Inbox>(
     let mut open = Vec::new(alloc);
     for (id, phase) in station.transactions() {
         if phase != Phase::Closed {
-            open.push(Open {
-                id,
-                phase,
-                progress: station.progress(id),
-                next: next_timer(station, id, now),
-            })?;
+            open.push(open_at(station, id, phase, now))?;
         }
     }
     open.sort_unstable_by_key(|it| it.id);
     Ok(open)
+}
+
+/// The most transactions that are shown in a console at once.
+const MOST_SHOWN: usize = 64;
+
+/// The transactions that are open, in order of their ids, as the console of the entity
+/// `own` shows them: the first 64.
+///
+/// # Errors
+///
+/// `AllocError` where there is no memory for them.
+pub fn shown_open<O: Outbox, I: Inbox>(
+    alloc: Global,
+    register: &Register,
+    station: &Station<O, I>,
+    now: u64,
+    own: u64,
+) -> Result<Vec<cfdp_console::Open>, AllocError> {
+    let mut shown = Vec::new(alloc);
+    for (id, phase) in open_ids(alloc, station)?.iter().take(MOST_SHOWN) {
+        let open = open_at(station, *id, *phase, now);
+        shown.push(shown_one(alloc, own, open, register.get(*id))?)?;
+    }
+    Ok(shown)
+}
+
+/// The ids of the transactions that are open, in their order, and how far each is.
+fn open_ids<O: Outbox, I: Inbox>(
+    alloc: Global,
+    station: &Station<O, I>,
+) -> Result<Vec<(TransactionId, Phase)>, AllocError> {
+    let mut open = Vec::new(alloc);
+    for (id, phase) in station.transactions() {
+        if phase != Phase::Closed {
+            open.push((id, phase))?;
+        }
+    }
+    open.sort_unstable_by_key(|it| it.0);
+    Ok(open)
+}
+
+/// How far a transaction has come.
+fn open_at<O: Outbox, I: Inbox>(
+    station: &Station<O, I>,
+    id: TransactionId,
+    phase: Phase,
+    now: u64,
+) -> Open {
+    Open {
+        id,
+        phase,
+        progress: station.progress(id),
+        next: next_timer(station, id, now),
+    }
+}
+
+/// A transaction as the console shows it.
+fn shown_one(
+    alloc: Global,
+    own: u64,
+    open: Open,
+    known: Option<&Known>,
+) -> Result<cfdp_console::Open, AllocError> {
+    let (source, destination) = match known.and_then(|known| known.names.as_ref()) {
+        Some(names) => (
+            Some(format!(in alloc; "{}", Name(names.source.as_slice()))?),
+            Some(format!(in alloc; "{}", Name(names.destination.as_slice()))?),
+        ),
+        None => (None, None),
+    };
+    Ok(cfdp_console::Open {
+        id: format!(in alloc; "{}:{}", open.id.source, open.id.number)?,
+        way: if open.id.source == own {
+            Way::Sends
+        } else {
+            Way::Receives
+        },
+        phase: phase_word(open.phase),
+        source,
+        destination,
+        size: known.and_then(|known| known.size),
+        octets: open.progress,
+        is_suspended: is_suspended(known),
+        waits_for: waits_for(open, is_suspended(known)),
+    })
+}
+
+/// What a transaction waits for, in words; empty where it waits for its turn alone.
+fn waits_for(open: Open, is_suspended: bool) -> &'static str {
+    if is_suspended {
+        return "its resumption";
+    }
+    match open.next {
+        Some(next) => match next.timer {
+            Timer::EofAck => "the ACK of its EOF",
+            Timer::Nak => "what its NAKs asked for",
+            Timer::FinishedAck => "the ACK of its Finished",
+            Timer::Inactivity => "the next PDU of its peer",
+        },
+        None => "",
+    }
 }
 
 /// A number that may be unknown, in a line.

@@ -105,8 +105,12 @@ abbrev pub operated_app : App
 operated_app = with_rule (with_rule incoming_app (flag_rule (codes "commands")))
     (file_rule (codes "control"))
 
+abbrev pub consoled_app : App
+consoled_app = with_rule (with_rule operated_app (file_rule (codes "console")))
+    (file_rule (codes "console-token"))
+
 abbrev pub told_app : App
-told_app = with_rule (with_rule operated_app (flag_rule (codes "no-time")))
+told_app = with_rule (with_rule consoled_app (flag_rule (codes "no-time")))
     (flag_rule (codes "json"))
 
 abbrev pub file_app : App
@@ -121,7 +125,8 @@ station_app = with_shown file_app
 -- To run a station: who it is, and how it runs; how much it does at a time, and what it takes; its
 -- flags; what a datagram carries, and the unit of times; its address and its peer's; the folders
 -- that files come to and lie in, and that whose files are sent as they come there; the file that
--- keeps which numbers are reserved; the address on which commands are taken; the names of files to
+-- keeps which numbers are reserved; the addresses on which commands are taken and a browser is
+-- shown it, and the file with what that has to show; the names of files to
 -- send, each with its name at the peer behind it; the keys of settings, each with its value behind
 -- it; and what is shown.
 pub record StationAsked : Type 0 where
@@ -137,6 +142,8 @@ pub record StationAsked : Type 0 where
   pub spool : Option Text
   pub state : Option Text
   pub control : Option Text
+  pub console : Option Text
+  pub console_token : Option Text
   pub puts : List Text
   pub sets : List Text
   pub shown : ShownAsked
@@ -230,6 +237,8 @@ asked_with rows needed = record {
   spool = first_of (codes "spool") rows;
   state = first_of (codes "state") rows;
   control = first_of (codes "control") rows;
+  console = first_of (codes "console") rows;
+  console_token = first_of (codes "console-token") rows;
   puts = words_for (codes "put") rows;
   sets = words_for (codes "set") rows;
   shown = shown_of rows;
@@ -254,6 +263,8 @@ station_asked request = record {
   spool = option_map (λ folder. folder.bytes.items) request.spool;
   state = option_map (λ file. file.bytes.items) request.state;
   control = option_map (λ address. address.bytes.items) request.control;
+  console = option_map (λ address. address.bytes.items) request.console;
+  console_token = option_map (λ file. file.bytes.items) request.console_token;
   puts = map (λ name. name.bytes.items) request.puts.items;
   sets = map (λ word. word.bytes.items) request.sets.items;
   shown = asked_shown request.shown;

@@ -4,7 +4,7 @@
 //! 732.0-B-4, 4.1.2.3): other software drops it as it drops each idle frame.
 ghost use Rattle.std.specs.Prelude.{◌+◌, ◌≤◌, length};
 
-use cfdp_station::{LinkConfig, StationConfig};
+use cfdp_station::{FrameFields, LinkConfig, StationConfig};
 
 /// Octets of a beacon; more may stand behind them, which mean nothing.
 pub const BEACON_LEN: usize = 40;
@@ -92,6 +92,7 @@ impl Beacon {
             data_virtual_channel: datagram[33],
             zone: short(datagram, 30),
             apid: short(datagram, 34),
+            fields: FrameFields::NONE,
         };
         let receives = LinkConfig {
             virtual_channel: datagram[36],

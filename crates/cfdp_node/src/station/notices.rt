@@ -95,7 +95,7 @@ pub struct Notices<'a> {
     to: &'a str,
     start: Option<Instant>,
     foreign: Foreign,
-    link: [Tally; 11],
+    link: [Tally; 12],
     pdus: [Tally; 17],
     datagrams: [Tally; 10],
     // When something of the link came last, when it was looked what is waited for, and when what
@@ -133,7 +133,7 @@ impl<'a> Notices<'a> {
                 spacecraft: 0,
                 virtual_channel: 0,
             },
-            link: [Tally::NONE; 11],
+            link: [Tally::NONE; 12],
             pdus: [Tally::NONE; 17],
             datagrams: [Tally::NONE; 10],
             heard: 0,

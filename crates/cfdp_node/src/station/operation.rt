@@ -3,13 +3,15 @@ use crate::looping::folders::folder_outbox;
 use crate::looping::telling::{LoopLookout, TellingInbox, TellingNoInbox, TellingOutbox};
 use crate::station::exchange::Exchange;
 use crate::station::notices::Notices;
-use crate::station::operator::OperatorConsole;
-use crate::station::request::StationRequest;
+use crate::station::operator::{OperatorConsole, OperatorPost};
+use crate::station::request::{CarrierKind, StationRequest};
 use crate::station::{outbox_of, side_of};
 use crate::wire::peer_socket::PeerSocket;
+use cfdp_console::LogLines;
 use cfdp_host::carrier::{Carrier, CarrierWire, LinkFields, SealedWire};
 use cfdp_host::{
-    FolderSpool, Form, Journal, JournalSetup, LineSources, Log, StandardErrorTeller, Style,
+    Board, BoardSetup, FolderSpool, Form, Journal, JournalSetup, KeptLog, LineSources, Log,
+    StandardErrorTeller, Style,
 };
 use cfdp_port::{Lookout, LossyWire, PeerWire};
 use cfdp_report::{Exit, Fault, Onlooker, Progress, Ran, Screen};
@@ -203,6 +205,8 @@ fn operated<'a, O: SeekingOutbox, I: Inbox, W: PeerWire, S: Spool, L: Lookout>(
     let Ok(out) = BufWriter::new(rt.alloc(), io::writer(rt)) else {
         return Exit::Device(Fault::NoMemoryAtStart);
     };
+    let has_console = sources.door().is_some();
+    let out = KeptLog::new(out, has_console.then(|| LogLines::new(rt.alloc())));
     let Ok(journal) = Journal::new(journal_setup(context), out) else {
         return Exit::Device(Fault::NoMemoryAtStart);
     };
@@ -211,7 +215,14 @@ fn operated<'a, O: SeekingOutbox, I: Inbox, W: PeerWire, S: Spool, L: Lookout>(
     } else {
         Form::Text
     };
-    let console = OperatorConsole::new(rt, sources, journal, exchange, progress, form);
+    let board = has_console.then(|| Board::new(board_setup(context)));
+    let post = OperatorPost {
+        sources,
+        journal,
+        board,
+        form,
+    };
+    let console = OperatorConsole::new(rt, post, exchange, progress);
     let own = request.numbers.id;
     let mut clerk = Clerk::new(rt.alloc(), own, limits(request), spool, console);
     if add_puts(rt.alloc(), &mut clerk, request.puts.as_slice()).is_err() {
@@ -222,7 +233,7 @@ fn operated<'a, O: SeekingOutbox, I: Inbox, W: PeerWire, S: Spool, L: Lookout>(
         Err(AllocError) => Exit::Device(Fault::NoMemoryAtStart),
     };
     // What a failed write left in the buffer is let go: a `BufWriter` would write it once more.
-    let _ = clerk.into_console().into_writer().into_parts();
+    let _ = clerk.into_console().into_writer().into_inner().into_parts();
     exit
 }
 
@@ -245,6 +256,29 @@ fn journal_setup(context: Context<'_>) -> JournalSetup<'_> {
         log: Log { rt, own, style },
         outbox: outbox_of(request),
         gaps: &exchange.gaps,
+    }
+}
+
+/// Of which station the console's board is.
+fn board_setup(context: Context<'_>) -> BoardSetup<'_> {
+    let Context {
+        rt,
+        request,
+        exchange,
+        ..
+    } = context;
+    BoardSetup {
+        rt,
+        own: request.numbers.id,
+        peer: request.numbers.peer,
+        carrier: match request.carrier {
+            CarrierKind::Frames => "frames",
+            CarrierKind::Packets => "packets",
+            CarrierKind::Pdus => "pdus",
+        },
+        to: request.to.as_str(),
+        gaps: &exchange.gaps,
+        tally: &exchange.dropped,
     }
 }
 

@@ -1,29 +1,43 @@
-//! Where the operator of a station stands: the lines of commands, and the log.
+//! Where the operator of a station stands: the lines of commands, the console, and the log.
 use crate::station::exchange::Exchange;
+use cfdp_console::{Answer, Ask, Look, Shown};
 use cfdp_directives::Indication;
+use cfdp_header::TransactionId;
 use cfdp_host::{
-    Asked, CommandHelp, Form, Journal, LineFault, LineSources, Speaker, Waiting, parse_command,
+    Asked, Board, CommandHelp, Form, Journal, KeptLog, LineFault, LineSources, Moment, Speaker,
+    Waiting, parse_command,
 };
 use cfdp_report::{Exit, Fault, Progress};
 use cfdp_service::{Command, Console, Outcome, PutNames, Reply};
 use cfdp_station::Station;
 use cfdp_store::{Inbox, Outbox};
+use std::alloc::AllocError;
 use std::fmt;
 use std::io::Write;
 
 /// The most lines that are answered before one turn.
 const MOST_LINES: u32 = 64;
 
+/// What an operator has before the first command.
+#[derive(Drop)]
+pub struct OperatorPost<'a, V: Write + Drop> {
+    pub sources: LineSources<'a>,
+    pub journal: Journal<'a, KeptLog<V>>,
+    /// What the console shows, where there is one.
+    pub board: Option<Board<'a>>,
+    /// How questions are answered.
+    pub form: Form,
+}
+
 /// Where the operator of a station stands: lines of commands come from standard input and from a
-/// control address, and what the station does goes to its log.
+/// control address, others from the console, and what the station does goes to its log and, where
+/// there is a console, to its board.
 #[derive(Drop)]
 pub struct OperatorConsole<'a, V: Write + Drop> {
     rt: &'a HostRuntime,
-    sources: LineSources<'a>,
-    journal: Journal<'a, V>,
+    post: OperatorPost<'a, V>,
     exchange: &'a Exchange,
     progress: &'a Progress<'a>,
-    form: Form,
     // Who asked for the change of a transaction that is being made.
     asker: Option<Speaker>,
 }
@@ -32,35 +46,31 @@ impl<'a, V: Write + Drop> OperatorConsole<'a, V> {
     /// Before the first command.
     pub fn new(
         rt: &'a HostRuntime,
-        sources: LineSources<'a>,
-        journal: Journal<'a, V>,
+        post: OperatorPost<'a, V>,
         exchange: &'a Exchange,
         progress: &'a Progress<'a>,
-        form: Form,
     ) -> Self {
         OperatorConsole {
             rt,
-            sources,
-            journal,
+            post,
             exchange,
             progress,
-            form,
             asker: None,
         }
     }
 
     /// How the run ended, by whether memory was wanting for a turn and whether a store failed.
     pub fn exit(&self, is_short: bool, has_store_failed: bool) -> Exit {
-        if self.journal.has_failed() {
+        if self.post.journal.has_failed() {
             Exit::Device(Fault::Unwritable)
         } else {
-            self.journal.exit(is_short, has_store_failed)
+            self.post.journal.exit(is_short, has_store_failed)
         }
     }
 
     /// The writer of its log.
-    pub fn into_writer(self) -> V {
-        self.journal.into_writer()
+    pub fn into_writer(self) -> KeptLog<V> {
+        self.post.journal.into_writer()
     }
 
     /// Answers a line, and gives the command that it is, if it is one.
@@ -78,7 +88,19 @@ impl<'a, V: Write + Drop> OperatorConsole<'a, V> {
                 return None;
             }
         };
-        match parse_command(self.rt.alloc(), line.as_bytes()) {
+        self.obeys(speaker, line.as_bytes(), station, waiting)
+    }
+
+    /// Answers a line, or a command of the console, and gives the command that it is, if it is one
+    /// that changes what the station does.
+    fn obeys<O: Outbox, I: Inbox>(
+        &mut self,
+        speaker: Speaker,
+        line: &[u8],
+        station: &Station<O, I>,
+        waiting: usize,
+    ) -> Option<Command> {
+        match parse_command(self.rt.alloc(), line) {
             Ok(Asked::Command(command)) => {
                 self.accepts(speaker, &command);
                 Some(command)
@@ -91,6 +113,65 @@ impl<'a, V: Write + Drop> OperatorConsole<'a, V> {
                 self.refuses(speaker, &error);
                 None
             }
+        }
+    }
+
+    /// Does what the console is asked next, and gives the command that it is, if it is one.
+    fn serves_console<O: Outbox, I: Inbox>(
+        &mut self,
+        station: &Station<O, I>,
+        waiting: usize,
+    ) -> Option<Command> {
+        let now = self.post.sources.now();
+        self.post.board.as_mut()?.notes_frames(now);
+        let (speaker, ask) = self.post.sources.next_ask()?;
+        match ask {
+            Ask::Command(line) => self.obeys(speaker, line.as_slice(), station, waiting),
+            Ask::Look(look) => {
+                let answer = self.shows(&look, station, waiting);
+                self.post.sources.shows(speaker, answer);
+                None
+            }
+        }
+    }
+
+    /// What the console shows to one who looks.
+    fn shows<O: Outbox, I: Inbox>(
+        &self,
+        look: &Look,
+        station: &Station<O, I>,
+        waiting: usize,
+    ) -> Result<Answer, AllocError> {
+        let alloc = self.rt.alloc();
+        let (Some(board), Some(log)) = (&self.post.board, self.post.journal.writer().lines()) else {
+            return Err(AllocError);
+        };
+        let status = board.status(station, self.moment(waiting))?;
+        let open = match look {
+            Look::Transactions(_) | Look::Transaction(_) => {
+                self.post.journal.shown(station, self.exchange.told.get())?
+            }
+            _ => Vec::new(alloc),
+        };
+        let shown = Shown {
+            status: &status,
+            open: open.as_slice(),
+            ledger: board.ledger(),
+            log,
+            samples: board.samples(),
+            token: self.post.sources.door().and_then(|door| door.told_token()),
+        };
+        Answer::shows(alloc, look, shown)
+    }
+
+    /// How the station is now.
+    fn moment(&self, waiting: usize) -> Moment {
+        Moment {
+            now: self.post.sources.now(),
+            told: self.exchange.told.get(),
+            is_frozen: self.exchange.is_frozen.get(),
+            waiting,
+            totals: self.post.journal.totals(),
         }
     }
 
@@ -136,9 +217,11 @@ impl<'a, V: Write + Drop> OperatorConsole<'a, V> {
                     files: waiting,
                     now: self.exchange.told.get(),
                 };
-                self.journal.list(out, self.form, station, waiting)
+                self.post
+                    .journal
+                    .list(out, self.post.form, station, waiting)
             }
-            Asked::Counters => self.journal.counters(out, self.form, station),
+            Asked::Counters => self.post.journal.counters(out, self.post.form, station),
             Asked::Help => fmt::Write::write_fmt(out, format_args!("{CommandHelp}")),
             Asked::Freeze | Asked::Thaw | Asked::Command(_) => Ok(()),
         }
@@ -146,15 +229,23 @@ impl<'a, V: Write + Drop> OperatorConsole<'a, V> {
 
     /// Answers that it is done, behind these lines.
     fn is_done(&mut self, speaker: Speaker, lines: &str) {
-        if let Some(text) = self.sources.done(speaker, lines) {
+        if let Some(text) = self.post.sources.done(speaker, lines) {
             self.progress.yields();
             let _ = print!(self.rt; "{text}");
         }
     }
 
+    /// Notes on the board that a put was accepted.
+    fn notes_put(&mut self, id: TransactionId, names: &PutNames) {
+        let size = self.post.journal.size(id);
+        if let Some(board) = &mut self.post.board {
+            board.put_accepted(id, names, size);
+        }
+    }
+
     /// Answers why nothing was done.
     fn refuses<D: fmt::Display>(&mut self, speaker: Speaker, why: &D) {
-        if let Some(text) = self.sources.refused(speaker, why) {
+        if let Some(text) = self.post.sources.refused(speaker, why) {
             self.progress.yields();
             let _ = print!(self.rt; "{text}");
         }
@@ -168,15 +259,18 @@ impl<V: Write + Drop> Console for OperatorConsole<'_, V> {
         waiting: usize,
     ) -> Option<Command> {
         for _line in 0..MOST_LINES {
-            let Some((speaker, line)) = self.sources.next_line() else {
+            let Some((speaker, line)) = self.post.sources.next_line() else {
                 break;
             };
             if let Some(command) = self.takes(speaker, line, station, waiting) {
                 return Some(command);
             }
         }
-        self.exchange.watched.set(self.sources.watched());
-        self.journal.looks_at(station);
+        if let Some(command) = self.serves_console(station, waiting) {
+            return Some(command);
+        }
+        self.exchange.watched.set(self.post.sources.watched());
+        self.post.journal.looks_at(station);
         None
     }
 
@@ -195,12 +289,15 @@ impl<V: Write + Drop> Console for OperatorConsole<'_, V> {
             Reply::Put(Err(_)) | Reply::Change(_) => self.progress.yields(),
         }
         self.exchange.is_stirred.set(true);
-        self.journal.put_answered(names, reply, is_again);
+        self.post.journal.put_answered(names, reply, is_again);
+        if let Reply::Put(Ok(id)) = reply {
+            self.notes_put(id, names);
+        }
     }
 
     fn change_answered(&mut self, reply: Reply) {
         self.exchange.is_stirred.set(true);
-        self.journal.change_answered(reply);
+        self.post.journal.change_answered(reply);
         if let Some(speaker) = self.asker.take() {
             match reply {
                 Reply::Change(Err(error)) => self.refuses(speaker, &error),
@@ -210,21 +307,24 @@ impl<V: Write + Drop> Console for OperatorConsole<'_, V> {
     }
 
     fn hears(&mut self, indication: &Indication) {
-        self.journal.hears(indication);
+        if let Some(board) = &mut self.post.board {
+            board.hears(indication);
+        }
+        self.post.journal.hears(indication);
     }
 
     fn ends_file(&mut self, name: &[u8], outcome: Outcome) {
         self.progress.yields();
-        self.journal.ends_file(name, outcome);
+        self.post.journal.ends_file(name, outcome);
     }
 
     fn ends<O: Outbox, I: Inbox>(&mut self, station: &Station<O, I>) {
         // The line that says how far it is stands in front of the last lines.
         self.progress.ends();
-        self.journal.ends(station);
+        self.post.journal.ends(station);
     }
 
     fn has_failed(&self) -> bool {
-        self.journal.has_failed()
+        self.post.journal.has_failed()
     }
 }

@@ -6,6 +6,7 @@ ghost use Rattle.cfdp_node.specs.Looping.Request.{number_rule};
 ghost use Rattle.cfdp_node.specs.Request.{IsCommand};
 ghost use Rattle.cfdp_node.specs.Shown.{file_rule};
 ghost use Rattle.cfdp_node.specs.Station.Request.{addresses_app, carried_app, carrier_of_word};
+ghost use Rattle.cfdp_node.specs.Station.Request.{consoled_app};
 ghost use Rattle.cfdp_node.specs.Station.Request.{file_app, first_number_rule, flags_of, held_app};
 ghost use Rattle.cfdp_node.specs.Station.Request.{incoming_app, limits_of, lists_app, named_rule};
 ghost use Rattle.cfdp_node.specs.Station.Request.{names_app, numbered_app, numbers_of, operated_app};
@@ -49,6 +50,10 @@ pub struct StationRequest {
     pub state: Option<String>,
     /// The TCP address on which commands are taken.
     pub control: Option<String>,
+    /// The TCP address at which a browser is shown it.
+    pub console: Option<String>,
+    /// The path of the file with the token that the console wants.
+    pub console_token: Option<String>,
     /// The files that it sends: the name of each in that folder, and behind it the one that it is
     /// to have at the peer.
     pub puts: Vec<String>,
@@ -171,6 +176,13 @@ peer sends; without --no-overwrite one takes the place of another of its name.
 help lists them all. Whoever can reach that address can give commands: let it be
 one of this machine, as 127.0.0.1:5101.
 
+--console shows the station to a browser, as at http://127.0.0.1:8080/, with its
+link, transactions and log, and buttons for put, cancel, suspend, resume, freeze
+and thaw; the same as JSON and for Prometheus (docs/CONSOLE.md). Without
+--console-token the address has to be one of this machine, and whoever reaches it
+commands the station. With it, each request has to show the token that stands in
+FILE: 16 to 256 visible ASCII characters.
+
 --config takes from a TOML file what the command line doesn't say, by the names
 of the options: a number as at-once = 4, a word as inbox = 'RECEIVED', a flag as
 json = true, pairs as put = [['a.bin', 'b.bin']], and in a table [set] the keys
@@ -258,12 +270,30 @@ fn file_command<'a>(alloc: Global) -> Result<Command<'a>, AllocError>
 fn told_command<'a>(alloc: Global) -> Result<Command<'a>, AllocError>
     ensures { IfOk result (IsCommand told_app) }
 {
-    operated_command(alloc)?
+    consoled_command(alloc)?
         .arg(flag(alloc, "no-time", "Begins lines with no time"))?
         .arg(flag(alloc, "json", "Writes an object a line, in JSON"))
 }
 
 /// The same without what says how lines are written.
+fn consoled_command<'a>(alloc: Global) -> Result<Command<'a>, AllocError>
+    ensures { IfOk result (IsCommand consoled_app) }
+{
+    operated_command(alloc)?
+        .arg(word_for(
+            alloc,
+            "console",
+            "ADDR",
+            "Shows itself to a browser on this TCP address",
+        ))?
+        .arg(file_for(
+            alloc,
+            "console-token",
+            "The file with the token that its console wants",
+        ))
+}
+
+/// The same without a console.
 fn operated_command<'a>(alloc: Global) -> Result<Command<'a>, AllocError>
     ensures { IfOk result (IsCommand operated_app) }
 {
@@ -641,6 +671,8 @@ impl StationWords<'_> {
             spool: owned_word(alloc, arguments, "spool")?,
             state: owned_word(alloc, arguments, "state")?,
             control: owned_word(alloc, arguments, "control")?,
+            console: owned_word(alloc, arguments, "console")?,
+            console_token: owned_word(alloc, arguments, "console-token")?,
             puts: owned_words(alloc, arguments, "put")?,
             sets: owned_words(alloc, arguments, "set")?,
             shown: shown_by(alloc, arguments)?,

@@ -439,6 +439,7 @@ impl StationSetup {
             data_virtual_channel: u8::try_from(direction.data_virtual_channel).ok()?,
             zone: u16::try_from(self.settings.zone).ok()?,
             apid: u16::try_from(direction.apid).ok()?,
+            fields: FrameFields::NONE,
         })
     }
 }

@@ -232,6 +232,7 @@ impl<'a> PeerSocket<'a> {
     /// no room now, or where nobody listens at the peer's address, as an earlier datagram told.
     fn has_gone(&mut self, answer: io::Result<usize>) -> Result<bool, WireFault> {
         let Err(error) = answer else {
+            self.exchange.gaps.adds_sent();
             return Ok(true);
         };
         let kind = error.kind();
@@ -429,6 +430,7 @@ impl<'a> PeerSocket<'a> {
             self.exchange.gaps.throws_away();
             return false;
         }
+        self.exchange.gaps.adds_came();
         if self.pace.carrier == Carrier::Frames
             && let Some(beacon) = Beacon::read(datagram)
         {

@@ -1,5 +1,5 @@
 -- What octets spell, as a line.
-use Rattle.std.specs.Prelude.{◌≡◌, ◌⊎◌, ℕ, ◌-◌, ◌/◌, ◌%◌, ◌==◌, ◌||◌, Bool, true, List, [], ◌∷◌, ◌++◌, codes, decimal, drop, length, replicate, if◌then◌else◌, Option, None, Some}
+use Rattle.std.specs.Prelude.{ℕ, ◌-◌, ◌/◌, ◌%◌, ◌==◌, ◌||◌, Bool, true, List, [], ◌∷◌, ◌++◌, codes, decimal, length, replicate, if◌then◌else◌, Option, None, Some}
 use Rattle.std.specs.List.{flat_map, AllZip}
 use Rattle.std.specs.Io.KnownBytes.{Appends}
 use Rattle.std.specs.Fmt.{digits}
@@ -7,21 +7,12 @@ use Rattle.cfdp_header.specs.declared.value.Direction.{Direction}
 use Rattle.cfdp_header.specs.declared.value.Direction.TheVariants.{TowardReceiver, TowardSender}
 use Rattle.cfdp_header.specs.declared.value.Header.{Header}
 use Rattle.cfdp_header.specs.declared.value.TransactionId.{TransactionId}
-use Rattle.cfdp_directives.specs.declared.pdu.error.PduError.{PduError}
 use Rattle.cfdp_directives.specs.Pdu.Codes.{acknowledged_code, transaction_status_code}
 use Rattle.cfdp_directives.specs.declared.pdu.content.Pdu as pdus
 use Rattle.cfdp_directives.specs.declared.pdu.content.Pdu.TheVariants as pdu
-use Rattle.cfdp_directives.specs.Pdu.Faults.{pdu_fault}
-use Rattle.cfdp_directives.specs.Pdu.Content.{view}
-use Rattle.cfdp_directives.specs.Pdu.Grammar.{SpellsPdu}
 use Rattle.cfdp_directives.specs.Pdu.Tlv.{Tlv, location_of}
 use Rattle.aos_frame.specs.declared.header.FrameHeader.{FrameHeader}
-use Rattle.aos_frame.specs.declared.error.FrameError.{FrameError}
-use Rattle.aos_frame.specs.Frame.{SpellsFrame, frame_fault, own_channel}
-use Rattle.mpdu.specs.MpduHeader.{pointer_of}
-use Rattle.cfdp_report.specs.declared.dump.refusal.Refusal.TheVariants.{Pdu}
 use Rattle.cfdp_report.specs.Report.Name.{hex_digit, printed_octet}
-use Rattle.cfdp_report.specs.Dump.Refusal.{frame_fault_text, refusal_text}
 use Rattle.cfdp_report.specs.Report.Wording.{id_text, delivery_word, status_word}
 
 -- a number as eight upper-case hexadecimal digits
@@ -110,10 +101,6 @@ long_text h p =
     ++ large_word h.large ++ location_text (location_of (options_of p))
     ++ flat_map option_text (options_of p)
 
--- the line of a PDU, which may be a long one
-abbrev pub pdu_line : Bool → Header → pdus.Pdu → List ℕ
-pdu_line long h p = if long then pdu_text h.id p ++ long_text h p else pdu_text h.id p
-
 -- a frame with this header and first header pointer
 abbrev pub frame_text : FrameHeader → ℕ → List ℕ
 frame_text h pointer =
@@ -131,47 +118,6 @@ lane_word channel =
 -- whether the count has 28 bits (732.0-B-4, 4.1.2.5, usage flag of the count cycle)
 abbrev pub cycle_word : Bool → List ℕ
 cycle_word cycle = if cycle then codes " cycle" else codes ""
-
--- the line of a frame: a long one tells too its lane, and that its count has 28 bits
-abbrev pub frame_line : Bool → FrameHeader → ℕ → List ℕ
-frame_line long h pointer =
-    if long then frame_text h pointer ++ lane_word h.virtual_channel ++ cycle_word h.cycle
-    else frame_text h pointer
-
--- The octets are a PDU, and this text says which.
-pub record TellsPdu (long : Bool) (octets text : List ℕ) : Type 0 where
-  pub header : Header
-  pub says : pdus.Pdu
-  pub spelled : SpellsPdu header (view says) octets
-  pub words : text ≡ pdu_line long header says
-
--- The octets are no PDU, and this text says why.
-pub record TellsPduFault (octets text : List ℕ) : Type 0 where
-  pub error : PduError
-  pub fault : pdu_fault octets ≡ Some error
-  pub words : text ≡ refusal_text (Pdu error)
-
--- The octets are a frame with a packet zone of so many octets, and this text says which. Behind the
--- header stand 5 spare bits and the 11 bits of the first header pointer (CCSDS 732.0-B-4, 4.1.4.2).
-pub record TellsFrame (long : Bool) (zone : ℕ) (octets text : List ℕ) : Type 0 where
-  pub header : FrameHeader
-  pub spelled : SpellsFrame (own_channel octets zone) header octets
-  pub words : text ≡ frame_line long header (pointer_of (drop 6 octets))
-
--- The octets are no such frame, and this text says why.
-pub record TellsFrameFault (zone : ℕ) (octets text : List ℕ) : Type 0 where
-  pub error : FrameError
-  pub fault : frame_fault octets (own_channel octets zone) ≡ Some error
-  pub words : text ≡ frame_fault_text error zone (length octets)
-
--- This text is written for these octets, as a PDU.
-abbrev pub TellsAsPdu : Bool → List ℕ → List ℕ → Type 0
-TellsAsPdu long octets text = TellsPdu long octets text ⊎ TellsPduFault octets text
-
--- The same, as a frame.
-abbrev pub TellsAsFrame : Bool → ℕ → List ℕ → List ℕ → Type 0
-TellsAsFrame long zone octets text = TellsFrame long zone octets text
-    ⊎ TellsFrameFault zone octets text
 
 -- a text as a line
 abbrev pub as_line : List ℕ → List ℕ

@@ -1,8 +1,10 @@
 -- What a trace says of what was seen at two stations.
-use Rattle.std.specs.Prelude.{◌≡◌, ℕ, false, List, ◌++◌, codes, decimal, Option}
+use Rattle.std.specs.Prelude.{◌≡◌, ℕ, List, ◌++◌, codes, decimal, Option}
 use Rattle.aos_frame.specs.declared.config.Lane.TheVariants.{Directives, Data}
 use Rattle.link_sim.specs.Stations.{entity_of}
-use Rattle.cfdp_report.specs.Dump.Lines.{TellsAsFrame, TellsAsPdu, WritesLines}
+use Rattle.cfdp_report.specs.Dump.Lines.{WritesLines}
+use Rattle.cfdp_report.specs.Dump.Told.{TellsAsFrame, TellsAsPdu}
+use Rattle.cfdp_report.specs.declared.dump.form.DumpForm.TheVariants.{Short}
 use Rattle.cfdp_report.specs.declared.watch.sighting.Deed.{Deed}
 use Rattle.cfdp_report.specs.declared.watch.sighting.Deed.TheVariants.{SendsFrame, SendsPdu, TakesFrame, HearsPdu, LosesFrame, Ticks, Drops, Tells}
 use Rattle.cfdp_report.specs.declared.watch.sighting.Sighting.{Sighting}
@@ -24,11 +26,11 @@ deed_word Tells = codes "tells"
 -- Behind that stands what a dump says of the frame or the PDU. Of the time, of a drop and of an
 -- indication the words were noted.
 abbrev pub TellsWords : Deed → (zone : ℕ) → List ℕ → List ℕ → Type 0
-TellsWords (SendsFrame lane) zone octets = TellsAsFrame false zone octets
-TellsWords (SendsPdu lane) zone octets = TellsAsPdu false octets
-TellsWords (TakesFrame lane) zone octets = TellsAsFrame false zone octets
-TellsWords HearsPdu zone octets = TellsAsPdu false octets
-TellsWords (LosesFrame lane) zone octets = TellsAsFrame false zone octets
+TellsWords (SendsFrame lane) zone octets = TellsAsFrame Short zone octets
+TellsWords (SendsPdu lane) zone octets = TellsAsPdu Short octets
+TellsWords (TakesFrame lane) zone octets = TellsAsFrame Short zone octets
+TellsWords HearsPdu zone octets = TellsAsPdu Short octets
+TellsWords (LosesFrame lane) zone octets = TellsAsFrame Short zone octets
 TellsWords Ticks zone octets = λ words. words ≡ octets
 TellsWords Drops zone octets = λ words. words ≡ octets
 TellsWords Tells zone octets = λ words. words ≡ octets

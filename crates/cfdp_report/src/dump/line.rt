@@ -2,11 +2,14 @@
 ghost use Rattle.std.specs.Prelude.{◌≡◌, Some};
 ghost use Rattle.std.specs.List.{flat_map};
 ghost use Rattle.cfdp_directives.specs.Pdu.Tlv.{location_of};
-ghost use Rattle.cfdp_report.specs.Dump.Lines.{fields_text, frame_line, frame_text};
+ghost use Rattle.cfdp_report.specs.Dump.Lines.{fields_text, frame_text};
 ghost use Rattle.cfdp_report.specs.Dump.Lines.{hex_number_text, hex_octet_text, location_text};
-ghost use Rattle.cfdp_report.specs.Dump.Lines.{long_text, option_text, options_of, pdu_line};
+ghost use Rattle.cfdp_report.specs.Dump.Lines.{long_text, option_text, options_of};
 ghost use Rattle.cfdp_report.specs.Dump.Lines.{pdu_text, range_text};
+ghost use Rattle.cfdp_report.specs.Dump.Told.{frame_line, pdu_line};
 
+use crate::dump::fields::{FrameFields, PduFields};
+use crate::dump::form::DumpForm;
 use crate::report::name::{Name, hex_digit};
 use crate::report::wording::{Id, delivery_word, status_word};
 use aos_frame::FrameHeader;
@@ -14,30 +17,39 @@ use cfdp_directives::{Pdu, SegmentRequests, Tlvs};
 use cfdp_header::{Direction, Header, TransactionId};
 use std::fmt;
 
-/// A PDU as a dump tells it, in a long line or a short one.
+/// A PDU as a dump tells it.
 #[derive(Clone, Copy)]
 pub struct DumpedPdu<'a> {
     pub header: Header,
     pub pdu: &'a Pdu<'a>,
-    pub long: bool,
+    /// The octets of the whole PDU.
+    pub octets: &'a [u8],
+    pub form: DumpForm,
 }
 
 impl fmt::Display for DumpedPdu<'_> {
-    ghost output = { λ line. Some (pdu_line line.long line.header line.pdu.now) };
+    ghost output = { λ it. Some (pdu_line it.form it.header it.pdu.now it.octets.now) };
 
     fn fmt<W: fmt::Write>(&self, f: &mut fmt::Formatter<W>) -> fmt::Result {
-        let line = PduLine {
-            id: self.header.id,
-            pdu: self.pdu,
-        };
-        let more = LongPart {
-            header: self.header,
-            pdu: self.pdu,
-        };
-        if self.long {
-            write!(f, "{line}{more}")
-        } else {
-            write!(f, "{line}")
+        let DumpedPdu {
+            header,
+            pdu,
+            octets,
+            form,
+        } = *self;
+        let line = PduLine { id: header.id, pdu };
+        match form {
+            DumpForm::Short => write!(f, "{line}"),
+            DumpForm::Long => write!(f, "{line}{}", LongPart { header, pdu }),
+            DumpForm::Fields => write!(
+                f,
+                "{}",
+                PduFields {
+                    header,
+                    pdu,
+                    octets
+                }
+            ),
         }
     }
 }
@@ -53,7 +65,7 @@ impl fmt::Display for PduLine<'_> {
     ghost output = { λ line. Some (pdu_text line.id line.pdu.now) };
 
     fn fmt<W: fmt::Write>(&self, f: &mut fmt::Formatter<W>) -> fmt::Result {
-        let (word, fields) = (pdu_word(self.pdu), PduFields(self.pdu));
+        let (word, fields) = (pdu_word(self.pdu), PduWords(self.pdu));
         write!(f, "{word} {} {fields}", Id(self.id))
     }
 }
@@ -76,9 +88,9 @@ fn pdu_word(pdu: &Pdu<'_>) -> &'static str
 
 /// What a PDU says, with a space between its parts.
 #[derive(Clone, Copy)]
-struct PduFields<'a>(&'a Pdu<'a>);
+struct PduWords<'a>(&'a Pdu<'a>);
 
-impl fmt::Display for PduFields<'_> {
+impl fmt::Display for PduWords<'_> {
     ghost output = { λ fields. Some (fields_text fields.0.now) };
 
     fn fmt<W: fmt::Write>(&self, f: &mut fmt::Formatter<W>) -> fmt::Result {
@@ -192,7 +204,7 @@ fn large_word(large: bool) -> &'static str
 }
 
 /// The entity that a PDU names as the one at which a fault was found.
-fn fault_location(pdu: &Pdu<'_>) -> Option<u64>
+pub fn fault_location(pdu: &Pdu<'_>) -> Option<u64>
     ensures { result ≡ location_of (options_of pdu.now) }
 {
     match pdu {
@@ -268,7 +280,7 @@ impl fmt::Display for OptionWords<'_> {
 
 /// Octets, each as two upper-case hexadecimal digits.
 #[derive(Clone, Copy)]
-struct HexOctets<'a>(&'a [u8]);
+pub struct HexOctets<'a>(pub &'a [u8]);
 
 impl fmt::Display for HexOctets<'_> {
     ghost output = { λ octets. Some (flat_map hex_octet_text octets.0.now) };
@@ -283,7 +295,7 @@ impl fmt::Display for HexOctets<'_> {
 
 /// An octet as two upper-case hexadecimal digits.
 #[derive(Clone, Copy)]
-struct HexOctet(u8);
+pub struct HexOctet(pub u8);
 
 impl fmt::Display for HexOctet {
     ghost output = { λ octet. Some (hex_octet_text octet.0) };
@@ -306,24 +318,28 @@ impl fmt::Display for HexNumber {
     }
 }
 
-/// A frame as a dump tells it, in a long line or a short one.
+/// A frame as a dump tells it.
 #[derive(Clone, Copy)]
 pub struct DumpedFrame {
     pub frame: FrameLine,
-    pub long: bool,
+    /// The octets of its packet zone.
+    pub zone: u16,
+    pub form: DumpForm,
 }
 
 impl fmt::Display for DumpedFrame {
-    ghost output = { λ line. Some (frame_line line.long line.frame.header line.frame.pointer) };
+    ghost output = { λ it. Some (frame_line it.form it.frame.header it.frame.pointer it.zone) };
 
     fn fmt<W: fmt::Write>(&self, f: &mut fmt::Formatter<W>) -> fmt::Result {
-        let frame = self.frame;
-        if self.long {
-            let lane = lane_word(frame.header.virtual_channel);
-            let cycle = cycle_word(frame.header.cycle);
-            write!(f, "{frame}{lane}{cycle}")
-        } else {
-            write!(f, "{frame}")
+        let DumpedFrame { frame, zone, form } = *self;
+        match form {
+            DumpForm::Short => write!(f, "{frame}"),
+            DumpForm::Long => {
+                let lane = lane_word(frame.header.virtual_channel);
+                let cycle = cycle_word(frame.header.cycle);
+                write!(f, "{frame}{lane}{cycle}")
+            }
+            DumpForm::Fields => write!(f, "{}", FrameFields { frame, zone }),
         }
     }
 }

@@ -1,5 +1,5 @@
 ghost use Rattle.std.specs.Prelude.{◌≡◌, Some};
-ghost use Rattle.cfdp_report.specs.Report.Answers.{answer_name};
+ghost use Rattle.cfdp_report.specs.Report.Answers.{answer_after, answer_name};
 
 use link_sim::{RecoverError, Refusal, SettleError};
 use std::fmt;
@@ -7,8 +7,8 @@ use std::fmt;
 /// Why a command didn't do its work, or not all of it. The report tells it.
 #[derive(Clone, Copy)]
 pub enum Answer {
-    /// There was nothing to do.
-    Nothing,
+    /// There was nothing to do, or nothing more after so many events of the command.
+    Nothing { after: u64 },
     /// It was refused.
     Refused(Refusal),
     /// It ended before all was done.
@@ -42,26 +42,38 @@ impl Answered {
 impl Answer {
     /// There was no memory for an event.
     pub const NO_MEMORY: Answer = Answer::Ended(RecoverError::Settle(SettleError::NoMemory));
+
+    /// This answer of an event, told of a command of which so many events happened before: only
+    /// Nothing tells how many.
+    pub fn told_after(self, before: u64) -> Answer
+        ensures { result ≡ answer_after before self }
+    {
+        match self {
+            Answer::Nothing { .. } => Answer::Nothing { after: before },
+            Answer::Refused(_) | Answer::Ended(_) => self,
+        }
+    }
 }
 
 impl fmt::Display for Answer {
     ghost output = { λ answer. Some (answer_name answer) };
 
     fn fmt<W: fmt::Write>(&self, f: &mut fmt::Formatter<W>) -> fmt::Result {
-        write!(f, "{}", self.name())
+        match *self {
+            Answer::Nothing { after: 0 } => f.write_str("Nothing"),
+            Answer::Nothing { after } => write!(f, "Nothing after {after}"),
+            Answer::Refused(refusal) => f.write_str(refusal_name(refusal)),
+            Answer::Ended(error) => f.write_str(error.name()),
+        }
     }
 }
 
-impl Answer {
-    fn name(self) -> &'static str
-        ensures { result.now ≡ answer_name self }
-    {
-        match self {
-            Answer::Nothing => "Nothing",
-            Answer::Refused(Refusal::Put(error)) => error.name(),
-            Answer::Refused(Refusal::Call(error)) => error.name(),
-            Answer::Refused(Refusal::LossRunTooLong) => "LossRunTooLong",
-            Answer::Ended(error) => error.name(),
-        }
+fn refusal_name(refusal: Refusal) -> &'static str
+    ensures { result.now ≡ answer_name (Answer.Refused refusal) }
+{
+    match refusal {
+        Refusal::Put(error) => error.name(),
+        Refusal::Call(error) => error.name(),
+        Refusal::LossRunTooLong => "LossRunTooLong",
     }
 }

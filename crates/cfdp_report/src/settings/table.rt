@@ -100,9 +100,9 @@ pub const TABLE: [Row; 16] = [
     Row {
         setting: Setting::Checksum,
         key: "checksum",
-        range: Range::Either(0, 15),
+        range: Range::BetweenOr(0, 3, 15),
         default: 0,
-        help: "0 modular, 15 null",
+        help: "0 modular, 15 null; CRC-32: 1 Proximity-1, 2 C, 3 IEEE",
     },
     Row {
         setting: Setting::EofLimit,
@@ -181,8 +181,8 @@ pub const TABLE: [Row; 16] = [
 pub enum Range {
     /// From the first number to the second.
     Between(u64, u64),
-    /// One of the two.
-    Either(u64, u64),
+    /// From the first number to the second, or the third.
+    BetweenOr(u64, u64, u64),
 }
 
 impl Range {
@@ -190,7 +190,9 @@ impl Range {
     pub fn has(self, value: u64) -> bool {
         match self {
             Range::Between(least, most) => least <= value && value <= most,
-            Range::Either(one, other) => value == one || value == other,
+            Range::BetweenOr(least, most, other) => {
+                least <= value && value <= most || value == other
+            }
         }
     }
 }
@@ -201,7 +203,7 @@ impl fmt::Display for Range {
         match self {
             Range::Between(0, u64::MAX) => f.write_str("any number"),
             Range::Between(least, most) => write!(f, "{least} to {most}"),
-            Range::Either(one, other) => write!(f, "{one} or {other}"),
+            Range::BetweenOr(least, most, other) => write!(f, "{least} to {most} or {other}"),
         }
     }
 }

@@ -6,7 +6,7 @@ use std::io::Write;
 use std::{fmt, io};
 
 /// How many causes there are of frames, zones and packets, and how many of PDUs.
-const OF_LINK: usize = 11;
+const OF_LINK: usize = 12;
 
 const OF_PDUS: usize = 17;
 

@@ -6,6 +6,7 @@ ghost use Rattle.cfdp_report.specs.Watch.Continues.{Continues};
 ghost use Rattle.cfdp_report.specs.Watch.Trace.{TellsDeed, TellsSighting, TellsWords, TracesSoFar};
 ghost use Rattle.cfdp_report.specs.Watch.Trace.{deed_word};
 
+use crate::dump::form::DumpForm;
 use crate::dump::{write_frame, write_pdu};
 use crate::watch::sighting::{Deed, Sighting};
 use link_sim::Lane;
@@ -94,9 +95,9 @@ fn write_words<W: Write>(out: &mut W, zone: u16, sighting: &Sighting) -> io::Res
         (W.contents out.old) (W.contents out.new)) }
 {
     match sighting.deed {
-        Deed::SendsPdu(_) | Deed::HearsPdu => write_pdu(&sighting.octets, false, out),
+        Deed::SendsPdu(_) | Deed::HearsPdu => write_pdu(&sighting.octets, DumpForm::Short, out),
         Deed::SendsFrame(_) | Deed::TakesFrame(_) | Deed::LosesFrame(_) => {
-            write_frame(&sighting.octets, zone, false, out)
+            write_frame(&sighting.octets, zone, DumpForm::Short, out)
         }
         Deed::Ticks | Deed::Drops | Deed::Tells => write_line(out, &sighting.octets),
     }

@@ -15,6 +15,7 @@ use Rattle.link_sim.specs.declared.recover_error.RecoverError.{RecoverError}
 use Rattle.link_sim.specs.declared.recover_error.RecoverError.TheVariants.{Settle, StillArmed}
 use Rattle.link_sim.specs.declared.settle_error.SettleError.TheVariants.{NoMemory}
 use Rattle.link_sim.specs.declared.side.Side.{Side}
+use Rattle.cfdp_report.specs.Report.Answers.{answer_after}
 use Rattle.cfdp_report.specs.declared.report.answer.Answer.{Answer}
 use Rattle.cfdp_report.specs.declared.report.answer.Answered.{Answered}
 use Rattle.cfdp_report.specs.declared.report.answer.Answer.TheVariants.{Nothing, Refused, Ended}
@@ -41,17 +42,18 @@ ForMemory _ so = ⊥
 -- that there was no memory for it.
 abbrev pub HappensOnce : Event → Option Answer → (old new : WorldState) → Type 0
 HappensOnce e None old new = Steps e did.Applied old new
-HappensOnce e (Some Nothing) old new = Steps e did.Nothing old new
+HappensOnce e (Some (Nothing after)) old new = (after ≡ 0) × Steps e did.Nothing old new
 HappensOnce e (Some (Refused by)) old new = Steps e (did.Refused by) old new
 HappensOnce e (Some (Ended error)) old new =
     ForMemory error (WantsMemory e × FindsNoMemory (side_in e) old new)
 
--- It happened so many times; or less often, and then came the answer, which isn't that it happened.
+-- It happened so many times; or less often, and then an event had another answer. That is the
+-- command's, and tells, where there was nothing more to do, how often it happened.
 abbrev pub HappensOften : Event → ℕ → Option Answer → (old new : WorldState) → Type 0
 HappensOften e count None old new = Times (Steps e did.Applied) count old new
 HappensOften e count (Some answer) old new = (before : ℕ) × (before < count)
     × (last : WorldState) × Times (Steps e did.Applied) before old last
-    × HappensOnce e (Some answer) last new
+    × (why : Answer) × (answer ≡ answer_after before why) × HappensOnce e (Some why) last new
 
 -- ---- frames of either lane
 -- A frame that a station sent waits in this lane, or none waits in either.
@@ -65,17 +67,19 @@ abbrev pub HappensToFirst : Fate → Side → Option Answer → (old new : World
 HappensToFirst fate s answer old new =
     (lane : Lane) × MayTake s lane old × HappensOnce (befalls fate s lane) answer old new
 
--- So it befell so many; or fewer, and then came the answer.
+-- So it befell so many; or fewer, and then one had another answer, which is the command's, and
+-- tells, where no more waited, how many it befell.
 abbrev pub HappensToFirsts : Fate → Side → ℕ → Option Answer → (old new : WorldState) → Type 0
 HappensToFirsts fate s count None old new = Times (HappensToFirst fate s None) count old new
 HappensToFirsts fate s count (Some answer) old new = (before : ℕ) × (before < count)
     × (last : WorldState) × Times (HappensToFirst fate s None) before old last
-    × HappensToFirst fate s (Some answer) last new
+    × (why : Answer) × (answer ≡ answer_after before why)
+    × HappensToFirst fate s (Some why) last new
 
 -- All was done; or an error ended it before, which is the answer.
 abbrev pub IsDone : Option Answer → Type 0 → (RecoverError → Type 0) → Type 0
 IsDone None done ended = done
-IsDone (Some Nothing) done ended = ⊥
+IsDone (Some (Nothing after)) done ended = ⊥
 IsDone (Some (Refused by)) done ended = ⊥
 IsDone (Some (Ended error)) done ended = ended error
 

@@ -41,6 +41,17 @@ pub struct FileLine {
     pub contents: Contents,
 }
 
+impl FileLine {
+    ghost use Rattle.cfdp_script.specs.Script.Lines.{is_same_file};
+
+    /// Whether this is a file of the same station and the same name as another one.
+    pub fn is_same_file(&self, other: &FileLine) -> bool
+        ensures { result ≡ is_same_file self.now other.now }
+    {
+        self.at.entity() == other.at.entity() && self.name.as_slice() == other.name.as_slice()
+    }
+}
+
 /// What is in a file that a script makes.
 #[derive(Drop)]
 pub enum Contents {

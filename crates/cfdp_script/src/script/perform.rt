@@ -41,19 +41,19 @@ fn once<S: Stations>(stations: &mut S, event: &Event) -> Option<Answer>
 {
     match stations.apply(event) {
         Ok(Applied::Applied) => None,
-        Ok(Applied::Nothing) => Some(Answer::Nothing),
+        Ok(Applied::Nothing) => Some(Answer::Nothing { after: 0 }),
         Ok(Applied::Refused(refusal)) => Some(Answer::Refused(refusal)),
         Err(AllocError) => Some(Answer::NO_MEMORY),
     }
 }
 
-/// Lets an event happen so many times. Answers why it didn't.
+/// Lets an event happen so many times. Answers why it didn't, and after how many.
 fn repeat<S: Stations>(stations: &mut S, event: &Event, count: u64) -> Option<Answer>
     ensures { HappensOften event.now count result (S.world stations.old) (S.world stations.new) }
 {
-    for _ in 0..count {
+    for done in 0..count {
         if let Some(answer) = once(stations, event) {
-            return Some(answer);
+            return Some(answer.told_after(done));
         }
     }
     None
@@ -68,14 +68,14 @@ fn once_first<S: Stations>(stations: &mut S, fate: Fate, from: Side) -> Option<A
     once(stations, &fate.event(from, lane))
 }
 
-/// Lets that befall so many frames, one by one. Answers why it didn't.
+/// Lets that befall so many frames, one by one. Answers why it didn't, and after how many.
 fn repeat_first<S: Stations>(stations: &mut S, fate: Fate, from: Side, count: u64) -> Option<Answer>
     ensures { HappensToFirsts fate from count result (S.world stations.old)
         (S.world stations.new) }
 {
-    for _frame in 0..count {
+    for done in 0..count {
         if let Some(answer) = once_first(stations, fate, from) {
-            return Some(answer);
+            return Some(answer.told_after(done));
         }
     }
     None

@@ -10,10 +10,9 @@ ghost use Rattle.cfdp_report.specs.Exit.{IsFlushedAt};
 ghost use Rattle.cfdp_script.specs.Script.Simulated.{EndsFrom, EndsScript, EndsText, IsSilentAt};
 
 use crate::input::{MAX_SCRIPT, read_script};
-use crate::script::command::FileLine;
 use crate::script::outboxes::outboxes;
 use crate::script::run::run_steps;
-use crate::script::{Script, Step};
+use crate::script::{GivenFile, Script, Step};
 use cfdp_report::{Exit, Fault, Onlooker, Ran, Screen, Shown};
 use cfdp_store::{MemoryInbox, MemoryOutbox};
 use link_sim::{World, WorldConfig, worlds_keep_the_promises};
@@ -91,7 +90,7 @@ fn run_commands<W: Write>(
     rt: &HostRuntime,
     shown: &Shown,
     config: Valid<WorldConfig>,
-    files: &[FileLine],
+    files: &[GivenFile],
     steps: &[Step],
     out: &mut W,
 ) -> Ran
@@ -113,7 +112,7 @@ fn first_world<'a>(
     rt: &'a HostRuntime,
     shown: &'a Shown,
     config: Valid<WorldConfig>,
-    files: &[FileLine],
+    files: &[GivenFile],
 ) -> Result<Watched<'a>, AllocError>
     ensures { IfOk result (IsFirst config
         (outbox_of sides.One files.now, outbox_of sides.Two files.now) (map.empty, map.empty)) }

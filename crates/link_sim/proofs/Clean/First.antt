@@ -35,8 +35,8 @@ if-zero : (b : Bool) (n : ℕ) → n ≡ 0 → (if b then 0 else n) ≡ 0
 if-zero true n is = refl
 if-zero false n is = is
 
-none-counted : (n : ℕ) → count_of (zeros 11) n ≡ 0
-none-counted n = if-zero (n == 0) (get_or (zeros 11) (n - 1) 0) (no-count 11 (n - 1))
+none-counted : (n : ℕ) → count_of (zeros 12) n ≡ 0
+none-counted n = if-zero (n == 0) (get_or (zeros 12) (n - 1) 0) (no-count 12 (n - 1))
 
 clean-entity-first : (sources files : FileMap) (c : StationConfig) → IsCleanEntity (first_entity sources files c.entity)
 clean-entity-first sources files c = record { told = refl; uncancelled = refl; heard = λ n ne. no-count 18 n }

@@ -9,7 +9,6 @@ use Rattle.cfdp_header.specs.declared.value.Header.{Header}
 use Rattle.cfdp_header.specs.declared.value.TransactionId.{TransactionId}
 use Rattle.cfdp_header.specs.Ids.{same_id}
 use Rattle.cfdp_header.proofs.Ids.{same_id-itself}
-use Rattle.cfdp_directives.specs.Pdu.Codes.{modular, null}
 use Rattle.cfdp_directives.specs.Pdu.Content.{Content, FileData, Metadata, Eof, Finished, Ack, Nak, Prompt, KeepAlive}
 use Rattle.cfdp_directives.specs.Pdu.Direction.{direction_of}
 use Rattle.cfdp_directives.specs.Pdu.Grammar.{SpellsPdu}
@@ -185,10 +184,6 @@ kind-by w (Some q) put e =
     let s : Side = side_of q.id.source w in
     (s, kind-octets (at s w).checksum_kind q (get (at s w).sources q.source) put e)
 
-supported : (kind : ℕ) → (kind ≡ modular) ⊎ (kind ≡ null) → is_supported kind ≡ true
-supported kind (inl is) = ap is_supported is
-supported kind (inr is) = ap is_supported is
-
 same-put : (p q : Put) → Some p ≡ Some q → p ≡ q
 same-put p q is = cc
 
@@ -214,7 +209,7 @@ module _ (w : WorldState) (sound : IsSound w) (sizes : (s : Side) → AreWithin 
       let kind : put.checksum_kind ≡ (entity_at k.0 w).config.checksum_kind = k.1 ∙ kind-there k.0 w in
       let some : IsSome (put_of (seen w) put.id) = subst IsSome (sym found) refl in
       record {
-        supported = supported put.checksum_kind (elim (sound k.0).entity.config.sending.checksum_kind [ inl is ↦ inl (kind ∙ is) | inr is ↦ inr (kind ∙ is) ]);
+        supported = ap is_supported kind ∙ (sound k.0).entity.config.sending.checksum_kind;
         size = sender-size s put found (record_of put.id (entity_at s w).table.records) refl (known.0.sends put.id some own);
       }
 

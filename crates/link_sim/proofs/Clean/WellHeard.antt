@@ -45,8 +45,8 @@ module _ (m : OctetMap) (files : FileMap) where
     completes-by : (info : Option FileInfo) (ending : Option Ending) → Well (completed_by Done info ending m files r)
     completes-by (Some info) (Some ending) =
         cond_both (set.is_subset (range 0 ending.size) r.held)
-        (if agrees info ending r.checksum then published_by Done info ending m files r else faulted file_checksum_failure m files r) (leaving m files r) Well
-        (λ _. cond_both (agrees info ending r.checksum) (published_by Done info ending m files r) (faulted file_checksum_failure m files r) Well (λ _ none. refl)
+        (if agrees info ending r.sums then published_by Done info ending m files r else faulted file_checksum_failure m files r) (leaving m files r) Well
+        (λ _. cond_both (agrees info ending r.sums) (published_by Done info ending m files r) (faulted file_checksum_failure m files r) Well (λ _ none. refl)
         (λ _. by-fault file_checksum_failure refl))
         (λ _ none. refl)
     completes-by (Some info) None = λ none. refl

@@ -335,9 +335,9 @@ module _ (P : ReceiverState → Type 0) (over : (r : ReceiverState) → has_ende
 
   completed-keeps : (stored1 : Stored) (info : Option FileInfo) (ending : Option Ending) (m : OctetMap) (r : ReceiverState) → P r → After (completed_by stored1 info ending m files r)
   completed-keeps stored1 (Some info) (Some ending) m r h =
-      cond_both (set.is_subset (range 0 ending.size) r.held) (if agrees info ending r.checksum then published_by stored1 info ending m files r else faulted file_checksum_failure m files r)
+      cond_both (set.is_subset (range 0 ending.size) r.held) (if agrees info ending r.sums then published_by stored1 info ending m files r else faulted file_checksum_failure m files r)
       (leaving m files r) After
-      (λ _. cond_both (agrees info ending r.checksum) (published_by stored1 info ending m files r) (faulted file_checksum_failure m files r) After
+      (λ _. cond_both (agrees info ending r.sums) (published_by stored1 info ending m files r) (faulted file_checksum_failure m files r) After
       (λ _. published-keeps stored1 info ending m r)
       (λ _. over _ refl))
       (λ _. h)

@@ -138,8 +138,8 @@ module _ (put : Put) (v : Content) (r : ReceiverState) (is : r.phase ≡ Receivi
       ≡ ending → After (completed_by stored info ending m files r1)
   completes-by stored m files r1 (Some info) (Some ending) g named known =
       cond_both (set.is_subset (range 0 ending.size) r1.held)
-      (if agrees info ending r1.checksum then published_by stored info ending m files r1 else faulted file_checksum_failure m files r1) (leaving m files r1) After
-      (λ _. cond_both (agrees info ending r1.checksum) (published_by stored info ending m files r1) (faulted file_checksum_failure m files r1) After
+      (if agrees info ending r1.sums then published_by stored info ending m files r1 else faulted file_checksum_failure m files r1) (leaving m files r1) After
+      (λ _. cond_both (agrees info ending r1.sums) (published_by stored info ending m files r1) (faulted file_checksum_failure m files r1) After
       (λ _. publishes stored info ending m files r1 g (ap is_some known))
       (λ _. faults-not file_checksum_failure m files r1 g.own refl))
       (λ gap. gains-waits m files r1 g (ap (λ i. is_whole i r1.ending r1.held) named ∙ ap (λ e. is_whole (Some info) e r1.held) known ∙ gap))

@@ -3,7 +3,7 @@
 use Rattle.std.proofs.Common.{◌≡◌, ℕ, zero, suc, ◌+◌, ◌*◌, ◌<◌, ◌≤◌, true, false, List, [], ◌∷◌, ◌++◌, length, drop, get_or, replicate, refl, sym, ap, subst, ◌∙◌, inl, inr, arith, length-append}
 use Rattle.std.proofs.lemmas.List.{append-nil, append_assoc}
 use Rattle.aos_frame.specs.Counts.{frame_counts}
-use Rattle.aos_frame.specs.Frame.{IsChannel, IsLink, lane_channel, other_lane}
+use Rattle.aos_frame.specs.Frame.{IsChannel, IsLink, frame_len, lane_channel, other_lane}
 use Rattle.aos_frame.specs.declared.config.Lane.{Lane}
 use Rattle.aos_frame.specs.declared.config.Lane.TheVariants.{Directives, Data}
 use Rattle.aos_frame.specs.declared.config.ChannelConfig.{ChannelConfig}
@@ -459,7 +459,7 @@ module _ (s : Side) (a : StationState) (m : FrameLinksState) (puts : List Accept
 
 -- ---- at first
 abbrev no_lane : LinkSenderState → FrameLinkState
-no_lane d = record { frames = []; places = []; marks = []; run = 0; blanks = 0; len = 8 + d.link.zone }
+no_lane d = record { frames = []; places = []; marks = []; run = 0; blanks = 0; len = frame_len d.link }
 
 abbrev pub no_link : DownState → FrameLinksState
 no_link d = record { directives = no_lane d.directives; file_data = no_lane d.file_data }
@@ -484,11 +484,11 @@ none_down link capacity =
     }
 
 none_up : (link : ChannelConfig) → IsUp (first_lane_up link) [] [] 0
-none_up link = new_is true link [] (replicate 11 0) refl tt tt
+none_up link = new_is true link [] (replicate 12 0) refl tt tt
 
 lane_carries : (d : LinkSenderState) (u : LinkReceiverState) (link : ChannelConfig) (capacity : ℕ) → IsChannel link → d ≡ first_lane_down link capacity → u ≡ first_lane_up link → IsCarried d (no_lane d) u
 lane_carries d u link capacity valid down up =
-    first_carried d u (no_lane d) link capacity (8 + d.link.zone) valid down (subst (λ (x : LinkSenderState). IsDown x [] 0) (sym down) (none_down link capacity))
+    first_carried d u (no_lane d) link capacity (frame_len d.link) valid down (subst (λ (x : LinkSenderState). IsDown x [] 0) (sym down) (none_down link capacity))
     up (subst (λ (x : LinkReceiverState). IsUp x [] [] 0) (sym up) (none_up link)) refl refl
 
 first_carries : (d : DownState) (u : UpState) (link : LinkConfig) (capacity : ℕ) → IsLink link → d ≡ first_down link capacity → u ≡ first_up link → AreCarried d (no_link d) u

@@ -7,13 +7,13 @@ use Rattle.mpdu.specs.Packing.{flush_of, idle_packet, idle_len}
 use Rattle.mpdu.specs.Stream.{stream}
 use Rattle.mpdu.proofs.Packed.{idle_len-low}
 use Rattle.cfd_bits.specs.Field.{field}
-use Rattle.link_stack.specs.Frames.{frame_of, packet_of}
-use Rattle.aos_frame.specs.Frame.{IsChannel, IsLink, lane_channel, other_lane}
+use Rattle.link_stack.specs.Frames.{packet_of}
+use Rattle.aos_frame.specs.Frame.{IsChannel, IsLink, frame_len, lane_channel, other_lane}
 use Rattle.aos_frame.specs.declared.config.ChannelConfig.{ChannelConfig}
 use Rattle.aos_frame.specs.declared.config.LinkConfig.{LinkConfig}
 use Rattle.aos_frame.specs.declared.config.Lane.{Lane}
 use Rattle.aos_frame.specs.declared.config.Lane.TheVariants.{Directives, Data}
-use Rattle.link_stack.specs.Downward.{DownState, LinkSenderState, Flushes, IsDown, SendsPdu, first_down, first_lane_down, lane_down, packing}
+use Rattle.link_stack.specs.Downward.{DownState, LinkSenderState, Flushes, IsDown, SendsPdu, first_down, first_lane_down, lane_down, packing, sealed_frame}
 use Rattle.link_stack.specs.Upward.{LinkReceiverState, IsUp, UpState, first_lane_up, first_up, lane_of, lane_up}
 use Rattle.cfdp_station.specs.Link.{FlushesBoth}
 use Rattle.cfdp_station.specs.Station.{StationState}
@@ -24,7 +24,7 @@ use Rattle.link_sim.specs.declared.event.Refusal.TheVariants as refusal
 use Rattle.link_sim.specs.FrameLink.{FrameLinkState, FrameLinksState, lane_of_links, oldest}
 use Rattle.link_sim.specs.AtStation.{AddsNone, AreCarried, AreSameLinks, CarryOn, FrameArrivesAt, HearsAt, IsNotWhole, IsSameEnd, IsSameLink, IsSameMarks, OnlySends, PullsAll, PullsBoth, StrikesAt}
 use Rattle.link_sim.specs.OneWay.{OneWayState, IsOneWay, IsOneWayOf, IsCarried, IsRested, SendsMore, SendsNone, HearsMore, one_way, packets_sent}
-use Rattle.link_sim.proofs.Lanes.Frames.{frame-channel}
+use Rattle.link_sim.proofs.Lanes.Frames.{sealed-channel}
 use Rattle.link_sim.proofs.Lanes.Each.{either-lane, lane-valid}
 use Rattle.link_sim.proofs.Ways.Carried.{same_way, sent_on}
 use Rattle.link_sim.proofs.Ways.First.{first-down_lane, first-up_lane}
@@ -36,7 +36,7 @@ use Rattle.link_sim.proofs.Ways.Sends.{sends, flushes}
 
 -- ---- at first
 pub first_carried : (d : LinkSenderState) (u : LinkReceiverState) (k : FrameLinkState) (link : ChannelConfig) (capacity len : ℕ) → IsChannel link → d ≡ first_lane_down link capacity → IsDown d [] 0 →
-    u ≡ first_lane_up link → IsUp u [] [] 0 → k ≡ record { frames = []; places = []; marks = []; run = 0; blanks = 0; len = len } → len ≡ 8 + d.link.zone → IsCarried d k u
+    u ≡ first_lane_up link → IsUp u [] [] 0 → k ≡ record { frames = []; places = []; marks = []; run = 0; blanks = 0; len = len } → len ≡ frame_len d.link → IsCarried d k u
 first_carried d u k link capacity len valid e down f up new fits =
     let n : FrameLinkState = record { frames = []; places = []; marks = []; run = 0; blanks = 0; len = len } in
     let is : IsOneWayOf (one_way d n u) [] = new_way d u link capacity valid e down f up in
@@ -49,7 +49,7 @@ first_carried d u k link capacity len valid e down f up new fits =
 
 pub first-lanes : (d : DownState) (u : UpState) (k : FrameLinksState) (link : LinkConfig) (capacity len : ℕ) → IsLink link → d ≡ first_down link capacity →
     ((l : Lane) → IsDown (lane_down l d) [] 0) → u ≡ first_up link → ((l : Lane) → IsUp (lane_up l u) [] [] 0) →
-    ((l : Lane) → lane_of_links l k ≡ record { frames = []; places = []; marks = []; run = 0; blanks = 0; len = len }) → ((l : Lane) → len ≡ 8 + (lane_down l d).link.zone) → AreCarried d k u
+    ((l : Lane) → lane_of_links l k ≡ record { frames = []; places = []; marks = []; run = 0; blanks = 0; len = len }) → ((l : Lane) → len ≡ frame_len (lane_down l d).link) → AreCarried d k u
 first-lanes d u k link capacity len valid down sent up taken none fits l =
     first_carried (lane_down l d) (lane_up l u) (lane_of_links l k) (lane_channel l link) capacity len (lane-valid l link valid)
     (ap (λ (x : DownState). lane_down l x) down ∙ first-down_lane l link capacity) (sent l) (ap (λ (x : UpState). lane_up l x) up ∙ first-up_lane l link) (taken l) (none l) (fits l)
@@ -62,7 +62,7 @@ pub moved_on : (d e f : LinkSenderState) (k m n : FrameLinkState) (u : LinkRecei
 moved_on d e f k m n u pdu count is same sent pulled fixed marks waits =
     let l : OneWayState = one_way d k u in
     let more : SendsMore l (one_way e k u) (packet_of d.link count pdu ∷ []) (pdu ∷ []) =
-    sends l e count pdu is.way (sent.sends (packets_sent l) (length k.frames) is.way.sent.made) sent.carries sent.waiting sent.fixed.0 in
+    sends l e count pdu is.way (sent.sends (packets_sent l) (length k.frames) is.way.sent.made) sent.carries sent.waiting (sent.fixed.0, sent.fixed.3) in
     let rested : IsRested (one_way f n u) = rests-unflushed (one_way f n u) (omega (arith, waits, ap (λ x. x.zone) fixed.0)) (fixed.2 ∙ sent.unflushed) in
     sent_on d e f k m n u (packet_of d.link count pdu ∷ []) (pdu ∷ []) is same more pulled sent.fixed.0 fixed.0 marks.2 (λ x. rested)
 
@@ -72,7 +72,7 @@ pub filled_on : (d e f : LinkSenderState) (k m n : FrameLinkState) (u : LinkRece
 filled_on d e f k m n u is same sent pulled fixed marks waits =
     let l : OneWayState = one_way d k u in
     let more : SendsMore l (one_way e k u) (flush_of (packing d)) [] =
-    flushes l e is.way (sent.sends (packets_sent l) (length k.frames) is.way.sent.made) sent.same (sent.one, sent.idle) sent.waiting sent.fixed.0 in
+    flushes l e is.way (sent.sends (packets_sent l) (length k.frames) is.way.sent.made) sent.same (sent.one, sent.idle) sent.waiting (sent.fixed.0, sent.fixed.3) in
     let room : length f.waiting < d.link.zone = omega (arith, waits, ap (λ x. x.zone) sent.fixed.0) in
     let kept : flush_of (packing d) ≡ [] → f.flushed ≡ d.flushed = λ (x : flush_of (packing d) ≡ []). fixed.2 ∙ ap (λ y. y.flushed) (sent.same x) in
     sent_on d e f k m n u (flush_of (packing d)) [] is same more pulled sent.fixed.0 fixed.0 marks.2 (λ x. rests-flushed l (one_way f n u) is.way is.rested x refl room kept)
@@ -128,7 +128,7 @@ carried_same d f k n u down same is =
     record {
       way = subst IsOneWay (sym way) is.way;
       rested = subst IsRested (sym way) is.rested;
-      fits = omega (arith, same.3, is.fits, ap (λ (x : LinkSenderState). x.link.zone) down);
+      fits = same.3 ∙ is.fits ∙ ap (λ (x : LinkSenderState). frame_len x.link) (sym down);
     }
 
 -- ---- both lanes
@@ -147,8 +147,9 @@ comes_to : (l : Lane) (d : LinkSenderState) (k : FrameLinkState) (old new : Stat
     frame ≡ oldest k → TakesFrame frame old new → lane_of old.up frame ≡ l
 comes_to l d k old new frame is there e taken =
     let ps : List (List ℕ) = packets_sent (one_way d k (lane_up l old.up)) in
-    let made : frame ≡ frame_of d.link ps (length k.marks) = e ∙ is.way.sent.frames (length k.marks) there in
-    let virtual_channel : (2 ≤ length (frame_of d.link ps (length k.marks))) × (field (frame_of d.link ps (length k.marks)) 10 6 ≡ d.link.virtual_channel) = frame-channel d.link ps (length k.marks) is.way.sent.valid in
+    let made : frame ≡ sealed_frame d ps (length k.marks) = e ∙ is.way.sent.frames (length k.marks) there in
+    let virtual_channel : (2 ≤ length (sealed_frame d ps (length k.marks))) × (field (sealed_frame d ps (length k.marks)) 10 6 ≡ d.link.virtual_channel) =
+    sealed-channel d ps (length k.marks) is.way.sent.valid is.way.sent.fits in
     taken.lane l (subst (λ (f : List ℕ). 2 ≤ length f) (sym made) virtual_channel.0)
     (ap (λ (f : List ℕ). field f 10 6) made ∙ virtual_channel.1 ∙ ap (λ x. x.virtual_channel) (sym is.way.same_link))
 

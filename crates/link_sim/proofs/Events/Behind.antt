@@ -1,25 +1,26 @@
 -- A station that keeps its frames back until it was polled and flushed, beside one of a world, whose
 -- frames leave at once: both do the same, and are the same once all frames have left. First of one
 -- lane, then of both.
-use Rattle.std.proofs.Common.{◌≡◌, ℕ, zero, suc, ◌+◌, ◌-◌, ◌*◌, ◌%◌, ◌<◌, ◌≤◌, Bool, true, false, ◌||◌, ◌==◌, if◌then◌else◌, None, List, [], ◌∷◌, ◌++◌, ◌⊎◌, length, take, drop, get_or, refl, sym, ap, subst, ◌∙◌, inl, inr, arith, length-append, length-drop}
+use Rattle.std.proofs.Common.{◌≡◌, ℕ, zero, suc, ◌+◌, ◌-◌, ◌*◌, ◌%◌, ◌^◌, ◌<◌, ◌≤◌, Bool, true, false, ◌||◌, ◌==◌, if◌then◌else◌, None, List, [], ◌∷◌, ◌++◌, ◌⊎◌, length, take, drop, get_or, refl, sym, ap, subst, ◌∙◌, inl, inr, arith, length-append, length-drop}
 use Rattle.std.proofs.lemmas.Bool.{cases_lt}
-use Rattle.std.proofs.lemmas.List.{append-nil, append_assoc, drop_at}
+use Rattle.std.proofs.lemmas.List.{append-nil, append_assoc, drop-drop, drop_at}
 use Rattle.std.proofs.Math.Nat.{mul-le-mul_right, mul-add-mod_self_right}
 use Rattle.cfd_bits.proofs.Fields.{length-octets}
 use Rattle.aos_frame.specs.Counts.{frame_counts}
 use Rattle.aos_frame.specs.declared.header.FrameHeader.{FrameHeader}
-use Rattle.aos_frame.specs.Frame.{header_octets, other_lane}
+use Rattle.aos_frame.specs.Frame.{IsChannel, header_octets, other_lane}
 use Rattle.aos_frame.specs.declared.config.ChannelConfig.{ChannelConfig}
 use Rattle.aos_frame.specs.declared.config.Lane.{Lane}
 use Rattle.aos_frame.specs.declared.config.Lane.TheVariants.{Directives, Data}
 use Rattle.aos_frame.proofs.Spelling.{length-header_octets}
+use Rattle.frame_fields.proofs.RoundTrip.{opens_sealed}
 use Rattle.mpdu.specs.MpduHeader.{pointer_octets}
 use Rattle.mpdu.specs.Stream.{IsPacket, is_idle, stream, zone, first_header_pointer}
 use Rattle.mpdu.specs.Packets.{busy, packets_of}
 use Rattle.mpdu.specs.Packing.{PackerState, IsAt, flush_of, idle_packet, idle_len, next_start, skip}
 use Rattle.mpdu.proofs.Packed.{pushed, zone_taken}
-use Rattle.link_stack.specs.Frames.{AreOfLink, packet_drop, packet_of, frame_of, pdus_in}
-use Rattle.link_stack.specs.Downward.{DownState, LinkSenderState, Flushes, IsDown, MakesFrame, SendsPdu, lane_down, packing}
+use Rattle.link_stack.specs.Frames.{AreOfLink, packet_drop, packet_of, frame_of, pdus_in, zone_in}
+use Rattle.link_stack.specs.Downward.{DownState, LinkSenderState, Flushes, IsDown, MakesFrame, SendsPdu, lane_down, packing, sealed_frame}
 use Rattle.link_stack.specs.Upward.{LinkReceiverState, UpState, lane_up}
 use Rattle.cfdp_station.specs.Link.{FlushesBoth}
 use Rattle.link_sim.specs.FrameLink.{FrameLinkState, FrameLinksState, lane_of_links}
@@ -27,9 +28,10 @@ use Rattle.link_sim.specs.AtStation.{AddsNone, AreCarried, AreSameMarks, FillsLa
 use Rattle.link_sim.specs.OneWay.{OneWayState, IsOneWay, IsCarried, SendsMore, one_way, packets_sent, pdus_sent, zones_of}
 use Rattle.link_sim.proofs.Events.AtStations.{filled_on, flushed_none, moved_on}
 use Rattle.link_sim.proofs.Lanes.Each.{each-lane}
+use Rattle.link_sim.proofs.Lanes.Frames.{frame-channel}
 use Rattle.link_sim.proofs.OnWay.Rests.{sent-octets}
 use Rattle.link_sim.proofs.Ways.Pulling.{pulled_more, pulls}
-use Rattle.link_sim.proofs.Ways.Sending.{last_of_link, last_whole}
+use Rattle.link_sim.proofs.Ways.Sending.{last_of_link, last_whole, sealed-same}
 use Rattle.link_sim.proofs.Ways.Sends.{one_at_most}
 
 -- ---- all whole zones become frames
@@ -42,12 +44,19 @@ behind_headers link ps n =
     let size : length (header_octets h ++ p) ≡ 8 = omega (arith, length-append (header_octets h) p, length-header_octets h, length-octets 2 (first_header_pointer link.zone (n * link.zone) 0 ps)) in
     ap (λ l. drop 8 l) (sym (append_assoc (header_octets h) p body)) ∙ drop_at (header_octets h ++ p) body 8 size
 
+-- so of the frame as it is sent
+sealed_zone : (d : LinkSenderState) (ps : List (List ℕ)) (n : ℕ) → IsChannel d.link → d.control < 256 ^ 4 → zone_in d.link (sealed_frame d ps n) ≡ zone d.link.zone (n * d.link.zone) (stream ps)
+sealed_zone d ps n valid fits =
+    let bare : List ℕ = frame_of d.link ps n in
+    let o = opens_sealed d.link.fields bare d.control (omega (arith, (frame-channel d.link ps n valid).0)) fits in
+    ap (λ l. drop 2 l) o.3 ∙ drop-drop 2 6 bare ∙ behind_headers d.link ps n
+
 -- the next frame of an end that sends, and what it and its link are then
 abbrev sent_of : LinkSenderState → FrameLinkState → List (List ℕ)
-sent_of d k = packets_of (zones_of k.frames ++ d.waiting)
+sent_of d k = packets_of (zones_of d.link k.frames ++ d.waiting)
 
 abbrev next_frame_of : LinkSenderState → FrameLinkState → List ℕ
-next_frame_of d k = frame_of d.link (sent_of d k) (length k.frames)
+next_frame_of d k = sealed_frame d (sent_of d k) (length k.frames)
 
 abbrev next_down : LinkSenderState → FrameLinkState → LinkSenderState
 next_down d k = record d {
@@ -68,7 +77,7 @@ adds_one d k whole up is =
     let inside : n * d.link.zone + d.link.zone ≤ length (stream ps) = omega (arith, ap length at.rest, length-drop (n * d.link.zone) (stream ps), at.below, whole) in
     let down : IsDown (next_down d k) ps (n + 1) = record { packed = zone_taken (packing d) ps n whole at; of_link = is.sent.made.of_link; counted = refl } in
     pulls l (next_down d k) (next_frame_of d k) is (refl, inside, down)
-    (behind_headers d.link ps n ∙ ap (λ w. take d.link.zone w) (sym at.rest)) refl refl
+    (sealed_zone d ps n is.sent.valid is.sent.fits ∙ ap (λ w. take d.link.zone w) (sym at.rest)) refl (refl, refl)
 
 -- What all whole zones leave.
 record PulledAll (d : LinkSenderState) (k : FrameLinkState) : Type 0 where
@@ -87,7 +96,7 @@ pulled_here d k waits = record {
   down = d;
   link = k;
   adds = λ up is. record { way = is; packets = refl; delivered = refl };
-  fixed = (refl, refl, refl);
+  fixed = (refl, refl, refl, refl);
   marks = (refl, refl, refl);
   none_whole = waits;
   made = inl (refl, refl);
@@ -130,9 +139,10 @@ pub record IsBehind (l d : LinkSenderState) (k : FrameLinkState) (u : LinkReceiv
   pub link : d.link ≡ l.link
   pub capacity : d.capacity ≡ l.capacity
   pub flushed : d.flushed ≡ l.flushed
+  pub control : d.control ≡ l.control
 
 is_itself : (d : LinkSenderState) (k : FrameLinkState) (u : LinkReceiverState) → IsCarried d k u → IsBehind d d k u (length k.frames)
-is_itself d k u is = record { carried = is; made = is.way.sent.made; link = refl; capacity = refl; flushed = refl }
+is_itself d k u is = record { carried = is; made = is.way.sent.made; link = refl; capacity = refl; flushed = refl; control = refl }
 
 -- what waits of the same stream, where some of its zones are taken
 waits_more : (p : PackerState) (ps : List (List ℕ)) (taken : ℕ) → IsAt p ps taken → length (stream ps) ≡ taken * p.size + length p.waiting
@@ -189,9 +199,10 @@ module _ (l d : LinkSenderState) (k : FrameLinkState) (u : LinkReceiverState) (s
           link = is.link ∙ sym made.link;
           capacity = is.capacity ∙ sym made.capacity;
           flushed = is.flushed ∙ sym made.flushed;
+          control = is.control ∙ sym made.control;
         },
         below,
-        made.is_next ps sent is.made ∙ ap (λ x. frame_of x ps sent) (sym is.link) ∙ sym (is.carried.way.sent.frames sent below),
+        made.is_next ps sent is.made ∙ sealed-same l d ps sent (sym is.link, sym is.control) ∙ sym (is.carried.way.sent.frames sent below),
       )
 
   -- ---- all frames have left
@@ -208,7 +219,8 @@ module _ (l d : LinkSenderState) (k : FrameLinkState) (u : LinkReceiverState) (s
       let count : l.frame_count ≡ d.frame_count = is.made.counted ∙ ap (λ n. n % frame_counts) all ∙ sym is.carried.way.sent.made.counted in
       let link : l.link ≡ d.link = sym is.link in
       let capacity : l.capacity ≡ d.capacity = sym is.capacity in
-      let flushed : l.flushed ≡ d.flushed = sym is.flushed in (
+      let flushed : l.flushed ≡ d.flushed = sym is.flushed in
+      let control : l.control ≡ d.control = sym is.control in (
         (λ i. record {
           link = link i;
           capacity = capacity i;
@@ -216,6 +228,7 @@ module _ (l d : LinkSenderState) (k : FrameLinkState) (u : LinkReceiverState) (s
           first = first i;
           flushed = flushed i;
           frame_count = count i;
+          control = control i;
         }),
         all,
       )
@@ -284,7 +297,7 @@ module _ (l l_now d : LinkSenderState) (k : FrameLinkState) (u : LinkReceiverSta
         waiting = refl;
         len = omega (arith, sends.len, ap length sends.waiting, length-append l.waiting (packet_of l.link count pdu), ap length same, length-append d.waiting q);
         unflushed = refl;
-        fixed = (refl, refl, refl);
+        fixed = (refl, refl, refl, refl);
       } in
       let p : PulledAll e k = pulled_all (length e.waiting) e k (omega (arith, is.carried.way.sent.valid.least_zone)) (omega arith) in
       let on : (up : LinkReceiverState) → IsCarried d k up → IsCarried p.down p.link up × SendsMore (one_way d k up) (one_way p.down p.link up) (q ∷ []) (pdu ∷ []) =
@@ -299,6 +312,7 @@ module _ (l l_now d : LinkSenderState) (k : FrameLinkState) (u : LinkReceiverSta
           link = p.fixed.0 ∙ is.link ∙ sym sends.fixed.0;
           capacity = p.fixed.1 ∙ is.capacity ∙ sym sends.fixed.1;
           flushed = p.fixed.2 ∙ sym sends.unflushed;
+          control = p.fixed.3 ∙ is.control ∙ sym sends.fixed.3;
         };
         sends = λ (up : LinkReceiverState) (at : IsCarried d k up). (on up at).1;
         none_whole = (let zone = ap (λ x. x.zone) p.fixed.0 in omega (arith, p.none_whole, zone));
@@ -343,7 +357,7 @@ module _ (l l_now d : LinkSenderState) (k : FrameLinkState) (u : LinkReceiverSta
         once = same_flush e l_now refl rest (is.link ∙ sym f.fixed.0) ∙ f.once;
         same = λ (none : qs ≡ []). absurd (let bad : q ∷ [] ≡ [] = sym one ∙ none in cc);
         waiting = sym (ap (λ x. d.waiting ++ stream x) one ∙ ap (λ x. d.waiting ++ x) (append-nil q));
-        fixed = (refl, refl, refl);
+        fixed = (refl, refl, refl, refl);
       } in
       let p : PulledAll e k = pulled_all (length e.waiting) e k (omega (arith, is.carried.way.sent.valid.least_zone)) (omega arith) in
       let on : (up : LinkReceiverState) → IsCarried d k up → IsCarried p.down p.link up × SendsMore (one_way d k up) (one_way p.down p.link up) qs [] =
@@ -364,6 +378,7 @@ module _ (l l_now d : LinkSenderState) (k : FrameLinkState) (u : LinkReceiverSta
             link = p.fixed.0 ∙ is.link ∙ sym f.fixed.0;
             capacity = p.fixed.1 ∙ is.capacity ∙ sym f.fixed.1;
             flushed = p.fixed.2;
+            control = p.fixed.3 ∙ is.control ∙ sym f.fixed.3;
           };
           sends = λ (up : LinkReceiverState) (at : IsCarried d k up). (on up at).1;
           none_whole = (let zone = ap (λ x. x.zone) p.fixed.0 in omega (arith, p.none_whole, zone));

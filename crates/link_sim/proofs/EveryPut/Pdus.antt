@@ -1,8 +1,10 @@
 -- What the octets on their way say: each text is one PDU, and what is heard of it is that PDU.
-use Rattle.std.proofs.Common.{◌≡◌, ℕ, ◌+◌, eqb, true, false, Bool, List, [], ◌∷◌, ◌++◌, Option, Some, None, Err, ◌⊎◌, inl, inr, refl, sym, ap, subst, ◌∙◌, arith}
+use Rattle.std.proofs.Common.{◌≡◌, ℕ, ◌+◌, ◌-◌, ◌*◌, ◌≤◌, eqb, true, false, Bool, List, [], ◌∷◌, ◌++◌, length, take, drop, Option, Some, None, Err, ◌⊎◌, inl, inr, refl, sym, ap, subst, ◌∙◌, arith}
 use Rattle.std.specs.List.{fold}
-use Rattle.std.proofs.lemmas.List.{append_assoc}
-use Rattle.cfd_bits.specs.Field.{flag}
+use Rattle.std.proofs.lemmas.List.{append_assoc, length-take-le}
+use Rattle.cfd_bits.specs.Field.{field, flag}
+use Rattle.cfd_bits.proofs.BitFields.{field-take}
+use Rattle.cfdp_header.specs.Crc.{before_crc}
 use Rattle.cfdp_header.specs.declared.value.Header.{Header}
 use Rattle.cfdp_header.specs.Header.{header_len, header_len_told}
 use Rattle.cfdp_directives.specs.declared.pdu.error.PduError.{PduError}
@@ -131,16 +133,34 @@ told false = refl
 told-len : (h : Header) (v : Content) (text : List ℕ) → SpellsPdu h v text → header_len_told text ≡ header_len h.id_width h.number_width
 told-len h v text s = let q = s.header in rw (q.id_width, q.number_width) refl
 
+-- the first octet of a data field is no part of a CRC behind it
+code-told : (h : Header) (v : Content) (text : List ℕ) (code : ℕ) → SpellsPdu h v text → 1 ≤ length (before_crc h.crc (drop (header_len h.id_width h.number_width) text)) →
+    field (before_crc h.crc (drop (header_len h.id_width h.number_width) text)) 0 8 ≡ code → field (drop (header_len_told text) text) 0 8 ≡ code
+code-told h v text code s some is = rw (told-len h v text s) (by h.crc (drop (header_len h.id_width h.number_width) text) some is)
+  where
+    by : (crc : Bool) (d : List ℕ) → 1 ≤ length (before_crc crc d) → field (before_crc crc d) 0 8 ≡ code → field d 0 8 ≡ code
+    by true d some is =
+        let len = length-take-le (length d - 2) d (omega arith) in
+        sym (field-take (length d - 2) d 0 8 (omega (arith, some, len))) ∙ is
+    by false d some is = is
+
 pub text-work : (most : ℕ) (h : Header) (v : Content) (text : List ℕ) → SpellsPdu h v text → text_work most text ≡ content_work most v
 unfolding text_work
 text-work most h (FileData offset bytes) text s = rw (s.header.pdu_type, s.content.0) refl
-text-work most h (Metadata kind size source destination options) text s = rw (s.header.pdu_type, s.content.0, told-len h (Metadata kind size source destination options) text s, s.content.1.code) refl
-text-work most h (Eof condition checksum size tlvs) text s = rw (s.header.pdu_type, s.content.0, told-len h (Eof condition checksum size tlvs) text s, s.content.1.code) (omega arith)
-text-work most h (Finished condition delivery status tlvs) text s = rw (s.header.pdu_type, s.content.0, told-len h (Finished condition delivery status tlvs) text s, s.content.1.code) refl
-text-work most h (Ack of condition status) text s = rw (s.header.pdu_type, s.content.0, told-len h (Ack of condition status) text s, s.content.1.code) refl
-text-work most h (Nak start end pairs) text s = rw (s.header.pdu_type, s.content.0, told-len h (Nak start end pairs) text s, s.content.1.code) (omega arith)
-text-work most h (Prompt keep_alive) text s = rw (s.header.pdu_type, s.content.0, told-len h (Prompt keep_alive) text s, s.content.1.code) (omega arith)
-text-work most h (KeepAlive progress) text s = rw (s.header.pdu_type, s.content.0, told-len h (KeepAlive progress) text s, s.content.1.code) refl
+text-work most h (Metadata kind size source destination options) text s =
+    rw (s.header.pdu_type, s.content.0, code-told h (Metadata kind size source destination options) text 7 s (omega (arith, s.content.1.room)) s.content.1.code) refl
+text-work most h (Eof condition checksum size tlvs) text s =
+    rw (s.header.pdu_type, s.content.0, code-told h (Eof condition checksum size tlvs) text 4 s (omega (arith, s.content.1.room)) s.content.1.code) (omega arith)
+text-work most h (Finished condition delivery status tlvs) text s =
+    rw (s.header.pdu_type, s.content.0, code-told h (Finished condition delivery status tlvs) text 5 s (omega (arith, s.content.1.room)) s.content.1.code) refl
+text-work most h (Ack of condition status) text s =
+    rw (s.header.pdu_type, s.content.0, code-told h (Ack of condition status) text 6 s (omega (arith, s.content.1.size_octets)) s.content.1.code) refl
+text-work most h (Nak start end pairs) text s =
+    rw (s.header.pdu_type, s.content.0, code-told h (Nak start end pairs) text 8 s (omega (arith, s.content.1.room)) s.content.1.code) (omega arith)
+text-work most h (Prompt keep_alive) text s =
+    rw (s.header.pdu_type, s.content.0, code-told h (Prompt keep_alive) text 9 s (omega (arith, s.content.1.size_octets)) s.content.1.code) (omega arith)
+text-work most h (KeepAlive progress) text s =
+    rw (s.header.pdu_type, s.content.0, code-told h (KeepAlive progress) text 12 s (omega (arith, s.content.1.size_octets)) s.content.1.code) refl
 
 folded : (most n : ℕ) (texts : List (List ℕ)) (pdus : List Pdu) → AreSpelled texts pdus → fold (λ a x. a + text_work most x) n texts ≡ fold (λ a (p : Pdu). a + content_work most p.1) n pdus
 folded most n [] [] s = refl

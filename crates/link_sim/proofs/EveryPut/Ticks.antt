@@ -1,5 +1,5 @@
 -- A put stays on its course where timers of one of the two entities expire.
-use Rattle.std.proofs.Common.{◌≡◌, ℕ, Bool, true, false, if◌then◌else◌, List, [], ◌∷◌, append-nil, take, Option, Some, None, refl, sym, ap, subst, ◌∙◌}
+use Rattle.std.proofs.Common.{◌≡◌, ℕ, Bool, true, false, if◌then◌else◌, List, [], ◌∷◌, append-nil, take, Option, Some, None, refl, sym, ap, ap₂, subst, ◌∙◌}
 use Rattle.std.specs.List.{IsDistinct}
 use Rattle.std.specs.Prelude.{slice_get}
 use Rattle.cfdp_header.specs.Files.{FileMap}
@@ -9,7 +9,6 @@ use Rattle.cfdp_directives.specs.declared.pdu.addressing.Addressing.{Addressing}
 use Rattle.cfdp_directives.specs.declared.user.handler.Handler.{Handler}
 use Rattle.cfdp_directives.specs.declared.user.handler.Handler.TheVariants as handlers
 use Rattle.cfdp_directives.specs.declared.user.policy.Policy.{Policy}
-use Rattle.cfdp_directives.specs.Pdu.Checksum.{modular_checksum}
 use Rattle.cfdp_directives.specs.User.Policy.{another_try}
 use Rattle.cfdp_directives.specs.User.Put.{Put}
 use Rattle.cfdp_store.specs.Files.{octets_in}
@@ -46,9 +45,9 @@ use Rattle.link_sim.proofs.EveryPut.Receives.{receiver-expires}
 use Rattle.link_sim.proofs.EveryPut.Steps.{IsOwn, IsInOrder, mine-at, theirs-at}
 
 -- ---- an expiry leaves whose a record is
--- the front of the file that was sent, and its checksum
+-- the front of the file that was sent, and what is kept of it for its checksum
 abbrev SameFront : SenderState → SenderState → Type 0
-SameFront x y = (y.sent ≡ x.sent) × (y.checksum ≡ x.checksum)
+SameFront x y = (y.sent ≡ x.sent) × (y.sums ≡ x.sums)
 
 handled-front : (h : Handler) (condition : ℕ) (ignored x : SenderState) → SameFront x ignored → SameFront x (sender.handled h condition ignored x)
 handled-front handlers.Cancel condition ignored x is = (refl, refl)
@@ -94,7 +93,7 @@ expires-put put_of sources id k policy x s =
         destination = ap (λ (t : Transfer). t.destination) same ∙ i.destination;
         kind = ap (λ (t : Transfer). t.checksum_kind) same ∙ i.kind;
         size = ap (λ (t : Transfer). t.size) same ∙ i.size;
-        front = front.1 ∙ i.front ∙ ap (λ n. modular_checksum (take n s.put.octets)) (sym front.0);
+        front = front.1 ∙ i.front ∙ ap₂ (λ kind n. inputs.front_sums kind (take n s.put.octets)) (sym (ap (λ (t : Transfer). t.checksum_kind) same)) (sym front.0);
       };
       in_file = step-in policy [] (inputs.Expires k) x s.in_file tt;
       octets = s.octets ∙ ap (octets_in sources) (sym (ap (λ (t : Transfer). t.source) same));

@@ -24,12 +24,14 @@ lane-valid Directives link valid = record {
   least_zone = valid.least_zone;
   most_zone = valid.most_zone;
   apid = valid.apid;
+  fields = valid.fields;
 }
 lane-valid Data link valid = record {
   virtual_channel = valid.data_virtual_channel;
   least_zone = valid.least_zone;
   most_zone = valid.most_zone;
   apid = valid.apid;
+  fields = valid.fields;
 }
 
 -- a lane of the frames, as it is seen

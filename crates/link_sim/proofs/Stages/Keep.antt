@@ -145,9 +145,9 @@ module _ (m : OctetMap) (files : FileMap) (r : ReceiverState) where
 
   by-fewer : (n : OctetMap) (info : Option FileInfo) (ending : Option Ending) (s : ReceiverState) → Fewer r s → FewerAfter (completed_by Done info ending n files s)
   by-fewer n (Some info) (Some ending) s f =
-      cond_both (set.is_subset (range 0 ending.size) s.held) (if agrees info ending s.checksum then published_by Done info ending n files s else faulted file_checksum_failure n files s)
+      cond_both (set.is_subset (range 0 ending.size) s.held) (if agrees info ending s.sums then published_by Done info ending n files s else faulted file_checksum_failure n files s)
       (leaving n files s) FewerAfter
-      (λ _. cond_both (agrees info ending s.checksum) (published_by Done info ending n files s) (faulted file_checksum_failure n files s) FewerAfter
+      (λ _. cond_both (agrees info ending s.sums) (published_by Done info ending n files s) (faulted file_checksum_failure n files s) FewerAfter
       (λ _. record { naks = omega arith; finisheds = omega arith })
       (λ _. faulted-fewer file_checksum_failure n s))
       (λ _. record { naks = f.naks; finisheds = f.finisheds })

@@ -1,5 +1,6 @@
 -- What the steps of a link do to a lane between events.
 use Rattle.std.proofs.Common.{◌≡◌, ℕ, List, sym, ap, subst, ◌∙◌, arith}
+use Rattle.aos_frame.specs.Frame.{frame_len}
 use Rattle.mpdu.specs.Packets.{busy}
 use Rattle.link_stack.specs.Frames.{pdus_in}
 use Rattle.link_stack.specs.Downward.{LinkSenderState}
@@ -24,12 +25,11 @@ pub sent_on : (d e f : LinkSenderState) (k m n : FrameLinkState) (u : LinkReceiv
 sent_on d e f k m n u qs texts is same more pulled link link2 len rests =
     let s : SendsMore (one_way d k u) (one_way e m u) qs texts = subst (λ (x : OneWayState). SendsMore (one_way d k u) x qs texts) (sym (same_way e k m u same)) more in
     let p : SendsNone (one_way e m u) (one_way f n u) = pulled u s.way in
-    let zone : f.link.zone ≡ d.link.zone = ap (λ x. x.zone) (link2 ∙ link) in
     let all : SendsMore (one_way d k u) (one_way f n u) qs texts = record {
       way = p.way;
       packets = p.packets ∙ s.packets;
       pdus = ap (λ ps. pdus_in (busy ps)) p.packets ∙ s.pdus;
       delivered = p.delivered ∙ s.delivered;
     } in
-    let carried : IsCarried f n u = record { way = p.way; rested = rests all; fits = omega (arith, len, same.3, is.fits, zone) } in
+    let carried : IsCarried f n u = record { way = p.way; rested = rests all; fits = len ∙ same.3 ∙ is.fits ∙ ap frame_len (sym (link2 ∙ link)) } in
     (carried, all)

@@ -1,6 +1,6 @@
 -- Frames leave, one after another, of both lanes.
 use Rattle.std.proofs.Common.{◌≡◌, ℕ, ◌+◌, ◌-◌, ◌*◌, ◌<◌, ◌≤◌, ◌⊎◌, length, refl, sym, ap, subst, ◌∙◌, inl, inr, arith, length-drop, None}
-use Rattle.aos_frame.specs.Frame.{other_lane}
+use Rattle.aos_frame.specs.Frame.{frame_len, other_lane}
 use Rattle.aos_frame.specs.declared.config.Lane.{Lane}
 use Rattle.aos_frame.specs.declared.config.Lane.TheVariants.{Directives, Data}
 use Rattle.link_stack.specs.Downward.{DownState, LinkSenderState, frame_lane, lane_down}
@@ -27,7 +27,7 @@ pub record PullsSome (old new : LinkSenderState) (link link_now : FrameLinkState
   pub marks : IsSameMarks link link_now
 
 pub pulls-none : (d : LinkSenderState) (k : FrameLinkState) → PullsSome d d k k
-pulls-none d k = record { way = λ up is. pulled_none (one_way d k up) is; made = inl (refl, refl); fixed = (refl, refl, refl); marks = (refl, refl, refl) }
+pulls-none d k = record { way = λ up is. pulled_none (one_way d k up) is; made = inl (refl, refl); fixed = (refl, refl, refl, refl); marks = (refl, refl, refl) }
 
 -- one frame more
 pulls-more : (c d e : LinkSenderState) (j k n : FrameLinkState) → PullsSome c d j k → AddsNone d e k n → d.link.zone ≤ length d.waiting → length n.frames ≡ length k.frames + 1 →
@@ -43,14 +43,14 @@ pulls-more c d e j k n so way whole more fixed marks =
           let a : SendsNone (one_way c j up) (one_way d k up) = so.way up is in
           pulled_more (one_way c j up) (one_way d k up) (one_way e n up) a (way up a.way);
       made = inr made;
-      fixed = (fixed.0 ∙ so.fixed.0, fixed.1 ∙ so.fixed.1, fixed.2 ∙ so.fixed.2);
+      fixed = (fixed.0 ∙ so.fixed.0, fixed.1 ∙ so.fixed.1, fixed.2 ∙ so.fixed.2, fixed.3 ∙ so.fixed.3);
       marks = (marks.0 ∙ so.marks.0, marks.1 ∙ so.marks.1, marks.2 ∙ so.marks.2);
     }
 
 -- ---- a frame of either lane leaves
 module _ (d e : DownState) (k n : FrameLinksState) (h : PullsOne d e k n) where
-  pub pulled-lens : ((l : Lane) → (lane_of_links l k).len ≡ 8 + (lane_down l d).link.zone) → (l : Lane) → (lane_of_links l n).len ≡ 8 + (lane_down l e).link.zone
-  pulled-lens lens l = omega (arith, (h.marks l).2, lens l, ap (λ x. x.zone) (h.ends.lanes l).0)
+  pub pulled-lens : ((l : Lane) → (lane_of_links l k).len ≡ frame_len (lane_down l d).link) → (l : Lane) → (lane_of_links l n).len ≡ frame_len (lane_down l e).link
+  pulled-lens lens l = (h.marks l).2 ∙ lens l ∙ ap frame_len (sym (h.ends.lanes l).0)
 
   pub pulled-enough : ((l : Lane) → WaitAtMost (lane_of_links l k).blanks (lane_down l d)) → (l : Lane) → WaitAtMost (lane_of_links l n).blanks (lane_down l e)
   pulled-enough enough = either-lane (λ l. WaitAtMost (lane_of_links l n).blanks (lane_down l e)) h.lane here there

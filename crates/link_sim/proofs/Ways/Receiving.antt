@@ -5,7 +5,7 @@ use Rattle.std.proofs.lemmas.List.{map-append, append-nil, append_assoc, take-ap
 use Rattle.mpdu.specs.Packets.{busy}
 use Rattle.mpdu.specs.Stream.{survivors, begun}
 use Rattle.mpdu.proofs.Struck.{begun-struck, survivors-struck}
-use Rattle.link_stack.specs.Frames.{frame_of, pdus_in}
+use Rattle.link_stack.specs.Frames.{IsSealed, pdus_in}
 use Rattle.mpdu.specs.Reading.{held_at, is_some}
 use Rattle.cfd_bits.specs.Counting.{raised}
 use Rattle.link_stack.specs.Drops.{count_of, all_counted}
@@ -40,7 +40,7 @@ ends_struck marks run h = record {
 }
 
 -- a drop that was counted for want of memory would show
-counted-shows : (counts new : List ℕ) → length counts ≡ 11 → new ≡ link_drops.counted counts NoMemory → count_of new 11 ≡ count_of counts 11 → count_of new 11 < 2 ^ 64 - 1 → ⊥
+counted-shows : (counts new : List ℕ) → length counts ≡ 12 → new ≡ link_drops.counted counts NoMemory → count_of new 11 ≡ count_of counts 11 → count_of new 11 < 2 ^ 64 - 1 → ⊥
 unfolding link_drops.counted
 counted-shows counts new long is same low =
     let n : ℕ = get_or counts 10 0 in
@@ -193,11 +193,11 @@ next_frame l frame is there e =
     let n : ℕ = length l.marks in
     let ps : List (List ℕ) = packets_sent l in
     let few : length is.received.read ≡ n = among-length is.received.read l.marks is.received.among in
-    let at : IsNextFrame l.down.link ps l.marks frame = record { inside = frame_inside l ps is.sent n there; octets = e ∙ is.sent.frames n there } in
+    let at : IsNextFrame l.down.link ps l.marks frame = record { inside = frame_inside l ps is.sent n there; sealed = record { control = l.down.control; fits = is.sent.fits; octets = e ∙ is.sent.frames n there } } in
     let up : IsNextFrame l.up.link ps l.marks frame = subst (λ k. IsNextFrame k ps l.marks frame) (sym is.same_link) at in
     record {
       inside = omega (arith, up.inside, ap (λ k. k * l.up.link.zone) few);
-      octets = up.octets ∙ ap (λ k. frame_of l.up.link ps k) (sym few);
+      sealed = subst (λ (k : ℕ). IsSealed l.up.link ps k frame) (sym few) up.sealed;
     }
 
 -- A frame was delivered.
@@ -216,7 +216,7 @@ delivers l new old out is there taken =
     let room : length (l.marks ++ true ∷ []) ≤ length l.frames = omega (arith, length-append l.marks (true ∷ [])) in
     let way : IsOneWayOf after ps = record {
       same_link = link ∙ is.same_link;
-      sent = record { valid = is.sent.valid; made = is.sent.made; frames = is.sent.frames; octets = is.sent.octets; taken = room };
+      sent = record { valid = is.sent.valid; made = is.sent.made; frames = is.sent.frames; fits = is.sent.fits; octets = is.sent.octets; taken = room };
       received = h.received;
     } in
     let zone : l.up.link.zone ≡ l.down.link.zone = ap (λ x. x.zone) is.same_link in
@@ -251,7 +251,7 @@ strikes l is there few =
     let room : length (l.marks ++ false ∷ []) ≤ length l.frames = omega (arith, length-append l.marks (false ∷ [])) in
     let way : IsOneWayOf after ps = record {
       same_link = is.same_link;
-      sent = record { valid = is.sent.valid; made = is.sent.made; frames = is.sent.frames; octets = is.sent.octets; taken = room };
+      sent = record { valid = is.sent.valid; made = is.sent.made; frames = is.sent.frames; fits = is.sent.fits; octets = is.sent.octets; taken = room };
       received = record {
         read = r.read ++ false ∷ [];
         end = missed;

@@ -2,13 +2,14 @@
 use Rattle.std.proofs.Common.{◌≡◌, ℕ, ◌+◌, ◌*◌, ◌<◌, ◌≤◌, Bool, true, false, not, None, List, [], ◌∷◌, ◌++◌, ◌⊎◌, length, drop, refl, sym, ap, subst, ◌∙◌, inl, arith}
 use Rattle.std.proofs.lemmas.List.{append_assoc, map-append}
 use Rattle.std.proofs.Math.Nat.{mul-le-mul_right}
+use Rattle.frame_fields.specs.Fields.{sealed}
 use Rattle.aos_frame.specs.Frame.{IsChannel}
 use Rattle.aos_frame.specs.declared.config.ChannelConfig.{ChannelConfig}
 use Rattle.mpdu.specs.Stream.{stream, survivors, keep, is_idle, IsPacket, ArePackets}
 use Rattle.mpdu.proofs.Later.{stream-push}
 use Rattle.mpdu.proofs.Later.{survivors-push}
 use Rattle.link_stack.specs.Frames.{packet_drop, AreOfLink, frame_of, pdus_in}
-use Rattle.link_stack.specs.Downward.{LinkSenderState, IsDown, first_lane_down}
+use Rattle.link_stack.specs.Downward.{LinkSenderState, IsDown, first_lane_down, sealed_frame}
 use Rattle.link_stack.specs.Upward.{LinkReceiverState, IsUp, first_lane_up}
 use Rattle.link_stack.proofs.Grown.{frame-push, up-push}
 use Rattle.mpdu.specs.Packets.{busy}
@@ -34,6 +35,7 @@ new_way d u link capacity valid e down f up =
         valid = subst IsChannel (sym (ap (λ x. x.link) e)) valid;
         made = down;
         frames = λ n h. absurd (omega arith);
+        fits = omega (arith, ap (λ x. x.control) e);
         octets = ap (λ x. x.waiting) e;
         taken = omega arith;
       };
@@ -87,10 +89,20 @@ received_more l ps q is packet ours =
       struck = r.struck;
     }
 
+-- The channel and the control field of an end are those of another.
+abbrev pub SameChannel : (d e : LinkSenderState) → Type 0
+SameChannel d e = (d.link ≡ e.link) × (d.control ≡ e.control)
+
+-- so it sends the same frames
+pub sealed-same : (d e : LinkSenderState) (ps : List (List ℕ)) (n : ℕ) → SameChannel d e → sealed_frame d ps n ≡ sealed_frame e ps n
+sealed-same d e ps n same =
+    ap (λ (c : ChannelConfig). sealed c.fields (frame_of c ps n) d.control) same.0 ∙ ap (λ (k : ℕ). sealed e.link.fields (frame_of e.link ps n) k) same.1
+
 -- One packet more was sent.
 pub sent_more : (l : OneWayState) (d : LinkSenderState) (ps : List (List ℕ)) (q : List ℕ) → IsOneWayOf l ps → IsDown d (ps ++ q ∷ []) (length l.frames) → d.waiting ≡ l.down.waiting ++ q →
-    d.link ≡ l.down.link → IsOneWayOf (record l { down = d }) (ps ++ q ∷ [])
-sent_more l d ps q is down waits link =
+    SameChannel d l.down → IsOneWayOf (record l { down = d }) (ps ++ q ∷ [])
+sent_more l d ps q is down waits same =
+    let link : d.link ≡ l.down.link = same.0 in
     let packet : IsPacket q = last_whole ps q down.packed.packets_whole in
     let ours : (is_idle q ≡ true) ⊎ (packet_drop l.down.link q ≡ None) = subst (λ k. (is_idle q ≡ true) ⊎ (packet_drop k q ≡ None)) link (last_of_link d.link ps q down.of_link) in
     record {
@@ -98,8 +110,11 @@ sent_more l d ps q is down waits link =
       sent = record {
         valid = subst IsChannel (sym link) is.sent.valid;
         made = down;
-        frames = λ n h. is.sent.frames n h ∙ sym (frame-push l.down.link ps q n (frame_inside l ps is.sent n h)) ∙ ap (λ k. frame_of k (ps ++ q ∷ []) n) (sym link);
-        octets = ap (λ w. zones_of l.frames ++ w) waits ∙ sym (append_assoc (zones_of l.frames) l.down.waiting q) ∙ ap (λ w. w ++ q) is.sent.octets ∙ sym (stream-push ps q);
+        frames = λ n h. is.sent.frames n h ∙ ap (λ (f : List ℕ). sealed l.down.link.fields f l.down.control) (sym (frame-push l.down.link ps q n (frame_inside l ps is.sent n h)))
+            ∙ sym (sealed-same d l.down (ps ++ q ∷ []) n same);
+        fits = omega (arith, same.1, is.sent.fits);
+        octets = ap (λ (c : ChannelConfig). zones_of c l.frames ++ d.waiting) link ∙ ap (λ w. zones_of l.down.link l.frames ++ w) waits
+            ∙ sym (append_assoc (zones_of l.down.link l.frames) l.down.waiting q) ∙ ap (λ w. w ++ q) is.sent.octets ∙ sym (stream-push ps q);
         taken = is.sent.taken;
       };
       received = received_more l ps q is packet ours;

@@ -7,10 +7,10 @@ use Rattle.link_stack.specs.Frames.{packet_of, pdus_in}
 use Rattle.link_stack.specs.Downward.{LinkSenderState, IsDown, packing}
 use Rattle.mpdu.specs.Packets.{busy}
 use Rattle.link_sim.specs.OneWay.{OneWayState, packets_sent, pdus_sent, IsOneWayOf, IsOneWay, SendsMore}
-use Rattle.link_sim.proofs.Ways.Sending.{spells, way_is, last_whole, sent_more, none_delivered, pdus_more}
+use Rattle.link_sim.proofs.Ways.Sending.{SameChannel, spells, way_is, last_whole, sent_more, none_delivered, pdus_more}
 
 sends_one : (l : OneWayState) (d : LinkSenderState) (q : List ℕ) (pdus : List (List ℕ)) → IsOneWay l → IsDown d (packets_sent l ++ q ∷ []) (length l.frames) → d.waiting ≡ l.down.waiting ++ q →
-    d.link ≡ l.down.link → pdus_in (busy (q ∷ [])) ≡ pdus → SendsMore l (record l { down = d }) (q ∷ []) pdus
+    SameChannel d l.down → pdus_in (busy (q ∷ [])) ≡ pdus → SendsMore l (record l { down = d }) (q ∷ []) pdus
 sends_one l d q pdus is down waits link carries =
     let ps : List (List ℕ) = packets_sent l in
     let new : OneWayState = record l { down = d } in
@@ -24,7 +24,7 @@ sends_one l d q pdus is down waits link carries =
     }
 
 pub sends : (l : OneWayState) (d : LinkSenderState) (count : ℕ) (pdu : List ℕ) → IsOneWay l → IsDown d (packets_sent l ++ packet_of l.down.link count pdu ∷ []) (length l.frames) →
-    pdus_in (busy (packet_of l.down.link count pdu ∷ [])) ≡ pdu ∷ [] → d.waiting ≡ l.down.waiting ++ packet_of l.down.link count pdu → d.link ≡ l.down.link →
+    pdus_in (busy (packet_of l.down.link count pdu ∷ [])) ≡ pdu ∷ [] → d.waiting ≡ l.down.waiting ++ packet_of l.down.link count pdu → SameChannel d l.down →
     SendsMore l (record l { down = d }) (packet_of l.down.link count pdu ∷ []) (pdu ∷ [])
 sends l d count pdu is down one waits link = sends_one l d (packet_of l.down.link count pdu) (pdu ∷ []) is down waits link one
 
@@ -35,7 +35,7 @@ one_at_most (x ∷ []) h = inr (x, refl)
 one_at_most (x ∷ y ∷ xs) h = absurd (omega arith)
 
 pub flushes : (l : OneWayState) (d : LinkSenderState) → IsOneWay l → IsDown d (packets_sent l ++ flush_of (packing l.down)) (length l.frames) → (flush_of (packing l.down) ≡ [] → d ≡ l.down) →
-    (length (flush_of (packing l.down)) ≤ 1) × (busy (flush_of (packing l.down)) ≡ []) → d.waiting ≡ l.down.waiting ++ stream (flush_of (packing l.down)) → d.link ≡ l.down.link →
+    (length (flush_of (packing l.down)) ≤ 1) × (busy (flush_of (packing l.down)) ≡ []) → d.waiting ≡ l.down.waiting ++ stream (flush_of (packing l.down)) → SameChannel d l.down →
     SendsMore l (record l { down = d }) (flush_of (packing l.down)) []
 flushes l d is down same (few, idle) waits link =
     let qs : List (List ℕ) = flush_of (packing l.down) in

@@ -219,9 +219,9 @@ module _ (most : ℕ) (files : FileMap) where
   completed_by-works : (stored : Stored) (info : Option FileInfo) (ending : Option Ending) (m : OctetMap) (r : ReceiverState) → r.phase ≡ Receiving →
       LeavesWithin most (open_work most r) (completed_by stored info ending m files r)
   completed_by-works stored (Some info) (Some ending) m r is =
-      cond_both (set.is_subset (range 0 ending.size) r.held) (if agrees info ending r.checksum then published_by stored info ending m files r else faulted file_checksum_failure m files r)
+      cond_both (set.is_subset (range 0 ending.size) r.held) (if agrees info ending r.sums then published_by stored info ending m files r else faulted file_checksum_failure m files r)
       (leaving m files r) (LeavesWithin most (open_work most r))
-      (λ _. cond_both (agrees info ending r.checksum) (published_by stored info ending m files r) (faulted file_checksum_failure m files r) (LeavesWithin most (open_work most r))
+      (λ _. cond_both (agrees info ending r.sums) (published_by stored info ending m files r) (faulted file_checksum_failure m files r) (LeavesWithin most (open_work most r))
       (λ _. published_by-works stored info ending m r)
       (λ _. omega arith))
       (λ _. quiet-works m r is)

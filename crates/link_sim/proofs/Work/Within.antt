@@ -121,9 +121,9 @@ module _ (most : ℕ) where
   completed_by-within : (stored : Stored) (info : Option FileInfo) (ending : Option Ending) (m : OctetMap) (files : FileMap) (r : ReceiverState) → IsReceiverWithin most r →
       Within most (completed_by stored info ending m files r)
   completed_by-within stored (Some info) (Some ending) m files r w =
-      cond_both (set.is_subset (range 0 ending.size) r.held) (if agrees info ending r.checksum then published_by stored info ending m files r else faulted file_checksum_failure m files r)
+      cond_both (set.is_subset (range 0 ending.size) r.held) (if agrees info ending r.sums then published_by stored info ending m files r else faulted file_checksum_failure m files r)
       (leaving m files r) (Within most)
-      (λ _. cond_both (agrees info ending r.checksum) (published_by stored info ending m files r) (faulted file_checksum_failure m files r) (Within most)
+      (λ _. cond_both (agrees info ending r.sums) (published_by stored info ending m files r) (faulted file_checksum_failure m files r) (Within most)
       (λ _. published_by-within stored info ending m files r)
       (λ _. ends-within (failed file_checksum_failure) r))
       (λ _. w)

@@ -6,17 +6,18 @@ use Rattle.cfdp_receiver.proofs.laws.what_is_heard_true_is_kept_true.Goals as go
 pub returns-clause-step : goal.returns-clause-step
 returns-clause-step c put heard stored input m files r truth s =
     let sets = c.a_set_is_what_it_holds.ensures in
+    let gaps = c.the_gaps_are_those_ranges.ensures in
+    let cut = c.cut_file_has_its_checksum.ensures in
     let laws : LowerLaws = record {
-      ranges = sets.range;
-      sets = sets.union;
-      whole_sum = c.whole_file_has_its_checksum.ensures;
+      sets = record { ranges = sets.range; sets = sets.union; unions = sets.ranges; differences = sets.difference; gaps = gaps.are; lie = gaps.inside };
+      checksums = record { none = cut.none; more = cut.more; named = cut.named; told = cut.told };
       last = c.the_end_is_one_past_the_last.ensures.last;
       staged = c.octets_held_keep_their_value.ensures.staged;
     } in
     (step-true laws put heard ⊥ (λ f. absurd f) files m r s stored input truth (λ f. absurd f)).sound
 
 pub returns-clause-opened : goal.returns-clause-opened
-returns-clause-opened c = sound-opens
+returns-clause-opened c = sound-opens (record { none = c.cut_file_has_its_checksum.ensures.none; more = c.cut_file_has_its_checksum.ensures.more; named = c.cut_file_has_its_checksum.ensures.named; told = c.cut_file_has_its_checksum.ensures.told })
 
 pub returns-clause-closed : goal.returns-clause-closed
-returns-clause-closed c = sound-closed
+returns-clause-closed c = sound-closed (record { none = c.cut_file_has_its_checksum.ensures.none; more = c.cut_file_has_its_checksum.ensures.more; named = c.cut_file_has_its_checksum.ensures.named; told = c.cut_file_has_its_checksum.ensures.told })

@@ -2,10 +2,10 @@ use Rattle.std.proofs.Common.{rules, ◌≡◌, ◌+◌, ◌∷◌, [], Ok, ◌�
 use Rattle.std.specs.Prelude.{unwrap_or, Option, IsSome}
 use Rattle.std.specs.FinMap.{empty}
 use Rattle.std.specs.List.{All}
-use Rattle.cfdp_directives.specs.Pdu.Checksum.{Piece, added}
+use Rattle.cfdp_directives.specs.Pdu.Checksum.{Piece}
 use Rattle.cfdp_extents.specs.Offsets.{LiesIn}
 use Rattle.cfdp_store.specs.Staged.{OctetMap, staged_for}
-use Rattle.cfdp_receiver.specs.Pieces.{piece_in, pieces_in, with_piece, staged_with, sum_with}
+use Rattle.cfdp_receiver.specs.Pieces.{piece_in, pieces_in, with_piece, staged_with}
 use Rattle.cfdp_store.specs.Calls.{Write}
 use Rattle.cfdp_store.specs.Chains.{Makes}
 use Rattle.cfdp_receiver.specs.Storing.{StopsAt}
@@ -26,7 +26,6 @@ loop-start-preserved g c =
     ≡ piece_in c.args.offset c.args.bytes.now r =
     ap (λ (b : List ℕ). record { offset = c.in-Some.start; bytes = b }) c.piece-piece.ensures in
     let wrote = c.stage_piece.ensures.staged c.in-Done.is in
-    let summed = c.stage_piece.ensures.sums c.in-Done.is in
     let P : Option OctetMap → Type 0 = λ o. IsSome o in
     let inv = c.loop-start.invariant in
     record {
@@ -41,13 +40,6 @@ loop-start-preserved g c =
           (staged_for (staged c.loop-start.inbox) c.args.id)
           (pieces_in c.args.offset c.args.bytes.now gaps)) (sym c.in-Some.ensures.steps)
           ∙ inv.octets;
-      sums =
-          ap (λ (s : ℕ). sum_with s (pieces_in c.args.offset c.args.bytes.now rest)) summed
-          ∙ ap (λ (p : Piece). sum_with (added c.loop-start.checksum p)
-          (pieces_in c.args.offset c.args.bytes.now rest)) is_piece
-          ∙ ap (λ (gaps : List (ℕ × ℕ)). sum_with c.loop-start.checksum
-          (pieces_in c.args.offset c.args.bytes.now gaps)) (sym c.in-Some.ensures.steps)
-          ∙ inv.sums;
       inside = all_tail (LiesIn c.args.offset (c.args.offset + length c.args.bytes.now)) r rest _
           c.in-Some.ensures.steps inv.inside;
       others = λ other ne. c.stage_piece.ensures.others other ne ∙ inv.others other ne;
@@ -66,7 +58,6 @@ pub loop-start-init : goal.loop-start-init
 loop-start-init g c = record {
   begun = c.requires.begun;
   octets = search rules;
-  sums = search rules;
   inside = search rules;
   others = λ other ne. refl;
   published = refl;
@@ -83,7 +74,6 @@ returns-in-Refused g c =
     ap (λ (b : List ℕ). record { offset = c.in-Some.start; bytes = b }) c.piece-piece.ensures in
     record {
       staged = search rules;
-      sums = search rules;
       writes = search rules;
       fails = λ is. wrote-stops g.I.Inbox.steps g.I.Inbox.failures c.args.id _ _
           (pieces_in c.args.offset c.args.bytes.now rest) (piece_in c.args.offset c.args.bytes.now r)
@@ -102,7 +92,6 @@ returns g c =
     let none : c.loop-start.start-iterator ≡ [] = search rules in
     record {
       staged = search rules;
-      sums = search rules;
       writes = λ is. wrote-all g.I.Inbox.steps g.I.Inbox.failures c.args.id _ _ _ _
           (ap (pieces_in c.args.offset c.args.bytes.now) none) c.loop-start.invariant.wrote;
       fails = search rules;

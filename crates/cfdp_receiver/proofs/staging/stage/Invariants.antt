@@ -3,7 +3,7 @@ use Rattle.std.specs.Prelude.{IsSome}
 use Rattle.std.specs.List.{All}
 use Rattle.cfdp_extents.specs.Offsets.{LiesIn}
 use Rattle.cfdp_store.specs.Staged.{OthersKeep, staged_for}
-use Rattle.cfdp_receiver.specs.Pieces.{pieces_in, staged_with, sum_with}
+use Rattle.cfdp_receiver.specs.Pieces.{pieces_in, staged_with}
 use Rattle.cfdp_receiver.proofs.Chains.{Wrote}
 use Rattle.cfdp_receiver.proofs.staging.stage.Given as goal
 
@@ -16,8 +16,6 @@ invariant-loop-start g l =
           (pieces_in l.offset l.bytes l.start-iterator)
           ≡ staged_with (staged_for (staged l.fn.inbox) l.id)
           (pieces_in l.offset l.bytes l.fn.gaps);
-      sums : sum_with l.checksum (pieces_in l.offset l.bytes l.start-iterator)
-          ≡ sum_with l.fn.checksum (pieces_in l.offset l.bytes l.fn.gaps);
       inside : All (LiesIn l.offset (l.offset + length l.bytes)) l.start-iterator;
       others : OthersKeep l.id (staged l.fn.inbox) (staged l.inbox);
       published : g.I.Inbox.published l.inbox ≡ g.I.Inbox.published l.fn.inbox;

@@ -9,7 +9,6 @@ returns-in-Err g c =
     let fails : Makes g.I.Inbox.steps g.I.Inbox.failures (Write c.args.id c.args.start c.args.piece.now (Err c.in-Err.field-0) ∷ []) c.args.inbox.now c.write.new.self = search rules in
     record {
       staged = search rules;
-      sums = search rules;
       writes = search rules;
       fails = λ is. stops-one g.I.Inbox.steps g.I.Inbox.failures c.args.id (record { offset = c.args.start; bytes = c.args.piece.now }) _ _ c.in-Err.field-0 fails;
       files = search rules;

@@ -1,15 +1,15 @@
 use Rattle.std.proofs.Common.{length, sym, inl, inr, refl}
-use Rattle.cfdp_report.specs.Dump.Lines.{TellsAsFrame, frame_line}
+use Rattle.cfdp_report.specs.Dump.Told.{TellsAsFrame, end_of, frame_line}
 use Rattle.cfdp_report.specs.Dump.Refusal.{frame_fault_text}
-use Rattle.cfdp_report.proofs.TextLines.{line_is_written}
+use Rattle.cfdp_report.proofs.TextLines.{line_is_written, line_with_end}
 use Rattle.cfdp_report.proofs.dump.write_frame.Goals as goal
 
 pub returns-in-Ok : goal.returns-in-Ok
 returns-in-Ok g c =
-    line_is_written (TellsAsFrame c.args.long c.args.zone c.args.octets.now) _ (frame_line c.args.long c.in-Ok.frame.header c.in-Ok.frame.pointer) _ _
+    line_is_written (TellsAsFrame c.args.form c.args.zone c.args.octets.now) _ (frame_line c.args.form c.in-Ok.frame.header c.in-Ok.frame.pointer c.args.zone) _ _
     (inl (record { header = c.in-Ok.frame.header; spelled = c.in-Ok.ensures.found; words = rw c.in-Ok.ensures.pointer refl })) c.writeln.ensures.bytes
 
 pub returns-in-Err : goal.returns-in-Err
 returns-in-Err g c =
-    line_is_written (TellsAsFrame c.args.long c.args.zone c.args.octets.now) _ (frame_fault_text c.in-Err.error c.args.zone (length c.args.octets.now)) _ _
-    (inr (record { error = c.in-Err.error; fault = sym c.in-Err.ensures.refused; words = refl })) c.writeln-in-Err.ensures.bytes
+    line_with_end (TellsAsFrame c.args.form c.args.zone c.args.octets.now) _ (frame_fault_text c.in-Err.error c.args.zone (length c.args.octets.now)) (end_of c.args.form) c.end.result.now _ _
+    (inr (record { error = c.in-Err.error; fault = sym c.in-Err.ensures.refused; words = refl })) c.end.ensures c.writeln-in-Err.ensures.bytes

@@ -1,6 +1,5 @@
 -- Polls, one after another, until a frame waits or none can be made.
-use Rattle.std.proofs.Common.{◌≡◌, ◌≢◌, ◌↔◌, ◌∙◌, ℕ, ◌+◌, Bool, false, IsTrue, Option, None, Some, add-one, ap, arith, inl, inr, refl, sym}
-use Rattle.aos_frame.specs.declared.config.ChannelConfig.{ChannelConfig}
+use Rattle.std.proofs.Common.{◌≡◌, ◌≢◌, ◌↔◌, ◌∙◌, ℕ, ◌+◌, Bool, false, IsTrue, Option, None, Some, add-one, arith, inl, inr, refl, sym}
 use Rattle.link_stack.specs.Downward.{frame_lane}
 use Rattle.cfdp_station.specs.Transmitting.{IsMore, MovesMore, PollsOnce, Times}
 use Rattle.cfdp_station.proofs.transmitting.poll_dry.Goals as goal
@@ -52,7 +51,7 @@ loop-poll-preserved g c =
     let more : IsMore c.in_ok-answer.answer = c.is_more.ensures.0 c.if-not-is_more.false in
     let dry : frame_lane c.loop-poll.station.down ≡ None = sym c.next_lane.ensures ∙ c.in-None.is in (
       once_more MovesMore c.loop-poll._poll c.args.station.now c.loop-poll.station c.poll.new.self c.loop-poll.invariant.0 (dry, (c.in_ok-answer.answer, more, once)),
-      ap (λ (l : ChannelConfig). l.zone) c.in_ok-answer.ensures.fixed.0 ∙ c.loop-poll.invariant.1,
+      c.in_ok-answer.ensures.fixed.0 ∙ c.loop-poll.invariant.1,
     )
 
 pub returns-clause-ok : goal.returns-clause-ok

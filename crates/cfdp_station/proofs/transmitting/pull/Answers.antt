@@ -1,6 +1,5 @@
-use Rattle.std.proofs.Common.{◌∙◌, Bool, false, true, ap, subst}
+use Rattle.std.proofs.Common.{◌∙◌, Bool, false, true, subst}
 use Rattle.aos_frame.specs.declared.config.Lane.TheVariants.{Directives}
-use Rattle.aos_frame.specs.declared.config.ChannelConfig.{ChannelConfig}
 use Rattle.cfdp_station.specs.Transmitting.{PollsDry}
 use Rattle.cfdp_station.proofs.transmitting.pull.Goals as goal
 
@@ -25,6 +24,5 @@ returns-else-branch-clause-ok g c = record {
   fills = (c.flush.ensures.flushed, c.flush.ensures.rest);
 }
 
-pub returns-else-branch-clause-zone : goal.returns-else-branch-clause-zone
-returns-else-branch-clause-zone g c =
-    ap (λ (l : ChannelConfig). l.zone) (c.flush.ensures.flushed.lanes Directives).fixed.0 ∙ c.in_ok-poll_dry.ensures.zone
+pub returns-else-branch-clause-same : goal.returns-else-branch-clause-same
+returns-else-branch-clause-same g c = (c.flush.ensures.flushed.lanes Directives).fixed.0 ∙ c.in_ok-poll_dry.ensures.same

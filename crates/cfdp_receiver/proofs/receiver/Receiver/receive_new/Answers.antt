@@ -70,3 +70,6 @@ overflow_add-end g c = omega (arith, c.requires.fits, limit_low c.args.self.now.
 
 pub stage-requires-clause-fits : goal.stage-requires-clause-fits
 stage-requires-clause-fits g c = omega (arith, c.requires.fits, limit_low c.args.self.now.large)
+
+pub sums_with-sums-requires : goal.sums_with-sums-requires
+sums_with-sums-requires g c = record { fits = omega (arith, c.requires.fits, limit_low c.args.self.now.large) }

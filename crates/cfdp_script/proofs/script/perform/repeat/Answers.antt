@@ -6,9 +6,9 @@ use Rattle.cfdp_script.proofs.script.perform.repeat.Goals as goal
 
 pub returns-in-Some : goal.returns-in-Some
 returns-in-Some g c =
-    (c.loop.counter, c.loop-test.true, g.S.Stations.world c.loop.stations, c.loop.invariant, c.in-Some.ensures)
+    (c.loop-done.done, c.loop-done-test.true, g.S.Stations.world c.loop-done.stations, c.loop-done.invariant, c.in-Some.answer, c.told_after.ensures, c.in-Some.ensures)
 
-pub loop-preserved : goal.loop-preserved
-loop-preserved g c =
+pub loop-done-preserved : goal.loop-done-preserved
+loop-done-preserved g c =
     let Often : ℕ → Type 0 = λ n. Times (Steps c.args.event.now Applied) n (g.S.Stations.world c.args.stations.now) (g.S.Stations.world c.once.new.stations) in
-    subst Often (sym (add-one c.loop.counter)) (g.S.Stations.world c.loop.stations, c.loop.invariant, c.in_default.ensures)
+    subst Often (sym (add-one c.loop-done.done)) (g.S.Stations.world c.loop-done.stations, c.loop-done.invariant, c.in_default.ensures)

@@ -4,6 +4,6 @@ use Rattle.link_sim.specs.declared.event.Applied.TheVariants.{Applied}
 use Rattle.cfdp_script.proofs.script.perform.repeat.Given as goal
 
 -- it happened so many times
-abbrev pub invariant-loop : goal.invariant-loop
-invariant-loop g l =
-    Times (Steps l.event Applied) l.counter (g.S.Stations.world l.initial.stations) (g.S.Stations.world l.stations)
+abbrev pub invariant-loop-done : goal.invariant-loop-done
+invariant-loop-done g l =
+    Times (Steps l.event Applied) l.done (g.S.Stations.world l.initial.stations) (g.S.Stations.world l.stations)

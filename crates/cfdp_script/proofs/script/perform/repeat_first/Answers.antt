@@ -5,9 +5,9 @@ use Rattle.cfdp_script.proofs.script.perform.repeat_first.Goals as goal
 
 pub returns-in-Some : goal.returns-in-Some
 returns-in-Some g c =
-    (c.loop-frame._frame, c.loop-frame-test.true, g.S.Stations.world c.loop-frame.stations, c.loop-frame.invariant, c.in-Some.ensures)
+    (c.loop-done.done, c.loop-done-test.true, g.S.Stations.world c.loop-done.stations, c.loop-done.invariant, c.in-Some.answer, c.told_after.ensures, c.in-Some.ensures)
 
-pub loop-frame-preserved : goal.loop-frame-preserved
-loop-frame-preserved g c =
+pub loop-done-preserved : goal.loop-done-preserved
+loop-done-preserved g c =
     let Often : ℕ → Type 0 = λ n. Times (HappensToFirst c.args.fate c.args.from None) n (g.S.Stations.world c.args.stations.now) (g.S.Stations.world c.once_first.new.stations) in
-    subst Often (sym (add-one c.loop-frame._frame)) (g.S.Stations.world c.loop-frame.stations, c.loop-frame.invariant, c.in_default.ensures)
+    subst Often (sym (add-one c.loop-done.done)) (g.S.Stations.world c.loop-done.stations, c.loop-done.invariant, c.in_default.ensures)

@@ -7,7 +7,7 @@ invariant_of-self-then-start-end c = record {
   sender = record {
     transfer = c.self.invariant.sender.transfer;
     sent = c.self.invariant.sender.sent;
-    checksum = c.self.invariant.sender.checksum;
+    sums = c.self.invariant.sender.sums;
     asked = asked-inserted _ _ _ _ _ c.insert.result c.self.invariant.sender.asked
         (omega (arith, c.min-end.ensures)) c.insert.ensures.ok c.insert.ensures.err;
     ack = c.self.invariant.sender.ack;

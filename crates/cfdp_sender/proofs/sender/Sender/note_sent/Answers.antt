@@ -1,3 +1,5 @@
+use Rattle.std.proofs.Common.{arith, true}
+use Rattle.cfdp_directives.proofs.FileSizes.{limit_low}
 use Rattle.cfdp_sender.proofs.Invariants.{asked-taken}
 use Rattle.cfdp_sender.proofs.sender.Sender.note_sent.Goals as goal
 
@@ -6,7 +8,7 @@ invariant_of-self-in-AskedData c = record {
   sender = record {
     transfer = c.self-in-AskedData.invariant.sender.transfer;
     sent = c.self-in-AskedData.invariant.sender.sent;
-    checksum = c.self-in-AskedData.invariant.sender.checksum;
+    sums = c.self-in-AskedData.invariant.sender.sums;
     asked = asked-taken _ _ _ _ c.self-in-AskedData.invariant.sender.asked c.take_front.ensures.none c.take_front.ensures.rest;
     ack = c.self-in-AskedData.invariant.sender.ack;
     condition = c.self-in-AskedData.invariant.sender.condition;
@@ -14,3 +16,7 @@ invariant_of-self-in-AskedData c = record {
   };
   names = c.self-in-AskedData.invariant.names;
 }
+
+pub add-requires : goal.add-requires
+add-requires c =
+    omega (arith, c.self-in-NewData.invariant.sender.sent, c.self-in-NewData.invariant.sender.transfer.size, limit_low true, c.requires.short)

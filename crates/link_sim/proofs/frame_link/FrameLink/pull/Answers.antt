@@ -1,4 +1,5 @@
 use Rattle.std.proofs.Common.{◌≡◌, ℕ, ◌+◌, ◌-◌, ◌*◌, List, [], ◌∷◌, ◌++◌, length, take, drop, sym, ap, subst, ◌∙◌, arith}
+use Rattle.aos_frame.specs.Frame.{frame_len}
 use Rattle.link_stack.specs.Downward.{LinkSenderState, MakesFrame, lane_down}
 use Rattle.link_stack.specs.Upward.{LinkReceiverState}
 use Rattle.link_sim.specs.FrameLink.{FrameLinkState, pieces}
@@ -21,7 +22,7 @@ returns-clause-way g c =
     let whole : length w ≡ i.octets.len = omega (arith, c.write_frame.ensures.whole, c.deref_mut.ensures.len) in
     let grown : pieces i.len (i.count + 1) written ≡ pieces i.len i.count i.octets.items ++ frame ∷ [] =
     pieces_pulled i.len i.count i.octets.len w i.octets.items c.deref_mut.result.now whole c.deref_mut.ensures.value c.write_frame.ensures.front in
-    let size : 8 + d.link.zone ≡ i.len = sym (ap (λ x. x.len) c.self.view_is ∙ c.requires.len) in
+    let size : frame_len d.link ≡ i.len = sym (ap (λ x. x.len) c.self.view_is ∙ c.requires.len) in
     let made : MakesFrame frame d e = subst (λ (n : ℕ). MakesFrame (take n (drop (i.count * i.len) w)) d e) size c.write_frame.ensures.made in
     let one : (up : LinkReceiverState) → IsOneWay (one_way d k up) → SendsNone (one_way d k up) (one_way e m up) = λ (up : LinkReceiverState) (is : IsOneWay (one_way d k up)).
     let l : OneWayState = one_way d k up in
@@ -30,7 +31,7 @@ returns-clause-way g c =
       made.is_next (packets_sent l) (length l.frames) is.sent.made,
       made.inside (packets_sent l) (length l.frames) is.sent.made,
       made.after (packets_sent l) (length l.frames) is.sent.made,
-    ) made.zone made.waiting made.link) in
+    ) made.zone made.waiting (made.link, made.control)) in
     subst (λ (x : FrameLinkState). (up : LinkReceiverState) → IsOneWay (one_way d x up) → SendsNone (one_way d x up) (one_way e m up)) c.self.view_is one
 
 pub returns-clause-grown : goal.returns-clause-grown

@@ -10,7 +10,7 @@ returns-clause-stream c is =
     let link = c.self.inside.link in
     let p = c.self.inside.packer in
     let zone : d.link.zone ≡ link.zone = ap (λ (x : LinkSenderState). x.link.zone) (sym c.self.view_is) in
-    let same : counted_from c.args.count d ≡ descent link p c.from_count-self-inside.result =
-    ap (λ (x : LinkSenderState). counted_from c.args.count x) (sym c.self.view_is) ∙ ap (λ n. descent link p n) (sym c.from_count-self-inside.ensures) in
+    let same : counted_from c.args.count d ≡ descent link p c.from_count-self-inside.result c.self.inside.control =
+    ap (λ (x : LinkSenderState). counted_from c.args.count x) (sym c.self.view_is) ∙ ap (λ n. descent link p n c.self.inside.control) (sym c.from_count-self-inside.ensures) in
     subst (λ (x : LinkSenderState). IsDown x (idle_zones d.link.zone c.args.count) c.args.count) same
     (counted_is d c.args.count (omega (arith, zone, c.self.invariant.0.least_zone)) (omega (arith, zone, c.self.invariant.0.most_zone)) is)

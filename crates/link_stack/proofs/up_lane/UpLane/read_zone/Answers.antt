@@ -16,8 +16,8 @@ unpack-requires-clause-long c =
 
 pub returns-clause-front : goal.returns-clause-front
 returns-clause-front c none =
-    let up : LinkReceiverState = record { link = c.self.inside.link; last = c.self.inside.monitor; begun = c.self.inside.reassembler; drops = c.self.inside.drops } in
-    let new : LinkReceiverState = record { link = c.self.inside.link; last = c.self.inside.monitor; begun = c.feed-fed.new.self; drops = c.unpack.new.drops } in
+    let up : LinkReceiverState = record { link = c.self.inside.link; last = c.self.inside.monitor; begun = c.self.inside.reassembler; drops = c.self.inside.drops; control = c.self.inside.control } in
+    let new : LinkReceiverState = record { link = c.self.inside.link; last = c.self.inside.monitor; begun = c.feed-fed.new.self; drops = c.unpack.new.drops; control = c.self.inside.control } in
     let front : TakesFront (packets_read up.last up.begun c.args.follows c.args.pointer c.args.zone.now) up new (octets_of_each c.args.out.now.items) (octets_of_each c.unpack.new.packets.items) =
     takes_front c.feed-fed.result up new c.len-first.result (octets_of_each c.args.out.now.items) (octets_of_each c.feed-fed.new.out.items) (octets_of_each c.unpack.new.packets.items)
     (packets_read up.last up.begun c.args.follows c.args.pointer c.args.zone.now) c.note.new.drops

@@ -9,4 +9,5 @@ pub returns : goal.returns
 returns c =
     lane_takes c.read_frame-whole.result c.args.self.now c.read_frame-whole.new.self c.args.frame.now (octets_of_each c.args.out.now.items) (octets_of_each c.read_frame-whole.new.out.items)
     (subst (λ (u : LinkReceiverState). IsChannel u.link) c.self.view_is c.self.invariant) (omega (arith, ap (λ (u : LinkReceiverState). u.link.spacecraft) c.self.view_is))
+    c.read_frame-whole.ensures.control
     c.read_frame-whole.ensures.all c.read_frame-whole.ensures.front

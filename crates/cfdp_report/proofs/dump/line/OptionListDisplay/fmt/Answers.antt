@@ -12,5 +12,5 @@ loop-kind-preserved g c =
     let left = option-left c.loop-kind.kind-iterator c.next.new.self c.next.result (c.in-Some.kind, c.in-Some.value) c.in-Some.is c.next.ensures.steps in (
       before.0 ++ option_text next,
       λ plain. has_written_append _ _ _ _ _ _ (before.1 plain) (c.in_ok-write.ensures.writes (before.1 plain).plain refl),
-      option-told c.args.self.now.0.now c.loop-kind.kind-iterator c.next.new.self before.0 next before.2 left,
+      option-told option_text c.args.self.now.0.now c.loop-kind.kind-iterator c.next.new.self before.0 next before.2 left,
     )

@@ -1,5 +1,5 @@
--- Which bits of a frame were turned on its way. A text is a polynomial over two elements, as in
--- `crc`: its last bit is the coefficient of x^0.
+-- Which bits of some octets were turned on their way. They are a polynomial over two elements: the
+-- last bit is the coefficient of x^0.
 use Rattle.std.specs.Prelude.{◌≡◌, ℕ, ◌+◌, ◌*◌, ◌^◌, ◌<◌, ◌⊎◌, List, length, bit_xor}
 use Rattle.cfd_bits.specs.Field.{field}
 
@@ -37,7 +37,7 @@ pub record AreThree (count turned : ℕ) : Type 0 where
   pub within_last : last < count
   pub are : turned ≡ bit_xor (bit_xor (2 ^ first) (2 ^ second)) (2 ^ last)
 
--- Bits of the frame were turned: one, two or three, or any within 16 in a row. One is a burst.
+-- Bits were turned: one, two or three, or any within 16 in a row. One is a burst.
 abbrev pub IsDamaged : (sent came : List ℕ) → Type 0
 IsDamaged sent came =
     (length came ≡ length sent)

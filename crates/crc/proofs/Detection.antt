@@ -1,4 +1,4 @@
--- What the division leaves of the bits that were turned.
+-- Exported: what the division leaves of the bits that were turned, for frames.
 use Rattle.std.proofs.Common.{◌≡◌, ℕ, zero, suc, ◌+◌, ◌-◌, ◌*◌, ◌/◌, ◌%◌, ◌^◌, ◌<◌, ◌≤◌, ◌⊎◌, inl, inr, refl, sym, ap, ap₂, ◌∙◌, arith, add-one}
 use Rattle.std.specs.Int.Bits.{bit_xor, xor_self, xor_zero_r, xor_zero_l}
 use Rattle.std.proofs.lemmas.Nat.{pow_pos, xor_lt}
@@ -7,8 +7,8 @@ use lib.Bits.{xor_assoc}
 use Rattle.crc.specs.Division.{reduced, remainder, moved}
 use Rattle.crc.specs.Checks.{divisor16}
 use Rattle.crc.proofs.Divisions as div
-use Rattle.frame_fields.specs.Damage.{IsBurst, AreTwo, AreThree}
-use Rattle.frame_fields.proofs.Powers.{no_power_is_one}
+use Rattle.crc.specs.Damage.{IsBurst, AreTwo, AreThree}
+use Rattle.crc.proofs.Walks.{no_power_is_one}
 
 abbrev rem : ℕ → ℕ → ℕ
 rem = remainder 16 divisor16

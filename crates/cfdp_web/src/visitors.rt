@@ -1,0 +1,76 @@
+//! All connections of the console.
+ghost use Rattle.std.specs.Prelude.{◌↔◌, ◌<◌, ◌≤◌, vec_len, IfSome, IsTrue};
+ghost use Rattle.cfdp_web.specs.Serving.{MayBeAsked, most_visitors};
+
+use crate::stream::WebStream;
+use crate::visitor::Visitor;
+use cfdp_console::{Answer, Ask, Caller, Guard};
+use std::alloc::{AllocError, Global};
+
+/// The most connections at a time.
+const MOST_VISITORS: usize = 16;
+
+/// All connections of the console, at most 16.
+#[derive(Drop)]
+pub struct Visitors<S: WebStream> {
+    all: Vec<Visitor<S>>,
+    // How many there were so far.
+    numbered: u64,
+    ghost within: { vec_len all ≤ most_visitors },
+}
+
+impl<S: WebStream> Visitors<S> {
+    /// Before the first one.
+    pub fn new(alloc: Global) -> Visitors<S> {
+        Visitors {
+            all: Vec::new(alloc),
+            numbered: 0,
+        }
+    }
+
+    /// Whether one more may come.
+    pub fn has_room(&self) -> bool
+        ensures { IsTrue result ↔ (vec_len self.now.all < most_visitors) }
+    {
+        self.all.len() < MOST_VISITORS
+    }
+
+    /// Those that are there, the first one first.
+    pub fn all(&self) -> &[Visitor<S>] {
+        self.all.as_slice()
+    }
+
+    /// Has one more connection; where there are 16, or is no memory, it is closed.
+    pub fn takes_in(&mut self, stream: S, caller: Caller) {
+        if self.all.len() >= MOST_VISITORS {
+            return;
+        }
+        self.numbered = self.numbered.saturating_add(1);
+        let _ = self.all.push(Visitor::new(self.numbered, stream, caller));
+    }
+
+    /// Attends to each connection once, up to the first one that asks something: its number, and
+    /// what it asks, which some request may ask by the guard. It is to be answered.
+    pub fn next_ask(&mut self, guard: &Guard, now: u64) -> Option<(u64, Ask)>
+        ensures { IfSome result (λ asked. MayBeAsked guard.now asked.1) }
+    {
+        self.all.retain(|visitor| !visitor.is_over());
+        for visitor in self.all.iter_mut() {
+            if let Some(ask) = visitor.attend(guard, now) {
+                return Some((visitor.number(), ask));
+            }
+        }
+        None
+    }
+
+    /// Answers the connection of this number. One that has gone is said nothing.
+    pub fn answers(&mut self, number: u64, answer: Result<Answer, AllocError>, now: u64) {
+        let found = self
+            .all
+            .iter_mut()
+            .find(|visitor| visitor.number() == number);
+        if let Some(visitor) = found {
+            visitor.answers(answer, now);
+        }
+    }
+}

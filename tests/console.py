@@ -1,0 +1,569 @@
+#!/usr/bin/env python3
+"""The console of a station that runs: what it shows a web client, and what it lets that do.
+
+    tests/console.py [PROGRAM]    all of it, by this program or by that which `rt ci` leaves
+"""
+import contextlib
+import html.parser
+import http.client
+import json
+import os
+import re
+import shutil
+import socket
+import subprocess
+import sys
+import tempfile
+import threading
+import time
+import types
+
+import control
+import links
+from links import SLACK, Link, Relay
+from stations import PATIENT
+
+TOP = os.path.dirname(os.path.dirname(os.path.abspath(__file__)))
+
+# The most connections, the most octets of a request, and for how many seconds a slow one stays.
+MOST_OPEN, MOST_OCTETS, PATIENCE = 16, 65536, 10
+
+TOKEN = "0123456789abcdef-token"
+
+# Browsers that can show a page without a screen.
+BROWSERS = ("chromium", "chromium-browser", "google-chrome", "google-chrome-stable")
+
+# The most by which frames may be late for a console, in seconds, and the share of them that counts:
+# the rest are late for what else runs on the machine.
+LATE, SHARE = 0.001, 0.95
+
+
+class Console:
+    """A station with a console, its port, and the token that a client shows where there is one."""
+
+    def __init__(self, link, end, words, settings=None, token=None, **ways):
+        self.port, self.token = control.free_port(), token
+        words = [*words, "--console", f"127.0.0.1:{self.port}"]
+        if token:
+            os.makedirs(f"{link.folder}/{end}", exist_ok=True)
+            with open(f"{link.folder}/{end}/token", "w", encoding="ascii") as it:
+                it.write(token + "\n")
+            words += ["--console-token", "token"]
+        self.station = link.starts(end, words, settings, **ways)
+        stop = time.monotonic() + 10
+        while time.monotonic() < stop:
+            with contextlib.suppress(OSError):
+                socket.create_connection(("127.0.0.1", self.port), timeout=1).close()
+                break
+            time.sleep(0.02)
+
+    def asks(self, method, path, headers=(), body=None):
+        """The status of an answer, its fields and its body."""
+        it = http.client.HTTPConnection("127.0.0.1", self.port, timeout=PATIENCE + 5)
+        with contextlib.closing(it):
+            it.request(method, path, body=body, headers=dict(headers))
+            answer = it.getresponse()
+            return answer.status, answer.headers, answer.read().decode()
+
+    def gets(self, path):
+        """An object that is shown."""
+        status, _, body = self.asks("GET", path, self.shown())
+        if status != 200:
+            raise OSError(f"GET {path}: {status} {body}")
+        return json.loads(body)
+
+    def shown(self):
+        """The field with the token that it wants, or that the page is told."""
+        token = self.token or json.loads(self.asks("GET", "/token")[2])["token"]
+        return {"Authorization": f"Bearer {token}"}
+
+    def does(self, path, body=None):
+        """Has it do something: the status of the answer, and the answer."""
+        octets = None if body is None else json.dumps(body)
+        status, _, text = self.asks("POST", path, self.shown(), octets)
+        return status, json.loads(text)
+
+    def says(self, octets, seconds=PATIENCE + 5):
+        """What comes for these octets, until the connection is closed."""
+        with socket.create_connection(("127.0.0.1", self.port), timeout=seconds) as it:
+            with contextlib.suppress(ConnectionError):
+                it.sendall(octets)
+            return all_of(it)
+
+    def awaits(self, path, is_so, seconds=20):
+        """Asks for an object until this is so of it; what it is at last."""
+        stop = time.monotonic() + seconds
+        while True:
+            found = self.gets(path)
+            if is_so(found) or time.monotonic() > stop:
+                return found
+            time.sleep(0.05)
+
+
+def all_of(it):
+    """All octets that come over a socket until it is closed; None where it isn't."""
+    octets = b""
+    try:
+        while True:
+            more = it.recv(65536)
+            if not more:
+                return octets
+            octets += more
+    except ConnectionError:
+        return octets
+    except TimeoutError:
+        return None
+
+
+# ---- what is shown
+
+
+# Paths with no station's state that has to be there, and the members that each object has.
+SHOWN = (
+    ("/status", {"closed", "counters", "dropped", "lines", "link", "open", "peer", "seconds",
+                 "station", "time", "timeout", "waiting"}),
+    ("/history", {"lost", "received", "seconds", "sent"}),
+    ("/transactions", {"closed", "open"}),
+    ("/transactions?after=0", {"closed", "open"}),
+    ("/log", {"lines"}),
+    ("/log?after=3", {"lines"}),
+    ("/token", {"token"}),
+)
+
+# Paths at which nothing is.
+NOTHING = ("/index.html", "/log?after=x", "/log?before=3", "/transactions/1:99", "/puts", "/../",
+           "/transactions/1:1/cancel")
+
+
+def shown_mistakes(program):
+    """What is wrong with the answers to all that may be looked at."""
+    with Link(program) as link:
+        it = Console(link, 2, ["--inbox", "to"])
+        for path, members in SHOWN:
+            status, headers, body = it.asks("GET", path)
+            if status != 200 or set(json.loads(body)) != members:
+                yield f"GET {path}: {status} {body}"
+            kinds = (headers["Cache-Control"], headers["Content-Type"])
+            if kinds != ("no-store", "application/json"):
+                yield f"GET {path}: {headers}"
+            status, _, body = it.asks("HEAD", path)
+            if status != 200 or body:
+                yield f"HEAD {path}: {status} {body}"
+        for path in NOTHING:
+            if it.asks("GET", path)[0] != 404:
+                yield f"GET {path}: {it.asks('GET', path)}"
+        for method in ("PUT", "DELETE", "PATCH", "OPTIONS"):
+            if it.asks(method, "/status")[0] != 405:
+                yield f"{method} /status: {it.asks(method, '/status')}"
+        yield from page_mistakes(it)
+        yield from metrics_mistakes(it)
+
+
+class Page(html.parser.HTMLParser):
+    """What a page would load from elsewhere, and what is put in its script as markup."""
+
+    def __init__(self):
+        super().__init__()
+        self.loads = []
+
+    def handle_starttag(self, tag, attrs):
+        for name, value in attrs:
+            if name in ("src", "href", "action") and not re.match(r"#|data:,$", value or ""):
+                self.loads.append((tag, name, value))
+            if name.startswith("on") or name == "style":
+                self.loads.append((tag, name, value))
+
+
+def page_mistakes(it):
+    """What is wrong with the page: it stands for itself, and puts nothing in as markup."""
+    status, headers, body = it.asks("GET", "/")
+    if status != 200 or headers["Content-Type"] != "text/html; charset=utf-8":
+        yield f"GET /: {status} {headers}"
+    page = Page()
+    page.feed(body)
+    if page.loads:
+        yield f"the page loads {page.loads}"
+    for word in ("innerHTML", "outerHTML", "insertAdjacentHTML", "document.write", "eval("):
+        if word in body:
+            yield f"the page has {word}"
+    if "default-src 'none'" not in headers["Content-Security-Policy"]:
+        yield f"GET /: {headers}"
+
+
+def metrics_mistakes(it):
+    """What is wrong with the numbers for Prometheus."""
+    status, headers, body = it.asks("GET", "/metrics")
+    if status != 200 or headers["Content-Type"] != "text/plain; version=0.0.4":
+        yield f"GET /metrics: {status} {headers}"
+    form = r"# (HELP|TYPE) cfdp_\w+ .+|cfdp_\w+(\{layer=\"\w+\",cause=\"\w+\"\})? \d+"
+    for line in body.splitlines():
+        if not re.fullmatch(form, line):
+            yield f"GET /metrics: {line}"
+    names = re.findall(r"(?m)^# TYPE (\w+)", body)
+    if len(names) != len(set(names)) or "cfdp_sent_frames_total" not in names:
+        yield f"GET /metrics: {names}"
+
+
+# ---- what is done
+
+
+def deed_mistakes(program):
+    """What is wrong where files are put, suspended, resumed and cancelled by requests."""
+    with Link(program, Relay()) as link:
+        link.puts(1, {"a.bin": bytes(200_000), "b.bin": bytes(300_000), "c.bin": b"c"})
+        link.starts(2, ["--inbox", "to"], PATIENT)
+        it = Console(link, 1, ["--outbox", "from", "--rate", "100"], PATIENT)
+        yield from put_mistakes(it)
+        yield from change_mistakes(it)
+        yield from freeze_mistakes(it)
+        wanted = {"source": "c.bin", "destination": "d.bin", "first": True}
+        status, answer = it.does("/puts", wanted)
+        if status != 200:
+            yield f"a put of c.bin: {status} {answer}"
+        found = it.awaits("/transactions", lambda all_of_it: len(all_of_it["closed"]) >= 3)
+        ends = {one["destination"]: (one["complete"], one["source"]) for one in found["closed"]}
+        wanted = {"x.bin": (True, "a.bin"), "b.bin": (False, "b.bin"), "d.bin": (True, "c.bin")}
+        if ends != wanted:
+            yield f"closed: {found}"
+        after = it.gets(f"/transactions?after={found['closed'][-1]['number']}")
+        if after["closed"]:
+            yield f"closed behind the last one: {after}"
+        lines = it.gets("/log")["lines"]
+        if not lines or [one["number"] for one in lines] != list(range(1, len(lines) + 1)):
+            yield f"the log: {lines}"
+        if it.gets("/status")["counters"]["files_sent"] != 2:
+            yield f"counted: {it.gets('/status')}"
+
+
+def put_mistakes(it):
+    """What is wrong with puts, and with such that say nothing that may be put."""
+    status, answer = it.does("/puts", {"source": "a.bin", "destination": "x.bin"})
+    if status != 200 or answer != {"ok": True}:
+        yield f"a put: {status} {answer}"
+    bodies = (None, {}, {"source": 3}, {"source": "a b"}, {"source": ""}, {"source": "--first"},
+              {"source": "a\nstop"}, {"source": "a.bin", "destination": "x y"}, ["a.bin"])
+    for body in bodies:
+        status, answer = it.does("/puts", body)
+        if status != 400 or "error" not in answer:
+            yield f"a put of {body}: {status} {answer}"
+    found = it.awaits("/transactions", lambda all_of_it: all_of_it["open"])
+    one = found["open"][0]
+    wanted = {"source": "a.bin", "destination": "x.bin", "size": 200_000, "way": "sends"}
+    if any(one[key] != value for key, value in wanted.items()) or len(found["open"]) != 1:
+        yield f"open: {found}"
+    if it.gets(f"/transactions/{one['id']}")["id"] != one["id"]:
+        yield f"/transactions/{one['id']}: another one"
+
+
+def change_mistakes(it):
+    """What is wrong where transactions are suspended, resumed and cancelled."""
+    it.does("/puts", {"source": "b.bin"})
+    found = it.awaits("/transactions", lambda all_of_it: len(all_of_it["open"]) == 2)
+    ids = {one["source"]: one["id"] for one in found["open"]}
+    for word, is_suspended in (("suspend", True), ("resume", False)):
+        status, answer = it.does(f"/transactions/{ids['a.bin']}/{word}")
+        is_so = lambda one, wanted=is_suspended: one["suspended"] == wanted
+        one = it.awaits(f"/transactions/{ids['a.bin']}", is_so, 5)
+        if status != 200 or one["suspended"] != is_suspended:
+            yield f"{word}: {status} {answer} {one}"
+    if it.does(f"/transactions/{ids['b.bin']}/cancel")[0] != 200:
+        yield "cancel wasn't done"
+    for path, wanted in (("/transactions/1:999/cancel", 409), ("/transactions/x/cancel", 409),
+                         ("/transactions/1:1/nothing", 404), ("/transactions//cancel", 404),
+                         ("/stop", 404), ("/transactions/1:1%20now/cancel", 409)):
+        status, answer = it.does(path)
+        if status != wanted or "error" not in answer:
+            yield f"POST {path}: {status} {answer}"
+
+
+def freeze_mistakes(it):
+    """What is wrong where the link is taken down by plan, and up again."""
+    for word, state in (("freeze", "frozen"), ("thaw", "up")):
+        status, answer = it.does(f"/{word}")
+        if status != 200 or it.gets("/status")["link"]["state"] != state:
+            yield f"{word}: {status} {answer} {it.gets('/status')['link']}"
+
+
+# ---- who may ask
+
+
+def guard_mistakes(program):
+    """What is wrong with the answers to those who may not ask, and those who may."""
+    with Link(program) as link:
+        it = Console(link, 2, ["--inbox", "to"])
+        own = f"127.0.0.1:{it.port}"
+        rows = (
+            ("GET", "/status", {"Host": "evil.example"}, 403),
+            ("GET", "/", {"Host": f"evil.example:{it.port}"}, 403),
+            ("GET", "/token", {"Host": "127.0.0.1.evil.example"}, 403),
+            ("GET", "/status", {"Host": f"localhost:{it.port}"}, 200),
+            ("GET", "/status", {"Origin": "http://evil.example"}, 403),
+            ("GET", "/status", {"Origin": "null"}, 403),
+            ("GET", "/status", {"Origin": f"http://{own}"}, 200),
+            ("POST", "/freeze", {}, 401),
+            ("POST", "/freeze", {"Authorization": "Bearer x"}, 401),
+            ("POST", "/freeze", {"Origin": f"http://{own}"}, 401),
+            ("POST", "/freeze", {**it.shown(), "Origin": "http://evil.example"}, 403),
+            ("POST", "/freeze", {**it.shown(), "Host": "evil.example"}, 403),
+            ("POST", "/nothing", {}, 401),
+        )
+        yield from row_mistakes(it, rows)
+        if it.gets("/status")["link"]["state"] != "up":
+            yield "one who may not ask took the link down"
+    yield from token_mistakes(program)
+
+
+def row_mistakes(it, rows):
+    """What is wrong with the status of these requests."""
+    for method, path, headers, wanted in rows:
+        status, _, body = it.asks(method, path, headers)
+        if status != wanted:
+            yield f"{method} {path} with {headers}: {status} {body}"
+
+
+def token_mistakes(program):
+    """What is wrong where a token is wanted of all, and where the token or the address won't do."""
+    with Link(program) as link:
+        it = Console(link, 2, ["--inbox", "to"], token=TOKEN)
+        good, bad = {"Authorization": f"Bearer {TOKEN}"}, {"Authorization": f"Bearer {TOKEN}x"}
+        rows = [("GET", "/", {}, 200), ("GET", "/token", good, 404), ("POST", "/freeze", {}, 401)]
+        for path in ("/status", "/token", "/log", "/metrics", "/transactions", "/history"):
+            rows += [("GET", path, {}, 401), ("GET", path, bad, 401)]
+        rows += [("GET", "/status", good, 200), ("POST", "/thaw", good, 200)]
+        rows += [("POST", "/thaw", bad, 401), ("POST", "/thaw", {**good, "Host": "a.b"}, 403)]
+        yield from row_mistakes(it, rows)
+    refused = (
+        (["--console", "0.0.0.0:0"], ""),
+        (["--console", "[::]:0"], ""),
+        (["--console", "nonsense"], ""),
+        (["--console-token", "token"], TOKEN),
+        (["--console", "127.0.0.1:0", "--console-token", "none"], TOKEN),
+        (["--console", "127.0.0.1:0", "--console-token", "token"], "short"),
+        (["--console", "127.0.0.1:0", "--console-token", "token"], "with a space in it ....."),
+    )
+    for words, token in refused:
+        with Link(program) as link:
+            os.makedirs(f"{link.folder}/2", exist_ok=True)
+            with open(f"{link.folder}/2/token", "w", encoding="ascii") as it:
+                it.write(token)
+            it = link.starts(2, ["--inbox", "to", *words], waits=False)
+            status, out, err = it.ended(10)
+        if status not in (2, 3) or out or not err.startswith("error: --console"):
+            yield f"{words}: status {status}, {out!r}, {err!r}"
+
+
+# ---- requests that are none, or too much
+
+
+def request_mistakes(program):
+    """What is wrong with what comes for octets that are no request, or a long one."""
+    with Link(program) as link:
+        it = Console(link, 2, ["--inbox", "to"])
+        head = f"Host: 127.0.0.1:{it.port}\r\nAuthorization: {it.shown()['Authorization']}\r\n"
+        put = f"POST /puts HTTP/1.1\r\n{head}"
+        long = MOST_OCTETS + 1
+        rows = (
+            ("no request", "\0\1\2\r\n\r\n", 400),
+            ("no Host", "GET /status HTTP/1.1\r\n\r\n", 400),
+            ("two Hosts", f"GET /status HTTP/1.1\r\n{head}Host: x\r\n\r\n", 400),
+            ("a long target", f"GET /{'x' * long} HTTP/1.1\r\n{head}\r\n", 414),
+            ("a long field", f"GET / HTTP/1.1\r\n{head}X: {'x' * long}\r\n\r\n", 431),
+            ("a long body", f"{put}Content-Length: {long}\r\n\r\n" + "x" * long, 413),
+            ("an endless body", f"{put}Content-Length: 99999999\r\n\r\n", 413),
+            ("a coding", f"{put}Transfer-Encoding: gzip, chunked\r\n\r\n0\r\n\r\n", 501),
+            ("chunks", f"{put}Transfer-Encoding: chunked\r\n\r\n2\r\n{{}}\r\n0\r\n\r\n", 400),
+        )
+        for what, text, wanted in rows:
+            found = it.says(text.encode("latin-1"))
+            if not re.match(rb"HTTP/1\.1 %d " % wanted, found or b""):
+                yield f"{what}: {(found or b'nothing')[:200]}"
+        chunk = b"8000\r\n" + bytes(32768) + b"\r\n"
+        found = it.says(put.encode() + b"Transfer-Encoding: chunked\r\n\r\n" + chunk * 4)
+        if found is None or b" 200 " in found:
+            yield f"too much in chunks: {found}"
+        for cut in (1, 7, 40):
+            text = f"GET /status HTTP/1.1\r\n{head}Connection: close\r\n\r\n".encode()
+            if b" 200 " not in (in_parts(it, text, cut) or b""):
+                yield f"a request in parts of {cut}"
+        if it.gets("/status")["station"] != 2:
+            yield "it shows nothing any more"
+
+
+def in_parts(it, octets, cut):
+    """What comes for octets that are sent in parts of this length."""
+    with socket.create_connection(("127.0.0.1", it.port), timeout=PATIENCE) as end:
+        end.setsockopt(socket.IPPROTO_TCP, socket.TCP_NODELAY, 1)
+        for place in range(0, len(octets), cut):
+            end.sendall(octets[place : place + cut])
+            time.sleep(0.002)
+        return all_of(end)
+
+
+def kept_mistakes(program):
+    """What is wrong where several requests come over one connection."""
+    with Link(program) as link:
+        it = Console(link, 2, ["--inbox", "to"])
+        head, own = f"Host: 127.0.0.1:{it.port}\r\n", it.shown()
+        kept = http.client.HTTPConnection("127.0.0.1", it.port, timeout=PATIENCE)
+        with contextlib.closing(kept):
+            ends = set()
+            for path in ("/status", "/nothing", "/transactions", "/", "/freeze", "/status"):
+                kept.request("POST" if path == "/freeze" else "GET", path, headers=own)
+                answer = kept.getresponse()
+                if answer.status != (404 if path == "/nothing" else 200) or not answer.read():
+                    yield f"{path} over a connection that is kept: {answer.status}"
+                ends.add(kept.sock and kept.sock.getsockname())
+            if len(ends) != 1 or None in ends:
+                yield "a connection wasn't kept"
+        one = f"GET /status HTTP/1.1\r\n{head}"
+        rows = (
+            ("three at once", f"{one}\r\n{one}\r\n{one}Connection: close\r\n\r\n", 3),
+            ("one that is the last", f"{one}Connection: close\r\n\r\n{one}\r\n", 1),
+            ("HTTP/1.0", f"GET /status HTTP/1.0\r\n{head}Connection: keep-alive\r\n\r\n", 1),
+        )
+        for what, text, wanted in rows:
+            found = it.says(text.encode(), 5)
+            if found is None or found.count(b"HTTP/1.1 200 ") != wanted:
+                yield f"{what}: {found}"
+
+
+def slow_mistakes(program):
+    """What is wrong with slow clients, and with the seventeenth connection."""
+    with Link(program) as link:
+        it = Console(link, 2, ["--inbox", "to"])
+        began = time.monotonic()
+        with contextlib.ExitStack() as stack:
+            slow = []
+            for _ in range(MOST_OPEN):
+                one = socket.create_connection(("127.0.0.1", it.port), timeout=PATIENCE + 5)
+                slow.append(stack.enter_context(one))
+                one.sendall(b"GET /status HTTP/1.1\r\n")
+            time.sleep(0.5)
+            beside = {}
+            asking = threading.Thread(target=lambda: beside.update(it.gets("/status")))
+            asking.start()
+            asking.join(2)
+            if not asking.is_alive():
+                yield "a seventeenth connection was answered at once"
+            for one in slow:
+                if all_of(one) != b"":
+                    yield "a slow one was answered"
+            took = time.monotonic() - began
+            asking.join(PATIENCE)
+        if not PATIENCE - 1 < took < PATIENCE + 3 + SLACK:
+            yield f"slow ones were left after {took:.1f} s"
+        if beside.get("station") != 2:
+            yield f"the seventeenth was answered {beside}"
+
+
+# ---- the station's own work
+
+
+def late_mistakes(program):
+    """What is wrong with the times at which frames leave while 16 clients ask all that they can."""
+    shares = []
+    for is_asked in (False, True):
+        relay = Relay()
+        with Link(program, relay) as link:
+            link.puts(1, {"long": bytes(1_500_000)})
+            link.starts(2, ["--inbox", "to"], PATIENT)
+            words = ["--outbox", "from", "--put", "long", "long", "--rate", "1000"]
+            it = Console(link, 1, words, PATIENT)
+            time.sleep(1)
+            since = time.time()
+            asked = asks_much(it, 4) if is_asked else time.sleep(4)
+            times = [when for when, own, _ in list(relay.came) if own == 1 and when >= since]
+        if is_asked and asked < 100:
+            yield f"only {asked} answers in 4 seconds"
+        shares.append(lateness(times))
+    if shares[1] - shares[0] > LATE:
+        before, after = (f"{share * 1e3:.2f} ms" for share in shares)
+        yield f"frames are {after} apart where clients ask, and {before} else"
+
+
+def asks_much(it, seconds):
+    """How many answers 16 clients are given that ask for all that there is, again and again."""
+    stop, counts = time.monotonic() + seconds, []
+    paths = ("/transactions", "/log", "/history", "/metrics", "/")
+
+    def asks():
+        count = 0
+        while time.monotonic() < stop:
+            with contextlib.suppress(OSError, http.client.HTTPException):
+                it.asks("GET", paths[count % len(paths)])
+                count += 1
+        counts.append(count)
+
+    threads = [threading.Thread(target=asks) for _ in range(MOST_OPEN)]
+    for one in threads:
+        one.start()
+    for one in threads:
+        one.join()
+    return sum(counts)
+
+
+def lateness(times):
+    """How far apart frames are, at most, but for the few that are late for another cause."""
+    gaps = sorted(after - before for before, after in zip(times, times[1:]))
+    return gaps[int(len(gaps) * SHARE)] if gaps else 0.0
+
+
+# ---- in a browser
+
+
+def browser_mistakes(program):
+    """What is wrong with the page in a browser, where there is one."""
+    found = [path for path in map(shutil.which, BROWSERS) if path]
+    if not found:
+        print("skipped: the page of the console in a browser, as no Chromium is here", flush=True)
+        return
+    with Link(program) as link:
+        link.puts(2, {"markup": b"x"})
+        it = Console(link, 2, ["--inbox", "to", "--outbox", "from"])
+        it.does("/puts", {"source": "markup", "destination": "<b>x</b>"})
+        with tempfile.TemporaryDirectory() as room:
+            words = [found[0], "--headless", "--no-sandbox", "--disable-gpu", "--dump-dom",
+                     f"--user-data-dir={room}", "--virtual-time-budget=4000",
+                     f"http://127.0.0.1:{it.port}/"]
+            ran = subprocess.run(words, capture_output=True, timeout=60, check=False)
+        text = ran.stdout.decode()
+    for wanted in ("Station 2 \u2192 peer 1", "link up"):
+        if wanted not in text:
+            yield f"the page doesn't say {wanted!r}: {text[-2000:]} {ran.stderr.decode()[-500:]}"
+    if "<b>x" in text:
+        yield "a name is markup in the page"
+
+
+def lone_mistakes(program):
+    """What is tried with nothing beside it, since it tells times."""
+    yield "frames of a station that 16 clients ask", late_mistakes(program)
+
+
+def all_mistakes(program):
+    """What is tried, with what is wrong in it."""
+    yield "the console: what is shown", shown_mistakes(program)
+    yield "the console: what is done", deed_mistakes(program)
+    yield "the console: who may ask", guard_mistakes(program)
+    yield "the console: what is no request", request_mistakes(program)
+    yield "the console: connections that are kept", kept_mistakes(program)
+    yield "the console: slow clients and a seventeenth", slow_mistakes(program)
+    yield "the console: its page in a browser", browser_mistakes(program)
+
+
+def main(words):
+    path = os.path.abspath(words[0] if words else f"{TOP}/crates/cfdp_node/out/cfdp_node")
+    failed = 0
+    with tempfile.TemporaryDirectory() as room:
+        program = types.SimpleNamespace(path=path, room=room)
+        for tried in (lone_mistakes, all_mistakes):
+            for what, wrong in tried(program):
+                found = list(wrong)
+                failed += bool(found)
+                print(f"{'failed' if found else 'passed'}: {what}")
+                for it in found:
+                    print(f"    {it}")
+    return 1 if failed else 0
+
+
+if __name__ == "__main__":
+    sys.exit(main(sys.argv[1:]))
