@@ -443,6 +443,7 @@ performs-puts (Once (event.Flush s)) answer a b h is = once-puts (event.Flush s)
 performs-puts (Once (event.Tick s now)) answer a b h is = once-puts (event.Tick s now) answer a b tt h
 performs-puts (Once (event.Deliver s l)) answer a b h is = once-puts (event.Deliver s l) answer a b tt h
 performs-puts (Once (event.Strike s l)) answer a b h is = once-puts (event.Strike s l) answer a b tt h
+performs-puts (Once (event.Damage s l octets)) answer a b h is = once-puts (event.Damage s l octets) answer a b tt h
 performs-puts (Repeat (event.Put s source destination) count) answer a b h is = absurd is
 performs-puts (Repeat (event.Cancel s id) count) answer a b h is = often-puts (event.Cancel s id) count answer a b tt h
 performs-puts (Repeat (event.Suspend s id) count) answer a b h is = often-puts (event.Suspend s id) count answer a b tt h
@@ -453,6 +454,7 @@ performs-puts (Repeat (event.Flush s) count) answer a b h is = often-puts (event
 performs-puts (Repeat (event.Tick s now) count) answer a b h is = often-puts (event.Tick s now) count answer a b tt h
 performs-puts (Repeat (event.Deliver s l) count) answer a b h is = often-puts (event.Deliver s l) count answer a b tt h
 performs-puts (Repeat (event.Strike s l) count) answer a b h is = often-puts (event.Strike s l) count answer a b tt h
+performs-puts (Repeat (event.Damage s l octets) count) answer a b h is = often-puts (event.Damage s l octets) count answer a b tt h
 performs-puts (First fate s count) answer a b h is = often-first fate s count answer a b h
 performs-puts (Spread s) answer a b h is =
     done-puts answer a b _ _ h (λ all. row-spreads IsNoPut no-put-settles no-tick s a b all) (λ error ends. row-spread-lacks IsNoPut no-put-settles no-tick s a b (for_memory error _ ends))
