@@ -1,6 +1,9 @@
 //! The frames of one direction, watched.
+use crate::report::condition::CANCELLED;
 use crate::watch::sent::SentFrames;
 use crate::watch::sighting::{Deed, Log};
+use cfdp_directives::{Pdu, Tlvs, decode};
+use cfdp_header::Header;
 use cfdp_station::LinkConfig;
 use link_sim::{FrameLink, FrameLinks, Lane, Mark, Side};
 use link_stack::{LinkDrop, Up};
@@ -25,6 +28,8 @@ pub struct Watch {
     file_data: Counts,
     // Those of both lanes.
     sent: SentFrames,
+    // Whether a PDU told that the station's user cancelled its transaction.
+    has_cancel: bool,
     // What finds the PDUs in the frames that left, and in those that arrived.
     sending: Up,
     hearing: Up,
@@ -44,6 +49,7 @@ impl Watch {
             directives: Counts { sent: 0, taken: 0 },
             file_data: Counts { sent: 0, taken: 0 },
             sent: SentFrames { all: 0, lost: 0 },
+            has_cancel: false,
             sending: Up::new(alloc, link)?,
             hearing: Up::new(alloc, link)?,
         })
@@ -52,6 +58,11 @@ impl Watch {
     /// How many frames were seen to leave, and to be lost.
     pub fn sent(&self) -> SentFrames {
         self.sent
+    }
+
+    /// Whether a PDU that was seen told that the station's user cancelled its transaction.
+    pub fn has_cancel(&self) -> bool {
+        self.has_cancel
     }
 
     /// Notes what became of these frames in one event: any number were sent, and at most one
@@ -101,7 +112,7 @@ impl Watch {
     pub fn leaves(&mut self, lane: Lane, frame: &[u8], log: &mut Log) {
         self.sent.all = self.sent.all.saturating_add(1);
         log.note(self.from, Deed::SendsFrame(lane), frame);
-        note_pdus(
+        self.has_cancel |= note_pdus(
             self.alloc,
             &mut self.sending,
             frame,
@@ -133,7 +144,7 @@ impl Watch {
     fn arrives(&mut self, lane: Lane, frame: &[u8], log: &mut Log) {
         let to = self.from.other();
         log.note(to, Deed::TakesFrame(lane), frame);
-        note_pdus(
+        self.has_cancel |= note_pdus(
             self.alloc,
             &mut self.hearing,
             frame,
@@ -144,15 +155,60 @@ impl Watch {
     }
 }
 
-/// Notes the PDUs that a frame completes.
-fn note_pdus(alloc: Global, up: &mut Up, frame: &[u8], station: Side, deed: Deed, log: &mut Log) {
+/// Notes the PDUs that a frame completes. Answers whether one of them tells that the user of the
+/// station that sent it cancelled its transaction.
+fn note_pdus(
+    alloc: Global,
+    up: &mut Up,
+    frame: &[u8],
+    station: Side,
+    deed: Deed,
+    log: &mut Log,
+) -> bool {
     let mut pdus = Vec::new(alloc);
     let before = up.drops(LinkDrop::NoMemory.number());
     up.receive(frame, &mut pdus);
     if up.drops(LinkDrop::NoMemory.number()) != before {
         log.note_short();
     }
+    let mut has_cancel = false;
     for pdu in &pdus {
         log.note(station, deed, pdu);
+        has_cancel |= tells_cancel(pdu);
+    }
+    has_cancel
+}
+
+/// Whether octets are a PDU that tells that the user of the station that sent it cancelled its
+/// transaction.
+fn tells_cancel(octets: &[u8]) -> bool {
+    match decode(octets) {
+        Ok((header, pdu)) => is_cancel(&header, &pdu),
+        Err(_) => false,
+    }
+}
+
+/// Whether it is an EOF or a Finished with that condition, which names no other entity.
+fn is_cancel(header: &Header, pdu: &Pdu<'_>) -> bool {
+    match pdu {
+        Pdu::Eof {
+            condition,
+            tlvs,
+            ..
+        } => condition.code() == CANCELLED && is_of(tlvs, header.id.source),
+        Pdu::Finished {
+            condition,
+            tlvs,
+            ..
+        } => condition.code() == CANCELLED && is_of(tlvs, header.destination),
+        _ => false,
+    }
+}
+
+/// Whether a fault location is this entity, if there is one.
+fn is_of(tlvs: &Tlvs<'_>, entity: u64) -> bool {
+    match tlvs.fault_location() {
+        Some(location) => location == entity,
+        None => true,
     }
 }
