@@ -82,10 +82,7 @@ pub fn open_value(alloc: Global, it: &Open) -> Result<Value, AllocError>
 pub fn link_value(alloc: Global, link: &LinkStatus) -> Result<Value, AllocError>
     ensures { IfOk result (λ it. view it ≡ link_data link.now) }
 {
-    let (silent, control) = (
-        number(link.silent),
-        number(link.control_field.map(u64::from)),
-    );
+    let (silent, control) = (number(link.silent), number(link.control_field));
     let state = if link.is_frozen { "frozen" } else { "up" };
     json!(in alloc; {
         "carrier": link.carrier,

@@ -210,9 +210,9 @@ td.time { white-space: nowrap; font-variant-numeric: tabular-nums; }
     <dl class="figures">
       <div><dt>sent</dt><dd id="f-sent">-</dd><dd id="r-sent" class="rate"></dd></div>
       <div><dt>received</dt><dd id="f-came">-</dd><dd id="r-came" class="rate"></dd></div>
-      <div><dt>lost on the way</dt><dd id="f-lost">-</dd><dd id="r-lost" class="rate"></dd></div>
+      <div><dt>lost</dt><dd id="f-lost">-</dd><dd id="r-lost" class="rate"></dd></div>
       <div><dt>dropped here</dt><dd id="f-dropped">-</dd></div>
-      <div><dt>file data sent again</dt><dd id="f-again">-</dd></div>
+      <div><dt>sent again</dt><dd id="f-again">-</dd></div>
       <div><dt>files sent</dt><dd id="f-files-sent">-</dd></div>
       <div><dt>files received</dt><dd id="f-files-came">-</dd></div>
       <div><dt>files failed</dt><dd id="f-failed">-</dd></div>
