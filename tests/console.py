@@ -523,7 +523,11 @@ def late_mistakes(program):
     """What is wrong with the times at which frames leave a station while 16 clients ask its console
     all that they can, beside those where they ask its peer's."""
     for how in ("over new connections", "over one connection each"):
-        beside, own = (lateness(program, end, how) for end in (2, 1))
+        try:
+            beside, own = (lateness(program, end, how) for end in (2, 1))
+        except OSError as error:
+            yield f"{how}: {error}"
+            continue
         if own - beside > LATE:
             yield (f"{how}: frames are {own * 1e3:.2f} ms apart, and {beside * 1e3:.2f} ms where "
                    "the peer is asked")

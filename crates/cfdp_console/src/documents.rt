@@ -12,9 +12,9 @@ use cfdp_header::TransactionId;
 use serde_json::{Value, json};
 use std::alloc::{AllocError, Global};
 
-/// The most closed transactions, and the most lines of the log, that an answer has, and after so many
-/// octets of these it has no more of them: so it is made within a millisecond. Who asks for all goes
-/// on behind the last one.
+/// The most closed transactions, and the most lines of the log, that an answer has, and after so
+/// many octets of these it has no more of them: so it is made within a millisecond. Who asks for all
+/// goes on behind the last one.
 const MOST_CLOSED: usize = 50;
 
 const MOST_LINES: usize = 200;

@@ -4,7 +4,7 @@
 /// checksums (SHA-256 of what stands between their tags), and it asks nobody but the console.
 pub const POLICY: &str = "default-src 'none'; connect-src 'self'; img-src data:; \
     style-src 'sha256-ciEet665SB6eacwrvNPd1VaughUFKYuos5DUVB1DfVI='; \
-    script-src 'sha256-/9mRKaYzkEA1UzADlOPnOzwzRmCjxoui0buLW5ugkR8='; \
+    script-src 'sha256-Ik/ybTS4O9twO1yiiiZpEbKtqAT6rJ2CTVegRQYdMgA='; \
     base-uri 'none'; form-action 'none'; frame-ancestors 'none'";
 
 /// The page, in HTML.
@@ -345,7 +345,7 @@ function shows_status() {
   const state = link.state === "frozen" ? "frozen" : is_silent ? "silent" : "up";
   at("state").className = "pill is-" + state;
   writes(at("state"), state === "frozen" ? "frozen by plan" : state === "silent"
-    ? "nothing is heard" : "link up");
+    ? "link up, peer silent" : "link up");
   writes(at("heard"), link.silent === null ? "" : "heard " + link.silent + " s ago");
   writes(at("clock"), clock(status.time) + " UTC");
   writes(at("route"), link.carrier + " to " + link.to);
