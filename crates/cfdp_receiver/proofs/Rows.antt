@@ -39,6 +39,7 @@ a = record {
   destination = 2;
   id_width = 2;
   number_width = 4;
+  crc = false;
 }
 
 -- a receiver that has heard nothing yet

@@ -8,7 +8,7 @@ use Rattle.cfdp_receiver.specs.declared.due.Due.{Due}
 use Rattle.cfdp_receiver.specs.State.{ReceiverState}
 use Rattle.cfdp_receiver.specs.Due.{receiver_says}
 
--- octets of it, its header too
+-- octets of it, its header and its CRC too
 abbrev pub said_len : ReceiverState → Due → ℕ
 said_len r d = written_len r.addressing r.large (receiver_says r d)
 
@@ -26,7 +26,7 @@ pub record IsLenOf (r : ReceiverState) (d : Due) (octets : ℕ) : Type 0 where
 pub record Says (r : ReceiverState) (d : Due) (v : Content) : Type 0 where
   pub says : v ≡ receiver_says r d
   pub fits : FitsContent (file_size_octets r.large) v
-  pub short : content_len (file_size_octets r.large) v ≤ 4100
+  pub short : content_len (file_size_octets r.large) v ≤ 4098
 
 -- So many octets were written, those of this PDU, and the octets behind stay.
 pub record Writes (r : ReceiverState) (d : Due) (octets : ℕ) (out_before out_now : List ℕ)

@@ -25,7 +25,7 @@ use cfdp_header::Header;
 use cfdp_timers::{Effects, Kind};
 
 impl Receiver {
-    /// Octets of the PDU that is due, its header too; `None` where none is, as while the
+    /// Octets of the PDU that is due, its header and its CRC too; `None` where none is, as while the
     /// transaction is suspended. What is due can be written, and has 4,128 octets at the most.
     /// Takes no memory.
     pub fn due(&self) -> Option<usize>
@@ -114,7 +114,7 @@ impl Receiver {
         }
     }
 
-    /// Octets of the PDU, its header too.
+    /// Octets of the PDU, its header and its CRC too.
     fn len_of(&self, due: &Due) -> usize
         requires { IsWritableIn self.now due.now }
         ensures { IsLenOf self.now due.now result }
@@ -131,7 +131,7 @@ impl Receiver {
         }
     }
 
-    /// Octets of a NAK from an offset on, its header too: what it asks for is counted here, and
+    /// Octets of a NAK from an offset on, its header and its CRC too: what it asks for is counted here, and
     /// gathered once it is written.
     #[tactic(auto, using(crate::proofs::AskedLemmas::nak_fits))]
     fn len_of_nak(&self, cursor: u64) -> usize
@@ -140,8 +140,9 @@ impl Receiver {
     {
         let gaps = self.held.missing_in(cursor, self.scope_limit());
         let pairs = count_asked(self.asks_for_metadata(cursor), gaps);
-        Header::len_in_widths(self.addressing.id_width, self.addressing.number_width)
-            + nak_len(self.large, pairs)
+        let widths = (self.addressing.id_width, self.addressing.number_width);
+        let around = Header::len_in_widths(widths.0, widths.1) + self.addressing.crc_len();
+        around + nak_len(self.large, pairs)
     }
 
     /// Writes the PDU, and goes on behind it.

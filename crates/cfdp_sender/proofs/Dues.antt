@@ -14,12 +14,12 @@ use Rattle.cfdp_extents.specs.Terms.{front_of}
 use Rattle.cfdp_extents.proofs.CallerLemmas.{contains-range, front-is}
 use Rattle.std.specs.Option.{option_map}
 use Rattle.cfdp_directives.specs.Pdu.Content.{Content}
-use Rattle.cfdp_directives.specs.Pdu.Addressing.{header_of, written_len}
+use Rattle.cfdp_directives.specs.Pdu.Addressing.{header_of, data_field_len, written_len}
 use Rattle.cfdp_directives.specs.Pdu.Codes.{file_size_octets, is_large, IsCondition}
 use Rattle.cfdp_directives.proofs.FileSizes.{own_fits, octets_most}
 use Rattle.cfdp_directives.specs.Pdu.Tlv.{tlv, fault_location}
 use Rattle.cfdp_directives.specs.Pdu.Written.{content_len, FitsContent, CanWrite}
-use Rattle.cfdp_directives.proofs.Addressed.{can_write}
+use Rattle.cfdp_directives.proofs.Addressed.{can_write, crc_short}
 use Rattle.cfdp_sender.specs.declared.phase.SenderPhase.{SenderPhase}
 use Rattle.cfdp_sender.specs.declared.phase.SenderPhase.TheVariants.{Sending, Cancelling, Closed}
 use Rattle.cfdp_sender.specs.declared.due.SenderDue.{SenderDue}
@@ -130,38 +130,38 @@ told-fits x s = s.sums x.checksum_kind
 
 -- each number fits its field, and the data field is short
 abbrev pub Fits : SenderState → SenderDue → List ℕ → Type 0
-Fits x d bytes = FitsContent (file_size_octets (is_large x.size)) (pdu_says bytes x d) × (content_len (file_size_octets (is_large x.size)) (pdu_says bytes x d) < 2 ^ 16)
+Fits x d bytes = FitsContent (file_size_octets (is_large x.size)) (pdu_says bytes x d) × (data_field_len x.addressing (is_large x.size) (pdu_says bytes x d) < 2 ^ 16)
 
 -- each offset of the file and its size fit their fields
 pub below-fits : (x : SenderState) (n : ℕ) → IsSender x → n ≤ x.size → n < 256 ^ file_size_octets (is_large x.size)
 below-fits x n s low = omega (arith, low, own_fits x.size s.transfer.size)
 
 eof-fits : (x : SenderState) (p : SenderPhase) → IsSender x →
-    FitsContent (file_size_octets (is_large x.size)) (eof_says p x) × (content_len (file_size_octets (is_large x.size)) (eof_says p x) < 2 ^ 16)
-eof-fits x Sending s = (((lit< tt, refl), told-fits x s, below-fits x x.size s (omega arith)), omega (arith, octets_most (is_large x.size)))
+    FitsContent (file_size_octets (is_large x.size)) (eof_says p x) × (data_field_len x.addressing (is_large x.size) (eof_says p x) < 2 ^ 16)
+eof-fits x Sending s = (((lit< tt, refl), told-fits x s, below-fits x x.size s (omega arith)), omega (arith, octets_most (is_large x.size), crc_short x.addressing.crc))
 eof-fits x Cancelling s = (
   (s.condition, told-fits x s, below-fits x x.sent s s.sent),
   let len = location-len x.addressing.id.source x.addressing.id_width in
-      omega (arith, len, octets_most (is_large x.size), s.transfer.addressing.id.id_width.1),
+      omega (arith, len, octets_most (is_large x.size), crc_short x.addressing.crc, s.transfer.addressing.id.id_width.1),
 )
 eof-fits x Closed s = (
   (s.condition, told-fits x s, below-fits x x.sent s s.sent),
   let len = location-len x.addressing.id.source x.addressing.id_width in
-      omega (arith, len, octets_most (is_large x.size), s.transfer.addressing.id.id_width.1),
+      omega (arith, len, octets_most (is_large x.size), crc_short x.addressing.crc, s.transfer.addressing.id.id_width.1),
 )
 
 pub due-fits : (x : SenderState) (d : SenderDue) (bytes : List ℕ) → IsSender x → IsDue x d → length bytes ≤ 4096 → Fits x d bytes
-due-fits x (due.AckOfFinished condition) bytes s is le = (subst (λ o. IfSome o IsCondition) is s.ack, lit< tt)
-due-fits x (due.Prompt keep_alive) bytes s is le = (tt, lit< tt)
+due-fits x (due.AckOfFinished condition) bytes s is le = (subst (λ o. IfSome o IsCondition) is s.ack, omega (arith, crc_short x.addressing.crc))
+due-fits x (due.Prompt keep_alive) bytes s is le = (tt, omega (arith, crc_short x.addressing.crc))
 due-fits x due.Metadata bytes s is le = (
   (s.transfer.kind, below-fits x x.size s (omega arith), omega (arith, s.transfer.source.1), omega (arith, s.transfer.destination.1)),
-  omega (arith, octets_most (is_large x.size), s.transfer.source.1, s.transfer.destination.1),
+  omega (arith, octets_most (is_large x.size), crc_short x.addressing.crc, s.transfer.source.1, s.transfer.destination.1),
 )
 due-fits x (due.AskedData start end) bytes s is le =
     let part = asked-segment x start end s is in
-    (below-fits x start s (omega (arith, part.some, part.within)), omega (arith, octets_most (is_large x.size), le))
+    (below-fits x start s (omega (arith, part.some, part.within)), omega (arith, octets_most (is_large x.size), crc_short x.addressing.crc, le))
 due-fits x (due.NewData start end) bytes s is le =
-    (below-fits x start s (omega (arith, is.0, is.1)), omega (arith, octets_most (is_large x.size), le))
+    (below-fits x start s (omega (arith, is.0, is.1)), omega (arith, octets_most (is_large x.size), crc_short x.addressing.crc, le))
 due-fits x due.Eof bytes s is le = eof-fits x x.phase s
 
 -- what is due can be written

@@ -36,7 +36,7 @@ abbrev id : TransactionId
 id = record { source = 1; number = 1 }
 
 abbrev addressing : Addressing
-addressing = record { id = id; destination = 2; id_width = 2; number_width = 4 }
+addressing = record { id = id; destination = 2; id_width = 2; number_width = 4; crc = false }
 
 -- `hello`, put from `a` to `b` in segments of 4 octets
 abbrev transfer : Transfer

@@ -30,12 +30,12 @@ pub enum SenderDue {
 }
 
 impl Sender {
-    /// Octets of the PDU that is due, its header too: of what `take_pdu` would write now. `None`
+    /// Octets of the PDU that is due, its header and its CRC too: of what `take_pdu` would write now. `None`
     /// where none is due, as of a suspended transaction. Whatever the file holds, its size alone
-    /// counts. What is due can be written, and has 4,132 octets at the most.
+    /// counts. What is due can be written, and has 4,134 octets at the most.
     pub fn due(&self) -> Option<usize>
         ensures some { is_some result ≡ is_some (sender_due self.now) }
-        ensures short { IfSome result (λ len. len ≤ 4132) }
+        ensures short { IfSome result (λ len. len ≤ 4134) }
         ensures can_write { (file : List ℕ) → IfSome (sender_due self.now)
             (λ d. let v = sender_says file self.now d in
             CanWrite (header_of self.now.addressing (codes.is_large self.now.size) v) v) }

@@ -3,6 +3,7 @@ ghost use Rattle.std.specs.Prelude.{◌≡◌, ◌+◌, ◌≤◌, ◌++◌, [],
 ghost use Rattle.std.specs.Prelude.{vec_capacity, true, IfOk, IfSome, OnErr, OnOk, IsSome, Some};
 ghost use Rattle.std.specs.Prelude.{is_ok, false};
 ghost use Rattle.std.specs.FinMap as map;
+ghost use Rattle.cfdp_header.specs.Crc.{crc_len};
 ghost use Rattle.cfdp_directives.specs.Pdu.Addressing.{written_len, data_front_len};
 ghost use Rattle.cfdp_directives.specs.Pdu.Codes as codes;
 ghost use Rattle.cfdp_directives.specs.Pdu.Content.{FileData};
@@ -75,9 +76,17 @@ impl Sender {
             }
         };
         let (_, carried) = self.extent(&due);
-        let anew = self.note_sent(&due, &out[len - carried..len], &mut effects.told);
+        let end = len - self.crc_len();
+        let anew = self.note_sent(&due, &out[end - carried..end], &mut effects.told);
         self.set_timers(anew, &mut effects.timers, &policy.times);
         Taken::Moved(len)
+    }
+
+    // Octets of the CRC of each PDU.
+    fn crc_len(&self) -> usize
+        ensures { result ≡ crc_len self.now.addressing.crc }
+    {
+        self.addressing.crc_len()
     }
 
     // Writes the PDU that is due.
@@ -119,7 +128,8 @@ impl Sender {
         }
     }
 
-    // Writes a PDU with octets of the file, which the outbox puts right where they belong.
+    // Writes a PDU with octets of the file, which the outbox puts right where they belong, and its
+    // CRC.
     fn write_data<O: Outbox>(
         &self,
         outbox: &mut O,
@@ -132,7 +142,7 @@ impl Sender {
         requires within { start + count ≤ self.now.size }
         requires short { count ≤ 4096 }
         requires room { data_front_len self.now.addressing (codes.is_large self.now.size) + count
-            ≤ length out.old }
+            + crc_len self.now.addressing.crc ≤ length out.old }
         ensures written { let file = octets_in (O.files outbox.new) self.now.source in
             IfOk result (λ len. Writes (codes.is_large self.now.size) self.now.addressing
             (FileData start (take count (drop start file))) len out.old out.new) }
@@ -147,7 +157,7 @@ impl Sender {
         let large = self.is_large();
         let at = self.addressing.write_data_front(large, start, count, out);
         read_to(outbox, self.names.source(), start, out, at, count)?;
-        Ok(at + count)
+        Ok(self.addressing.write_crc(at + count, out))
     }
 
     // The outbox failed to give the data that are due.

@@ -4,21 +4,24 @@ ghost use Rattle.cfdp_header.specs.declared.value.Direction.TheVariants.{TowardR
 ghost use Rattle.cfdp_header.specs.declared.value.Direction.TheVariants.{TowardSender};
 ghost use Rattle.cfdp_directives.specs.declared.pdu.addressing.Addressing.{Addressing};
 ghost use Rattle.cfdp_directives.specs.Pdu.Content.{Content, FileData, view};
-ghost use Rattle.cfdp_directives.specs.Pdu.Written.{content_len, FitsContent, CanWrite, pdu_octets};
+ghost use Rattle.cfdp_header.specs.Crc.{crc_len, with_crc};
+ghost use Rattle.cfdp_header.specs.Header.{header_len};
+ghost use Rattle.cfdp_directives.specs.Pdu.Written.{FitsContent, CanWrite, pdu_octets};
 ghost use Rattle.cfdp_directives.specs.Pdu.Codes.{file_size_octets};
 ghost use Rattle.cfdp_directives.specs.Pdu.Direction as directions;
 ghost use Rattle.cfdp_directives.specs.Pdu.Direction.{direction_of};
 ghost use Rattle.cfdp_directives.specs.Pdu.Addressing as addressings;
-ghost use Rattle.cfdp_directives.specs.Pdu.Addressing.{addressing_of, FitsAddressing};
+ghost use Rattle.cfdp_directives.specs.Pdu.Addressing.{addressing_of, data_field_len};
+ghost use Rattle.cfdp_directives.specs.Pdu.Addressing.{FitsAddressing};
 
 use crate::pdu::content::Pdu;
 use crate::pdu::file_size::{file_size_octets, put_file_size};
-use crate::pdu::writing::encode;
+use crate::pdu::writing::{CRC_LEN, encode, put_crc_if};
 use cfdp_header::{Direction, Header, PduType, TransactionId, fits_width};
 
 /// What the headers of a transaction's PDUs have in common: the two entities, the transaction's
-/// number, and how wide they are written (CCSDS 727.0-B-5, table 5-1). It makes the header of each
-/// PDU, and writes PDUs.
+/// number, how wide they are written, and whether a CRC stands behind (CCSDS 727.0-B-5, table 5-1).
+/// It makes the header of each PDU, and writes PDUs.
 #[derive(Clone, Copy, Debug, PartialEq, Eq)]
 pub struct Addressing {
     /// The transaction. Its source is the file's sender.
@@ -29,10 +32,13 @@ pub struct Addressing {
     pub id_width: u8,
     /// Octets of a sequence number: 1 to 8.
     pub number_width: u8,
+    /// The CRC flag: whether each PDU ends in a CRC (CCSDS 727.0-B-5, 4.1).
+    pub crc: bool,
 }
 
 impl Addressing {
-    /// Takes them from the header of a PDU that was heard, as for an answer in the same widths.
+    /// Takes them from the header of a PDU that was heard, as for an answer in the same widths, with
+    /// a CRC where that PDU has one.
     pub fn of(header: &Header) -> Addressing
         ensures { result ≡ addressing_of header.now }
     {
@@ -41,6 +47,7 @@ impl Addressing {
             destination: header.destination,
             id_width: header.id_width,
             number_width: header.number_width,
+            crc: header.crc,
         }
     }
 
@@ -54,18 +61,22 @@ impl Addressing {
             && fits_width(self.destination, self.id_width)
     }
 
-    /// The header of a PDU without a CRC, with this large file flag. Its data field has 65,535
-    /// octets at the most.
+    /// The header of a PDU with this large file flag. Its data field has 65,535 octets at the most,
+    /// a CRC among them.
     pub fn header_of(&self, large: bool, pdu: &Pdu<'_>) -> Header
-        requires { content_len (file_size_octets large) (view pdu.now) < 2 ^ 16 }
+        requires { data_field_len self.now large (view pdu.now) < 2 ^ 16 }
         ensures { result ≡ addressings.header_of self.now large (view pdu.now) }
     {
-        self.header(
-            large,
-            pdu.pdu_type(),
-            pdu.direction(),
-            pdu.len(large) as u16,
-        )
+        let length = (pdu.len(large) + self.crc_len()) as u16;
+        self.header(large, pdu.pdu_type(), pdu.direction(), length)
+    }
+
+    /// Octets of the CRC at the end of each PDU: 2, or 0 where there is none.
+    pub fn crc_len(&self) -> usize
+        ensures len { result ≡ crc_len self.now.crc }
+        ensures short { result ≤ 2 }
+    {
+        if self.crc { CRC_LEN } else { 0 }
     }
 
     fn header(&self, large: bool, pdu_type: PduType, direction: Direction, length: u16) -> Header
@@ -74,7 +85,7 @@ impl Addressing {
         Header {
             pdu_type,
             direction,
-            crc: false,
+            crc: self.crc,
             large,
             length,
             segment_metadata: false,
@@ -85,12 +96,19 @@ impl Addressing {
         }
     }
 
-    /// Octets of the whole PDU as `write_pdu` writes it, its header too.
+    /// Octets of the whole PDU as `write_pdu` writes it, its header and its CRC too.
     pub fn written_len(&self, large: bool, pdu: &Pdu<'_>) -> usize
-        requires { content_len (file_size_octets large) (view pdu.now) < 2 ^ 16 }
+        requires { data_field_len self.now large (view pdu.now) < 2 ^ 16 }
         ensures { result ≡ addressings.written_len self.now large (view pdu.now) }
     {
-        Header::len_in_widths(self.id_width, self.number_width) + pdu.len(large)
+        self.front_len() + pdu.len(large) + self.crc_len()
+    }
+
+    // Octets of each header.
+    fn front_len(&self) -> usize
+        ensures { result ≡ header_len self.now.id_width self.now.number_width }
+    {
+        Header::len_in_widths(self.id_width, self.number_width)
     }
 
     /// Writes a PDU with its header into the first octets of `out`, and says how many they are. The
@@ -99,7 +117,7 @@ impl Addressing {
     pub fn write_pdu(&self, large: bool, pdu: &Pdu<'_>, out: &mut [u8]) -> usize
         requires addressing { FitsAddressing self.now }
         requires content { FitsContent (file_size_octets large) (view pdu.now) }
-        requires short { content_len (file_size_octets large) (view pdu.now) < 2 ^ 16 }
+        requires short { data_field_len self.now large (view pdu.now) < 2 ^ 16 }
         requires room { addressings.written_len self.now large (view pdu.now) ≤ length out.old }
         ensures end { result ≡ addressings.written_len self.now large (view pdu.now) }
         ensures front { let v = view pdu.now in take result out.new
@@ -110,25 +128,37 @@ impl Addressing {
         encode(&header, pdu, out)
     }
 
-    /// Writes a file data PDU but for its data, `count` octets, into the first octets of `out`, and
-    /// says how many it wrote: there the data go, which then make the PDU whole. The octets behind
-    /// stay. Takes no memory.
+    /// Writes a file data PDU but for its data, `count` octets, and its CRC into the first octets of
+    /// `out`, and says how many it wrote: there the data go, and behind them the CRC (`write_crc`).
+    /// The octets behind stay. Takes no memory.
     #[tactic(auto, using(crate::proofs::Addressed::header_fits))]
     pub fn write_data_front(&self, large: bool, offset: u64, count: usize, out: &mut [u8]) -> usize
         requires addressing { FitsAddressing self.now }
         requires offset { offset < 256 ^ file_size_octets large }
-        requires short { file_size_octets large + count < 2 ^ 16 }
+        requires short { file_size_octets large + count + crc_len self.now.crc < 2 ^ 16 }
         requires room { addressings.data_front_len self.now large ≤ length out.old }
         ensures end { result ≡ addressings.data_front_len self.now large }
         ensures front { (octets : List ℕ) → length octets ≡ count →
             let v = FileData offset octets in
-            take result out.new ++ octets ≡ pdu_octets (addressings.header_of self.now large v) v }
+            let h = addressings.header_of self.now large v in
+            with_crc self.now.crc (take result out.new ++ octets) ≡ pdu_octets h v }
         ensures behind { drop result out.new ≡ drop result out.old }
     {
-        let length = (file_size_octets(large) + count) as u16;
+        let length = (file_size_octets(large) + count + self.crc_len()) as u16;
         let header = self.header(large, PduType::FileData, Direction::TowardReceiver, length);
         let at = cfdp_header::encode(&header, out);
         put_file_size(out, at, large, offset)
+    }
+
+    /// Ends a PDU whose other octets are the first `at` of `out`: writes its CRC behind them, where
+    /// it has one, and says how many octets the PDU has. The octets behind stay.
+    pub fn write_crc(&self, at: usize, out: &mut [u8]) -> usize
+        requires { at + crc_len self.now.crc ≤ length out.old }
+        ensures end { result ≡ at + crc_len self.now.crc }
+        ensures front { take result out.new ≡ with_crc self.now.crc (take at out.old) }
+        ensures behind { drop result out.new ≡ drop result out.old }
+    {
+        put_crc_if(self.crc, out, at)
     }
 }
 
@@ -138,7 +168,7 @@ impl Addressing {
 pub fn addressed_pdu_can_be_written()
     ensures { (a : Addressing) (large : Bool) (v : Content) → FitsAddressing a
         → FitsContent (file_size_octets large) v
-        → content_len (file_size_octets large) v < 2 ^ 16
+        → data_field_len a large v < 2 ^ 16
         → CanWrite (addressings.header_of a large v) v }
 {}
 

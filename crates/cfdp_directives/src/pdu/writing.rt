@@ -21,7 +21,7 @@ use cfdp_header::Header;
 use crc::crc16;
 
 // Octets of the CRC of a PDU.
-const CRC_LEN: usize = 2;
+pub(crate) const CRC_LEN: usize = 2;
 
 #[tactic(auto, using(crate::proofs::Spelling::one_octet))]
 fn put_lv(out: &mut [u8], at: usize, value: &[u8]) -> usize
@@ -241,14 +241,27 @@ fn put_data_field(out: &mut [u8], at: usize, header: &Header, pdu: &Pdu<'_>) -> 
         (take at out.old ++ content_octets (fss header.now) (view pdu.now)) }
 {
     let end = put_content(out, at, header.large, pdu);
-    if header.crc { put_crc(out, end) } else { end }
+    put_crc_if(header.crc, out, end)
 }
 
-/// Writes the CRC of the first `at` octets behind them, and says where it ends.
+/// Writes the CRC of the first `at` octets behind them, where there is to be one, and says where
+/// the PDU ends. The octets behind stay.
+pub(crate) fn put_crc_if(crc: bool, out: &mut [u8], at: usize) -> usize
+    requires { at + crc_len crc ≤ length out.old }
+    ensures end { result ≡ at + crc_len crc }
+    ensures front { take result out.new ≡ with_crc crc (take at out.old) }
+    ensures behind { drop result out.new ≡ drop result out.old }
+{
+    if crc { put_crc(out, at) } else { at }
+}
+
+/// Writes the CRC of the first `at` octets behind them, and says where it ends. The octets behind
+/// stay.
 fn put_crc(out: &mut [u8], at: usize) -> usize
     requires { at + 2 ≤ length out.old }
     ensures end { result ≡ at + 2 }
     ensures front { take result out.new ≡ with_crc true (take at out.old) }
+    ensures behind { drop result out.new ≡ drop result out.old }
 {
     let (covered, _) = out.split_at(at);
     let check = crc16(covered);

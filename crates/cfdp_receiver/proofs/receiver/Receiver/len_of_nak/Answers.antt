@@ -1,4 +1,5 @@
 use Rattle.std.proofs.Common.{◌≡◌, ℕ, ◌+◌, ◌≤◌, List, length, sym, ap, subst, ◌∙◌, arith}
+use Rattle.cfdp_header.specs.Crc.{crc_len}
 use Rattle.cfdp_header.specs.Header.{header_len}
 use Rattle.cfdp_directives.specs.declared.pdu.addressing.Addressing.{Addressing}
 use Rattle.cfdp_directives.specs.Pdu.Addressing.{FitsAddressing}
@@ -34,28 +35,30 @@ few c =
     nak_short c.args.self.now.large c.args.cursor 0 (asked (missing_pairs c.args.cursor c.args.self.now)) (omega (arith, counted c, some)) in
     omega (arith, short, says c)
 
-short : (c : goal.After-nak_len) → c.len_in_widths.result + c.nak_len.result ≤ 4128
-short c =
+around-few : (c : goal.After-nak_len) → c.len_in_widths.result ≤ 28
+around-few c =
     let a : Addressing = c.self.inside.addressing in
     let id : a.id_width ≤ 8 = c.self.invariant.addressing_fits.id.id_width.1 in
     let number : a.number_width ≤ 8 = c.self.invariant.addressing_fits.id.number_width.1 in
     let header : c.len_in_widths.result ≡ header_len a.id_width a.number_width = c.len_in_widths.ensures in
-    omega (arith, id, number, header, few c)
+    omega (arith, id, number, header)
 
 pub overflow_add-result : goal.overflow_add-result
-overflow_add-result c = let low = short c in omega (arith, low)
+overflow_add-result c = omega (arith, around-few c, few c, c.crc_len.ensures.short)
 
 pub returns : goal.returns
 returns c =
-    let header : c.len_in_widths.result ≡ header_len c.args.self.now.addressing.id_width c.args.self.now.addressing.number_width = c.len_in_widths.ensures
+    let a : Addressing = c.args.self.now.addressing in
+    let header : c.len_in_widths.result ≡ header_len a.id_width a.number_width = c.len_in_widths.ensures
     ∙ ap (λ (r : ReceiverState). header_len r.addressing.id_width r.addressing.number_width) c.self.view_is in
+    let check : c.crc_len.result ≡ crc_len a.crc = c.crc_len.ensures.len ∙ ap (λ (r : ReceiverState). crc_len r.addressing.crc) c.self.view_is in
     let it : Content = receiver_says c.args.self.now (due_is.Nak c.args.cursor) in
     let addressing = subst (λ (r : ReceiverState). FitsAddressing r.addressing) c.self.view_is c.self.invariant.addressing_fits in
     record {
-      len = omega (arith, header, says c);
-      short = short c;
-      can_write = can_write c.args.self.now.addressing c.args.self.now.large it addressing
+      len = omega (arith, header, check, says c);
+      short = omega (arith, around-few c, few c, c.crc_len.ensures.short);
+      can_write = can_write a c.args.self.now.large it addressing
           (nak_fits c.args.self.now c.args.cursor c.scope_limit.result c.missing_in-gaps.result c.scope_limit.ensures.value (gaps c) c.missing_in-gaps.ensures.inside c.requires.1
           (c.scope_limit.ensures.fits c.requires.0))
-          (omega (arith, few c, says c));
+          (omega (arith, few c, says c, check, c.crc_len.ensures.short));
     }

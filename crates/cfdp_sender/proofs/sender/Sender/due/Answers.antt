@@ -3,6 +3,7 @@ use Rattle.cfdp_directives.specs.Pdu.Content.{view}
 use Rattle.cfdp_directives.specs.Pdu.Codes.{is_large, file_size_octets}
 use Rattle.cfdp_directives.specs.Pdu.Written.{content_len, CanWrite}
 use Rattle.cfdp_directives.specs.Pdu.Addressing.{header_of, written_len}
+use Rattle.cfdp_directives.proofs.Addressed.{crc_short}
 use Rattle.cfdp_sender.specs.declared.due.SenderDue.{SenderDue}
 use Rattle.cfdp_sender.specs.State.{SenderState, IsSender}
 use Rattle.cfdp_sender.specs.Due.{sender_due, sender_says}
@@ -13,7 +14,8 @@ pub written_len-requires : goal.written_len-requires
 written_len-requires c =
     let s : IsSender c.args.self.now = subst IsSender c.self.view_is c.self.invariant.sender in
     let is : sender_due c.args.self.now ≡ Some c.in_ok-due.due = sym c.in_ok-due.ensures in
-    rw (c.says.ensures, c.is_large-large.ensures) (fits-short c.args.self.now c.in_ok-due.due [] s is (omega arith)).1
+    let own = ap (λ (x : SenderState). x.addressing) c.self.view_is in
+    rw (c.says.ensures, c.is_large-large.ensures, own) (fits-short c.args.self.now c.in_ok-due.due [] s is (omega arith)).1
 
 pub overflow_add-result : goal.overflow_add-result
 overflow_add-result c =
@@ -22,7 +24,7 @@ overflow_add-result c =
     let fits = (fits-short c.args.self.now c.in_ok-due.due [] s is (omega arith)).1 in
     let content = ap (λ b. content_len (file_size_octets b) (view c.says.result)) c.is_large-large.ensures ∙ ap (content_len (file_size_octets (is_large c.args.self.now.size))) c.says.ensures in
     let widths = c.self.invariant.sender.transfer.addressing.id in
-    omega (arith, c.written_len.ensures, content, fits, widths.id_width.1, widths.number_width.1, c.extent-carried.ensures.short)
+    omega (arith, c.written_len.ensures, content, fits, widths.id_width.1, widths.number_width.1, crc_short c.self.inside.addressing.crc, c.extent-carried.ensures.short)
 
 pub returns-clause-short : goal.returns-clause-short
 returns-clause-short c =
@@ -30,7 +32,7 @@ returns-clause-short c =
     let short = content-short c.args.self.now c.in_ok-due.due _ s c.extent-carried.ensures.short c.extent-carried.ensures.some in
     let content = ap (λ b. content_len (file_size_octets b) (view c.says.result)) c.is_large-large.ensures ∙ ap (content_len (file_size_octets (is_large c.args.self.now.size))) c.says.ensures in
     let widths = c.self.invariant.sender.transfer.addressing.id in
-    omega (arith, c.written_len.ensures, content, short, widths.id_width.1, widths.number_width.1)
+    omega (arith, c.written_len.ensures, content, short, widths.id_width.1, widths.number_width.1, crc_short c.self.inside.addressing.crc)
 
 pub returns-clause-can_write : goal.returns-clause-can_write
 returns-clause-can_write c = λ file.

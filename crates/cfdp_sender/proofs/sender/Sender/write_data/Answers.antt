@@ -19,12 +19,13 @@ returns-clause-written g c =
     let put = subst (λ (n : List ℕ). take (c.write_data_front-at.result + c.args.count) c.read_to.new.out ≡ take c.write_data_front-at.result c.write_data_front-at.new.out
     ++ take c.args.count (drop c.args.start (octets_in (g.O.Outbox.files c.read_to.new.outbox) n))) name c.in_ok-read_to.ensures.front in
     let bytes = take c.args.count (drop c.args.start file) in
-    let end = c.write_data_front-at.result + c.args.count in
-    subst (λ b. Writes b c.args.self.now.addressing (FileData c.args.start bytes) end c.args.out.now c.read_to.new.out) c.is_large-large.ensures
-    (subst (λ (x : SenderState). Writes c.is_large-large.result x.addressing (FileData c.args.start bytes) end c.args.out.now c.read_to.new.out) c.self.view_is
-    (data-writes c.is_large-large.result c.self.inside.addressing c.args.start c.args.count c.write_data_front-at.result file c.args.out.now c.write_data_front-at.new.out c.read_to.new.out
+    let end = c.write_crc.result in
+    let new = c.write_crc.new.out in
+    subst (λ b. Writes b c.args.self.now.addressing (FileData c.args.start bytes) end c.args.out.now new) c.is_large-large.ensures
+    (subst (λ (x : SenderState). Writes c.is_large-large.result x.addressing (FileData c.args.start bytes) end c.args.out.now new) c.self.view_is
+    (data-writes c.is_large-large.result c.self.inside.addressing c.args.start c.args.count c.write_data_front-at.result end file c.args.out.now c.write_data_front-at.new.out c.read_to.new.out new
     (omega (arith, c.requires.within, (has-reread c.args.self.now.source c.args.self.now.size c.in_ok-read_to.ensures.rereads c.requires.file).whole)) c.write_data_front-at.ensures.end c.write_data_front-at.ensures.front c.write_data_front-at.ensures.behind put
-    c.in_ok-read_to.ensures.behind))
+    c.in_ok-read_to.ensures.behind c.write_crc.ensures.end c.write_crc.ensures.front c.write_crc.ensures.behind))
 
 pub write_data_front-at-requires-clause-offset : goal.write_data_front-at-requires-clause-offset
 write_data_front-at-requires-clause-offset g c =

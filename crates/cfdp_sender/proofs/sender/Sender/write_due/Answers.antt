@@ -2,7 +2,7 @@ use Rattle.std.proofs.Common.{◌≡◌, [], IfOk, sym, ap, subst, ◌∙◌, ar
 use Rattle.cfdp_directives.specs.Pdu.Codes.{is_large}
 use Rattle.cfdp_directives.specs.Pdu.Content.{FileData}
 use Rattle.cfdp_store.specs.Files.{octets_in}
-use Rattle.cfdp_sender.specs.State.{IsSender}
+use Rattle.cfdp_sender.specs.State.{SenderState, IsSender}
 use Rattle.cfdp_sender.specs.Due.{carried, sender_says}
 use Rattle.cfdp_sender.specs.Does.{Writes}
 use Rattle.cfdp_sender.proofs.Dues.{carries-data, fits-short}
@@ -11,7 +11,8 @@ use Rattle.cfdp_sender.proofs.sender.Sender.write_due.Goals as goal
 pub write_pdu-requires-clause-short : goal.write_pdu-requires-clause-short
 write_pdu-requires-clause-short g c =
     let s : IsSender c.args.self.now = subst IsSender c.self.view_is c.self.invariant.sender in
-    rw (c.says.ensures, c.is_large-large.ensures) (fits-short c.args.self.now c.args.due.now [] s c.requires.due (omega arith)).1
+    let own = ap (λ (x : SenderState). x.addressing) c.self.view_is in
+    rw (c.says.ensures, c.is_large-large.ensures, own) (fits-short c.args.self.now c.args.due.now [] s c.requires.due (omega arith)).1
 
 pub returns-in-AskedData-clause-written : goal.returns-in-AskedData-clause-written
 returns-in-AskedData-clause-written g c =
