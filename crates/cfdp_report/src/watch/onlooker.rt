@@ -1,5 +1,6 @@
 //! One who looks on at a run: at a script's, or at turns over two wires.
 
+use crate::dump::shape::FrameShapes;
 use crate::report::condition::Conditions;
 use crate::watch::dropped::Dropped;
 use crate::watch::frames::Watch;
@@ -163,7 +164,7 @@ impl<'a> Seen<'a> {
             conditions: Conditions::new(),
             one: SeenStation::new(Side::One, one),
             two: SeenStation::new(Side::Two, two),
-            recorder: Recorder::new(screen, shown, config.one.sends.zone),
+            recorder: Recorder::new(screen, shown, FrameShapes::of(&config)),
         })
     }
 
