@@ -1,7 +1,7 @@
 //! One who looks on at a run: at a script's, or at turns over two wires.
 
 use crate::dump::shape::FrameShapes;
-use crate::report::condition::Conditions;
+use crate::report::condition::{Cancels, Conditions};
 use crate::watch::dropped::Dropped;
 use crate::watch::frames::Watch;
 use crate::watch::recorder::{Recorder, Screen, Showing};
@@ -104,6 +104,8 @@ impl Onlooker<'_> {
 pub struct Summary {
     /// Which conditions the stations told their users.
     pub conditions: Conditions,
+    /// Of which stations the users cancelled transactions, as their PDUs tell it.
+    pub cancels: Cancels,
     /// What either station sent and dropped.
     pub one: StationSummary,
     pub two: StationSummary,
@@ -177,8 +179,13 @@ impl<'a> Seen<'a> {
             one,
             two,
         } = self;
+        let cancels = Cancels {
+            one: one.frames.has_cancel(),
+            two: two.frames.has_cancel(),
+        };
         Summary {
             conditions,
+            cancels,
             one: one.into_summary(),
             two: two.into_summary(),
             showing: recorder.ends(),
