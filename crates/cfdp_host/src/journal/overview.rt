@@ -7,7 +7,8 @@ use crate::journal::totals::Totals;
 use cfdp_console::Way;
 use cfdp_header::TransactionId;
 use cfdp_report::Name;
-use cfdp_station::{EntityDrop, LinkDrop, Phase, SentPdus, Station, Timer};
+use cfdp_script::parse_id;
+use cfdp_station::{EntityDrop, FrameError, LinkDrop, Phase, Station, Timer};
 use cfdp_store::{Inbox, Outbox};
 use std::alloc::{AllocError, Global};
 use std::fmt;
@@ -148,6 +149,31 @@ pub fn shown_open<O: Outbox, I: Inbox>(
     for (id, phase) in open_ids(alloc, station)?.iter().take(MOST_SHOWN) {
         let open = open_at(station, *id, *phase, now);
         shown.push(shown_one(alloc, own, open, register.get(*id))?)?;
+    }
+    Ok(shown)
+}
+
+/// The transaction of this id, which is a word as `1:7`, as the console of the entity `own` shows
+/// it; nothing where none is open.
+///
+/// # Errors
+///
+/// `AllocError` where there is no memory for it.
+pub fn shown_alone<O: Outbox, I: Inbox>(
+    alloc: Global,
+    register: &Register,
+    station: &Station<O, I>,
+    now: u64,
+    own: u64,
+    word: &[u8],
+) -> Result<Vec<cfdp_console::Open>, AllocError> {
+    let mut shown = Vec::new(alloc);
+    if let Ok(id) = parse_id(word)
+        && let Some(phase) = station.phase(id)
+        && phase != Phase::Closed
+    {
+        let open = open_at(station, id, phase, now);
+        shown.push(shown_one(alloc, own, open, register.get(id))?)?;
     }
     Ok(shown)
 }
@@ -379,7 +405,7 @@ pub fn write_counters<O: Outbox, I: Inbox, W: fmt::Write>(
 ) -> fmt::Result {
     match form {
         Form::Text => {
-            for (name, count) in figures(totals, gaps, station.counters().sent) {
+            for (name, count) in figures(totals, gaps, station) {
                 writeln!(out, "{name} {count}")?;
             }
             write_dropped_lines(out, station)
@@ -403,13 +429,18 @@ pub fn write_counter_members<O: Outbox, I: Inbox, W: fmt::Write>(
     gaps: &FrameGaps,
     station: &Station<O, I>,
 ) -> fmt::Result {
-    let figures = figures(totals, gaps, station.counters().sent);
+    let figures = figures(totals, gaps, station);
     write_members(out, &figures)?;
     write_dropped_members(out, station)
 }
 
 /// The counters but for what was dropped, by their names.
-fn figures(totals: &Totals, gaps: &FrameGaps, sent: SentPdus) -> [(&'static str, u64); 15] {
+fn figures<O: Outbox, I: Inbox>(
+    totals: &Totals,
+    gaps: &FrameGaps,
+    station: &Station<O, I>,
+) -> [(&'static str, u64); 15] {
+    let sent = station.counters().sent;
     let pdus = sent
         .file_data
         .saturating_add(sent.file_data_again)
@@ -429,7 +460,10 @@ fn figures(totals: &Totals, gaps: &FrameGaps, sent: SentPdus) -> [(&'static str,
         ("naks_sent", sent.naks),
         ("frame_gaps", gaps.gaps()),
         ("frames_missing", gaps.missing()),
-        ("frames_damaged", gaps.damaged()),
+        (
+            "frames_damaged",
+            station.link_drops(LinkDrop::Frame(FrameError::Damaged)),
+        ),
         ("datagrams_thrown_away", gaps.thrown_away()),
     ]
 }
