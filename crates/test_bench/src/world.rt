@@ -7,8 +7,9 @@
 //!     deliver S LANE N the same of one lane, `dir` or `data`
 //!     strike S         the frame that it sent first, of all that wait, is lost
 //!     strike S LANE    its oldest frame of a lane is lost
-//!     damage S N HEX   the frame that it sent first, of all that wait, comes with these octets from
-//!                      octet N on, in the place of its own; behind its last octet it gets longer
+//!     damage S N HEX   the frame that it sent first, of all that wait, comes with these octets
+//!                      from octet N on, in the place of its own; behind its last octet it gets
+//!                      longer
 //!     damage S LANE N HEX   the same of its oldest frame of a lane
 //!     dropped S        how many damaged frames came to it
 //!     settle           all is settled
