@@ -844,6 +844,39 @@ static void guarded(uint8_t checksum)
     IS(live, 0);
 }
 
+/* Where frames have no error control, the CRC of a PDU tells of damage: its file data are asked for
+ * again. */
+static void guarded_alone(void)
+{
+    cfdp_station one = CFDP_STATION_INIT, two = CFDP_STATION_INIT;
+    cfdp_config first = config_of(1);
+    const cfdp_config second = config_of(2);
+    uint8_t frame[264], came[sizeof OCTETS];
+    cfdp_id id;
+
+    first.pdu_crc = 1;
+    IS(cfdp_open(&one, &first), CFDP_OK);
+    IS(cfdp_open(&two, &second), CFDP_OK);
+    IS(cfdp_add(&one, NAME_A, 1, OCTETS, sizeof OCTETS), CFDP_OK);
+    IS(cfdp_put(&one, NAME_A, 1, NAME_B, 1, &id), CFDP_OK);
+    while (cfdp_transmit(&one, frame, sizeof frame) == CFDP_OK) {
+        /* the first octet of file data: behind frame, packet and PDU headers, and the offset */
+        if ((frame[1] & 63) == 7)
+            frame[8 + 6 + 12 + 4] ^= 1;
+        IS(cfdp_receive(&two, frame, sizeof frame), CFDP_OK);
+    }
+    IS(counted(&two).pdus.bad_crc, 1);
+    IS(counted(&two).frames.damaged, 0);
+    IS(cfdp_file_count(&two), 0);
+    passed(&two, &one);
+    IS(passed(&one, &two) != 0, 1);
+    IS(cfdp_read_file(&two, 0, 0, came, sizeof came), CFDP_OK);
+    IS(memcmp(came, OCTETS, sizeof came), 0);
+    cfdp_close(&one);
+    cfdp_close(&two);
+    IS(live, 0);
+}
+
 /* Frames without these fields say nothing, and what is set for them is sent in none. */
 static void unguarded(void)
 {
@@ -1017,6 +1050,7 @@ int main(void)
     decodes();
     guarded(2);
     guarded(3);
+    guarded_alone();
     unguarded();
     sent_without_memory();
     asked = 0;
