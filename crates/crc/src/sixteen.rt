@@ -3,7 +3,7 @@ ghost use Rattle.std.specs.Prelude.{◌≡◌, ◌*◌, ◌%◌, ◌^◌, ◌≤
 ghost use Rattle.crc.specs.Checks.{crc16_behind, crc16_of, divisor16};
 ghost use Rattle.crc.specs.Division.{moved};
 
-use crate::sixteen_tables::{EIGHTH, FIFTH, FIRST, FOURTH, SECOND, SEVENTH, SIXTH, THIRD};
+use crate::sixteen_tables::TABLES;
 
 /// The check of the octets, as frames and PDUs carry it: by x^16 + x^12 + x^5 + 1, begun with ones
 /// (CCSDS 732.0-B-4, 4.1.6.2).
@@ -37,14 +37,14 @@ fn eights(before: u16, octets: &[u8], whole: usize) -> u16
     while place < whole {
         let first = (check >> 8) as u8 ^ octets[place];
         let second = (check % 256) as u8 ^ octets[place + 1];
-        check = EIGHTH[usize::from(first)]
-            ^ SEVENTH[usize::from(second)]
-            ^ SIXTH[usize::from(octets[place + 2])]
-            ^ FIFTH[usize::from(octets[place + 3])]
-            ^ FOURTH[usize::from(octets[place + 4])]
-            ^ THIRD[usize::from(octets[place + 5])]
-            ^ SECOND[usize::from(octets[place + 6])]
-            ^ FIRST[usize::from(octets[place + 7])];
+        check = TABLES[7][usize::from(first)]
+            ^ TABLES[6][usize::from(second)]
+            ^ TABLES[5][usize::from(octets[place + 2])]
+            ^ TABLES[4][usize::from(octets[place + 3])]
+            ^ TABLES[3][usize::from(octets[place + 4])]
+            ^ TABLES[2][usize::from(octets[place + 5])]
+            ^ TABLES[1][usize::from(octets[place + 6])]
+            ^ TABLES[0][usize::from(octets[place + 7])];
         place += 8;
     }
     check
@@ -56,5 +56,5 @@ fn with_octet(check: u16, octet: u8) -> u16
     ensures { result ≡ moved 16 divisor16 8 (bit_xor check (octet * 2 ^ 8)) }
 {
     let place = (check >> 8) as u8 ^ octet;
-    FIRST[usize::from(place)] ^ (check << 8)
+    TABLES[0][usize::from(place)] ^ (check << 8)
 }
