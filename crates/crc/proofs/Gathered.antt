@@ -14,8 +14,7 @@ use Rattle.crc.specs.declared.thirty_two.Crc32.{Crc32}
 use Rattle.crc.specs.declared.thirty_two.Crc32.TheVariants.{Proximity1, Castagnoli, Ieee}
 use Rattle.crc.specs.declared.file_check.FileCheck.{FileCheck}
 use Rattle.crc.proofs.Joined.{AreOctets}
-use Rattle.crc.proofs.Tables32.{none32, below32}
-use Rattle.crc.proofs.Lefts.{moved_by_none, moved_twice, moved_sum, moved_fits, left_joined, left_begun}
+use Rattle.crc.proofs.Lefts.{none32, below32, moved_by_none, moved_twice, moved_sum, moved_fits, left_joined, left_begun}
 use Rattle.crc.proofs.Spreads.{odd, none_left, spread, spread_odd, spread_same, spread_none, spread_whole, spread_piece}
 
 -- what is left once a piece came, of which n octets lie before the end

@@ -1,16 +1,55 @@
--- What is left of octets: of some behind others, and moved by zeros.
-use Rattle.std.proofs.Common.{◌≡◌, ℕ, ◌+◌, ◌*◌, ◌^◌, ◌<◌, List, ◌++◌, length, map, get_or, refl, sym, ap, ◌∙◌, arith}
+-- What is left of octets: with one octet more, of some behind others, and moved by zeros.
+use Rattle.std.proofs.Common.{◌≡◌, ℕ, ◌+◌, ◌*◌, ◌^◌, ◌<◌, ◌≤◌, List, [], ◌++◌, length, map, get_or, take, refl, sym, ap, ◌∙◌, arith}
 use Rattle.std.specs.Int.Bits.{bit_xor}
-use Rattle.std.proofs.lemmas.List.{get_or-map, length-map, map-append}
+use Rattle.std.proofs.lemmas.List.{get_or-map, length-map, map-append, take-map}
 use Rattle.crc.specs.Division.{moved}
 use Rattle.crc.specs.Checks.{check_from}
 use Rattle.crc.specs.FileChecks.{divisor32, octet_read, left_behind, moved_octets}
 use Rattle.crc.specs.declared.thirty_two.Crc32.{Crc32}
+use Rattle.crc.specs.declared.thirty_two.Crc32.TheVariants.{Proximity1, Castagnoli, Ieee}
 use Rattle.crc.proofs.Divisions.{moved_below, moved_xor}
-use Rattle.crc.proofs.Octets.{check_begun}
+use Rattle.crc.proofs.Octets.{check_begun, check_none, check_more, check_below}
 use Rattle.crc.proofs.Joined.{joined, AreOctets}
+use Rattle.crc.proofs.Mirrors.{onto_below}
 use Rattle.crc.proofs.Powers.{moved_zero, moved_add}
-use Rattle.crc.proofs.Tables32.{least32, most32, octet_below}
+
+pub least32 : (kind : Crc32) → 2 ^ 32 ≤ divisor32 kind
+least32 Proximity1 = omega arith
+least32 Castagnoli = omega arith
+least32 Ieee = omega arith
+
+pub most32 : (kind : Crc32) → divisor32 kind < 2 ^ 33
+most32 Proximity1 = omega arith
+most32 Castagnoli = omega arith
+most32 Ieee = omega arith
+
+pub octet_below : (kind : Crc32) (b : ℕ) → b < 256 → octet_read kind b < 256
+octet_below Proximity1 b h = h
+octet_below Castagnoli b h = omega (arith, onto_below 8 b 0)
+octet_below Ieee b h = omega (arith, onto_below 8 b 0)
+
+pub none32 : (kind : Crc32) (s : ℕ) → s < 2 ^ 32 → s ≡ left_behind kind s []
+unfolding left_behind
+none32 kind s h = sym (check_none 24 (divisor32 kind) (least32 kind) (most32 kind) s h)
+
+pub below32 : (kind : Crc32) (s : ℕ) (o : List ℕ) → left_behind kind s o < 2 ^ 32
+unfolding left_behind
+below32 kind s o = check_below 24 (divisor32 kind) (least32 kind) (most32 kind) s (map (octet_read kind) o)
+
+-- with one octet more
+pub more32 : (kind : Crc32) (s : ℕ) (o : List ℕ) (n b : ℕ) → n < length o → b ≡ octet_read kind (get_or o n 0) → get_or o n 0 < 256
+    → moved 32 (divisor32 kind) 8 (bit_xor (left_behind kind s (take n o)) (b * 2 ^ 24)) ≡ left_behind kind s (take (n + 1) o)
+unfolding left_behind
+more32 kind s o n b h is small =
+    let f = octet_read kind in
+    let g = divisor32 kind in
+    let all : List ℕ = map f o in
+    let there : get_or all n 0 ≡ b = get_or-map f o n 0 0 h ∙ sym is in
+    let below : b < 256 = rw is (octet_below kind (get_or o n 0) small) in
+    let inside : n < length all = omega (arith, length-map o f) in
+    ap (λ (l : List ℕ). moved 32 g 8 (bit_xor (check_from 32 g s l) (b * 2 ^ 24))) (sym (take-map f n o))
+    ∙ sym (check_more 24 g (least32 kind) (most32 kind) s all n b inside there below)
+    ∙ ap (check_from 32 g s) (take-map f (n + 1) o)
 
 pub moved_by_none : (kind : Crc32) (n : ℕ) → moved_octets kind 0 n ≡ n
 unfolding moved_octets moved

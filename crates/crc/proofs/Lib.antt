@@ -6,6 +6,7 @@ pub mod Divisions
 pub mod Octets
 pub mod Joined
 pub mod Tables
+pub mod Mirrors
 pub mod Tables32
 pub mod Powers
 pub mod Lefts

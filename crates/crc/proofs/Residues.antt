@@ -14,9 +14,8 @@ use Rattle.crc.specs.declared.thirty_two.Crc32.{Crc32}
 use Rattle.crc.specs.declared.thirty_two.Crc32.TheVariants.{Proximity1, Castagnoli, Ieee}
 use Rattle.crc.specs.declared.file_check.FileCheck.{FileCheck}
 use Rattle.crc.proofs.Joined.{AreOctets}
-use Rattle.crc.proofs.Lefts.{moved_by_none, left_joined}
+use Rattle.crc.proofs.Lefts.{moved_by_none, left_joined, none32}
 use Rattle.crc.proofs.Spreads.{none_left}
-use Rattle.crc.proofs.Tables32.{none32}
 use Rattle.crc.proofs.Gathered.{mark, gathered, start_below, count_more}
 
 -- the lowest eight bits of each

@@ -10,8 +10,7 @@ use Rattle.crc.specs.Pieces.{Piece, IsOf, covers}
 use Rattle.crc.specs.declared.thirty_two.Crc32.{Crc32}
 use Rattle.crc.proofs.Xor.{xor_four}
 use Rattle.crc.proofs.Joined.{AreOctets}
-use Rattle.crc.proofs.Tables32.{none32, below32}
-use Rattle.crc.proofs.Lefts.{moved_nothing, moved_twice, moved_sum, moved_fits, left_joined, left_begun}
+use Rattle.crc.proofs.Lefts.{none32, below32, moved_nothing, moved_twice, moved_sum, moved_fits, left_joined, left_begun}
 
 -- one of both, and not both
 abbrev pub odd : Bool → Bool → Bool

@@ -1,295 +1,251 @@
--- The tables of thirty-two bits, computed anew octet by octet, and a step by them.
-use Rattle.std.proofs.Common.{◌≡◌, ℕ, zero, suc, ◌+◌, ◌*◌, ◌/◌, ◌%◌, ◌^◌, ◌<◌, ◌≤◌, List, [], length, map, get_or, take, refl, sym, subst, ap, ap₂, ◌∙◌, arith}
+-- The tables of thirty-two bits, computed anew row by row, and steps by them. All that is left stands
+-- mirrored here.
+use Rattle.std.proofs.Common.{◌≡◌, ℕ, zero, suc, ◌+◌, ◌*◌, ◌/◌, ◌%◌, ◌^◌, ◌<◌, ◌≤◌, List, [], ◌∷◌, length, map, get_or, take, replicate, refl, sym, subst, ap, ap₂, ◌∙◌, arith}
 use Rattle.std.specs.Int.{reverse_bits_onto}
-use Rattle.std.specs.Int.Bits.{bit_xor, xor_zero_r}
+use Rattle.std.specs.Int.Bits.{bit_xor, xor_zero_r, xor_self}
 use Rattle.std.specs.List.{range_with_len}
-use Rattle.std.proofs.lemmas.Nat.{xor_lt}
-use Rattle.std.proofs.lemmas.Grind.{pow_more}
-use Rattle.std.proofs.lemmas.List.{take-map, get_or-map, length-map}
+use Rattle.std.proofs.lemmas.Nat.{xor_lt, xor_comm}
+use Rattle.std.proofs.lemmas.List.{get_or-map, length-map, length-take, get_or-take, get_or-replicate, take_all}
 use Rattle.std.proofs.lemmas.List.FromFn.{get_or-map-range_with_len}
-use Rattle.std.proofs.Common.{add-one}
-use Rattle.std.proofs.Math.Nat.{mul_assoc, mul-le-mul_right}
+use lib.Bits.{xor_assoc, xor_shifted}
 use Rattle.crc.specs.Division.{moved}
-use Rattle.crc.specs.Checks.{check_from}
-use Rattle.crc.specs.FileChecks.{divisor32, octet_read, left_behind}
+use Rattle.crc.specs.FileChecks.{divisor32, left_behind, moved_octets, octet_read}
+use Rattle.crc.specs.Mirrors.{mirrored32, mirror_moved, in_table, AreTables}
 use Rattle.crc.specs.declared.thirty_two.Crc32.{Crc32}
 use Rattle.crc.specs.declared.thirty_two.Crc32.TheVariants.{Proximity1, Castagnoli, Ieee}
-use Rattle.crc.specs.declared.lookup.TheConstants.{PROXIMITY, PROXIMITY_2, PROXIMITY_3, PROXIMITY_4, CASTAGNOLI, CASTAGNOLI_2, CASTAGNOLI_3, CASTAGNOLI_4, IEEE, IEEE_2, IEEE_3, IEEE_4}
-use Rattle.crc.proofs.Divisions.{moved_below, moved_xor}
-use Rattle.crc.proofs.Powers.{moved_add}
-use lib.Bits.{xor_assoc}
-use Rattle.crc.proofs.Octets.{octet_step, check_none, check_more, check_below}
+use Rattle.crc.specs.declared.lookup.TheConstants.{PROXIMITY, CASTAGNOLI, IEEE}
+use Rattle.crc.proofs.Divisions.{moved_small}
+use Rattle.crc.proofs.Lefts.{least32, most32, more32, below32, moved_by_none, moved_twice, moved_sum, moved_fits}
+use Rattle.crc.proofs.Mirrors.{mirror_xor, mirror_below, mirror_back, mirror_octet, mirror_shifted}
 
-pub least32 : (kind : Crc32) → 2 ^ 32 ≤ divisor32 kind
-least32 Proximity1 = omega arith
-least32 Castagnoli = omega arith
-least32 Ieee = omega arith
+abbrev W : Crc32 → ℕ → ℕ → ℕ
+W kind count n = mirror_moved kind count n
 
-pub most32 : (kind : Crc32) → divisor32 kind < 2 ^ 33
-most32 Proximity1 = omega arith
-most32 Castagnoli = omega arith
-most32 Ieee = omega arith
+-- ---- moving
+by_none : (kind : Crc32) (n : ℕ) → n < 2 ^ 32 → W kind 0 n ≡ n
+by_none kind n h = ap (mirrored32 kind) (moved_by_none kind (mirrored32 kind n)) ∙ mirror_back kind n h
 
-abbrev row32 : ℕ → ℕ → ℕ
-row32 g n = moved 32 g 8 (n * 2 ^ 24)
+twice : (kind : Crc32) (j k n : ℕ) → W kind j (W kind k n) ≡ W kind (j + k) n
+twice kind j k n =
+    let m : ℕ = mirrored32 kind n in
+    ap (λ x. mirrored32 kind (moved_octets kind j x)) (mirror_back kind (moved_octets kind k m) (moved_fits kind k m (mirror_below kind n)))
+    ∙ ap (mirrored32 kind) (moved_twice kind j k m)
 
-abbrev pub IsTable : Crc32 → List ℕ → Type 0
-IsTable kind t = (n : ℕ) → n < 256 → get_or t n 0 ≡ moved 32 (divisor32 kind) 8 (n * 2 ^ 24)
+sum : (kind : Crc32) (j a b : ℕ) → W kind j (bit_xor a b) ≡ bit_xor (W kind j a) (W kind j b)
+sum kind j a b =
+    let m : ℕ = mirrored32 kind a in
+    let n : ℕ = mirrored32 kind b in
+    ap (λ x. mirrored32 kind (moved_octets kind j x)) (mirror_xor kind a b)
+    ∙ ap (mirrored32 kind) (moved_sum kind j m n (mirror_below kind a) (mirror_below kind b))
+    ∙ mirror_xor kind (moved_octets kind j m) (moved_octets kind j n)
 
-proximity_is : PROXIMITY ≡ map (row32 (divisor32 Proximity1)) (range_with_len 0 256)
-unfolding moved
-proximity_is = refl
+nothing : (kind : Crc32) (j : ℕ) → W kind j 0 ≡ 0
+nothing kind j = sum kind j 0 0 ∙ xor_self (W kind j 0)
 
-castagnoli_is : CASTAGNOLI ≡ map (row32 (divisor32 Castagnoli)) (range_with_len 0 256)
-unfolding moved
-castagnoli_is = refl
+-- an octet of zeros goes
+dropped : (kind : Crc32) (x : ℕ) → x < 2 ^ 24 → W kind 1 (x * 256) ≡ x
+unfolding moved_octets
+dropped kind x h =
+    let m : ℕ = mirrored32 kind (x * 256) in
+    let same : m * 256 ≡ mirrored32 kind x = mirror_shifted kind x h in
+    let low : mirrored32 kind x < 2 ^ 32 = mirror_below kind x in
+    ap (mirrored32 kind) (moved_small 32 (divisor32 kind) (least32 kind) (most32 kind) 8 m (omega (arith, same, low)) ∙ same)
+    ∙ mirror_back kind x (omega arith)
 
-ieee_is : IEEE ≡ map (row32 (divisor32 Ieee)) (range_with_len 0 256)
-unfolding moved
-ieee_is = refl
+-- an octet is added to the lowest one, and the others are moved
+peeled : (kind : Crc32) (j k y o p : ℕ) → k ≡ j + 1 → y < 2 ^ 32 → o < 256 → p ≡ bit_xor (y % 2 ^ 8) o
+    → W kind k (bit_xor y o) ≡ bit_xor (W kind k p) (W kind j (y / 2 ^ 8))
+peeled kind j k y o p more hy ho is =
+    let x : ℕ = y / 2 ^ 8 in
+    let small : y % 2 ^ 8 < 2 ^ 8 = omega arith in
+    let plain : y ≡ x * 2 ^ 8 + y % 2 ^ 8 = omega arith in
+    let cut : bit_xor y o ≡ bit_xor p (x * 2 ^ 8) =
+    ap (λ n. bit_xor n o) (plain ∙ sym (xor_shifted x 8 (y % 2 ^ 8) small))
+    ∙ xor_assoc (x * 2 ^ 8) (y % 2 ^ 8) o
+    ∙ ap (bit_xor (x * 2 ^ 8)) (sym is)
+    ∙ xor_comm (x * 2 ^ 8) p in
+    ap (W kind k) cut
+    ∙ sum kind k p (x * 2 ^ 8)
+    ∙ ap (bit_xor (W kind k p)) (ap (λ i. W kind i (x * 2 ^ 8)) more ∙ sym (twice kind j 1 (x * 2 ^ 8)) ∙ ap (W kind j) (dropped kind x (omega arith)))
 
-rows : (kind : Crc32) (t : List ℕ) → t ≡ map (row32 (divisor32 kind)) (range_with_len 0 256) → IsTable kind t
-rows kind t is n h = ap (λ (l : List ℕ). get_or l n 0) is ∙ get_or-map-range_with_len (row32 (divisor32 kind)) 0 256 n n 0 h (omega arith)
+-- ---- the tables: the first of them of each octet, and each other one of that before it
+abbrev IsMade : Crc32 → List (List ℕ) → Type 0
+IsMade kind t = map (map (W kind 1)) (range_with_len 0 256 ∷ take 7 t) ≡ t
 
-pub proximity_table : (kind : Crc32) → kind ≡ Proximity1 → IsTable kind PROXIMITY
-proximity_table kind e = subst (λ k. IsTable k PROXIMITY) (sym e) (rows Proximity1 PROXIMITY proximity_is)
+proximity_made : IsMade Proximity1 PROXIMITY
+unfolding moved_octets moved
+proximity_made = refl
 
-pub castagnoli_table : (kind : Crc32) → kind ≡ Castagnoli → IsTable kind CASTAGNOLI
-castagnoli_table kind e = subst (λ k. IsTable k CASTAGNOLI) (sym e) (rows Castagnoli CASTAGNOLI castagnoli_is)
+castagnoli_made : IsMade Castagnoli CASTAGNOLI
+unfolding moved_octets moved reverse_bits_onto
+castagnoli_made = refl
 
-pub ieee_table : (kind : Crc32) → kind ≡ Ieee → IsTable kind IEEE
-ieee_table kind e = subst (λ k. IsTable k IEEE) (sym e) (rows Ieee IEEE ieee_is)
+ieee_made : IsMade Ieee IEEE
+unfolding moved_octets moved reverse_bits_onto
+ieee_made = refl
 
--- bits turned round
-onto_below : (k n a : ℕ) → reverse_bits_onto k n a < (a + 1) * 2 ^ k
-unfolding reverse_bits_onto
-onto_below zero n a = omega arith
-onto_below (suc k) n a =
-    let power : 2 ^ suc k ≡ 2 * 2 ^ k = ap (λ m. 2 ^ m) (sym (add-one k)) ∙ pow_more 2 k ∙ omega arith in
-    let ih : reverse_bits_onto k (n / 2) (a * 2 + n % 2) < (a * 2 + n % 2 + 1) * 2 ^ k = onto_below k (n / 2) (a * 2 + n % 2) in
-    let more : (a * 2 + n % 2 + 1) * 2 ^ k ≤ (a + 1) * 2 * 2 ^ k = mul-le-mul_right (2 ^ k) (omega arith) in
-    let whole : (a + 1) * 2 ^ suc k ≡ (a + 1) * 2 * 2 ^ k = ap (λ m. (a + 1) * m) power ∙ sym (mul_assoc (a + 1) 2 (2 ^ k)) in
-    omega (arith, ih, more, whole)
+are_rows : (kind : Crc32) (t : List (List ℕ)) → length t ≡ 8 → ((k : ℕ) → k < 8 → length (get_or t k []) ≡ 256) → IsMade kind t
+    → (k n : ℕ) → k < 8 → n < 256 → get_or (get_or t k []) n 0 ≡ W kind (k + 1) n
+are_rows kind t long wide made zero n hk hn =
+    let all : List (List ℕ) = range_with_len 0 256 ∷ take 7 t in
+    let row : get_or t 0 [] ≡ map (W kind 1) (range_with_len 0 256) = ap (λ (u : List (List ℕ)). get_or u 0 []) (sym made) in
+    ap (λ (l : List ℕ). get_or l n 0) row ∙ get_or-map-range_with_len (W kind 1) 0 256 n n 0 hn (omega arith)
+are_rows kind t long wide made (suc k) n hk hn =
+    let few : k < length (take 7 t) = omega (arith, length-take 7 t, long) in
+    let below : get_or (take 7 t) k [] ≡ get_or t k [] = get_or-take 7 t k [] (omega arith) in
+    let row : get_or t (suc k) [] ≡ map (W kind 1) (get_or t k []) =
+    ap (λ (u : List (List ℕ)). get_or u (suc k) []) (sym made)
+    ∙ get_or-map (map (W kind 1)) (take 7 t) k [] [] few
+    ∙ ap (map (W kind 1)) below in
+    ap (λ (l : List ℕ). get_or l n 0) row
+    ∙ get_or-map (W kind 1) (get_or t k []) n 0 0 (omega (arith, wide k (omega arith)))
+    ∙ ap (W kind 1) (are_rows kind t long wide made k n (omega arith) hn)
+    ∙ twice kind 1 (k + 1) n
+    ∙ ap (λ i. W kind i n) (let e : 1 + (k + 1) ≡ suc k + 1 = omega arith in e)
 
-pub octet_below : (kind : Crc32) (b : ℕ) → b < 256 → octet_read kind b < 256
-octet_below Proximity1 b h = h
-octet_below Castagnoli b h = omega (arith, onto_below 8 b 0)
-octet_below Ieee b h = omega (arith, onto_below 8 b 0)
+eight_wide : (t : List (List ℕ)) → map length t ≡ replicate 8 256 → (k : ℕ) → k < 8 → length (get_or t k []) ≡ 256
+eight_wide t are k h =
+    sym (get_or-map length t k [] 0 (omega (arith, length-map t length, ap (λ (l : List ℕ). length l) are)))
+    ∙ ap (λ (l : List ℕ). get_or l k 0) are ∙ get_or-replicate 8 k 256 0 h
 
--- one octet more, by the table
-pub step32 : (kind : Crc32) (t : List ℕ) (c b : ℕ) → IsTable kind t → c < 2 ^ 32 → b < 256
-    → bit_xor (get_or t (bit_xor (c / 2 ^ 24) b) 0) (c * 2 ^ 8 % 2 ^ 32) ≡ moved 32 (divisor32 kind) 8 (bit_xor c (b * 2 ^ 24))
-step32 kind t c b is hc hb =
-    let p : ℕ = bit_xor (c / 2 ^ 24) b in
-    let high : c / 2 ^ 24 < 2 ^ 8 = omega arith in
-    let small : p < 2 ^ 8 = xor_lt 8 (c / 2 ^ 24) b high hb in
-    let low : c * 2 ^ 8 % 2 ^ 32 ≡ c % 2 ^ 24 * 2 ^ 8 = omega arith in
-    ap₂ bit_xor (is p small) low ∙ sym (octet_step 24 (divisor32 kind) (least32 kind) (most32 kind) c b p hc hb refl)
+tables_are : (kind : Crc32) (t : List (List ℕ)) → length t ≡ 8 → map length t ≡ replicate 8 256 → IsMade kind t → AreTables kind t
+tables_are kind t long wide made = λ k n hk hn. are_rows kind t long (eight_wide t wide) made k n hk hn
 
-pub none32 : (kind : Crc32) (s : ℕ) → s < 2 ^ 32 → s ≡ left_behind kind s []
-unfolding left_behind
-none32 kind s h = sym (check_none 24 (divisor32 kind) (least32 kind) (most32 kind) s h)
+pub proximity_tables : (kind : Crc32) → kind ≡ Proximity1 → AreTables kind PROXIMITY
+proximity_tables kind e = subst (λ k. AreTables k PROXIMITY) (sym e) (tables_are Proximity1 PROXIMITY refl refl proximity_made)
 
-pub below32 : (kind : Crc32) (s : ℕ) (o : List ℕ) → left_behind kind s o < 2 ^ 32
-unfolding left_behind
-below32 kind s o = check_below 24 (divisor32 kind) (least32 kind) (most32 kind) s (map (octet_read kind) o)
+pub castagnoli_tables : (kind : Crc32) → kind ≡ Castagnoli → AreTables kind CASTAGNOLI
+castagnoli_tables kind e = subst (λ k. AreTables k CASTAGNOLI) (sym e) (tables_are Castagnoli CASTAGNOLI refl refl castagnoli_made)
 
-pub more32 : (kind : Crc32) (s : ℕ) (o : List ℕ) (n b : ℕ) → n < length o → b ≡ octet_read kind (get_or o n 0) → get_or o n 0 < 256
-    → moved 32 (divisor32 kind) 8 (bit_xor (left_behind kind s (take n o)) (b * 2 ^ 24)) ≡ left_behind kind s (take (n + 1) o)
-unfolding left_behind
-more32 kind s o n b h is small =
-    let f = octet_read kind in
-    let g = divisor32 kind in
-    let all : List ℕ = map f o in
-    let there : get_or all n 0 ≡ b = get_or-map f o n 0 0 h ∙ sym is in
-    let below : b < 256 = rw is (octet_below kind (get_or o n 0) small) in
-    let inside : n < length all = omega (arith, length-map o f) in
-    ap (λ (l : List ℕ). moved 32 g 8 (bit_xor (check_from 32 g s l) (b * 2 ^ 24))) (sym (take-map f n o))
-    ∙ sym (check_more 24 g (least32 kind) (most32 kind) s all n b inside there below)
-    ∙ ap (check_from 32 g s) (take-map f (n + 1) o)
+pub ieee_tables : (kind : Crc32) → kind ≡ Ieee → AreTables kind IEEE
+ieee_tables kind e = subst (λ k. AreTables k IEEE) (sym e) (tables_are Ieee IEEE refl refl ieee_made)
 
--- ---- four octets at once
+-- ---- octets
+-- what is left of octets, mirrored
+abbrev L : Crc32 → ℕ → List ℕ → ℕ
+L kind before o = mirrored32 kind (left_behind kind before o)
 
-abbrev pub IsTableOf : Crc32 → ℕ → List ℕ → Type 0
-IsTableOf kind k t = (n : ℕ) → n < 256 → get_or t n 0 ≡ moved 32 (divisor32 kind) k (n * 2 ^ 24)
+-- with one octet more
+pub one_more : (kind : Crc32) (before : ℕ) (o : List ℕ) (n m : ℕ) → m ≡ n + 1 → n < length o → get_or o n 0 < 256
+    → W kind 1 (bit_xor (L kind before (take n o)) (get_or o n 0)) ≡ L kind before (take m o)
+unfolding moved_octets
+one_more kind before o n m more h small =
+    let b : ℕ = get_or o n 0 in
+    let s : ℕ = left_behind kind before (take n o) in
+    let r : ℕ = octet_read kind b in
+    let plain : mirrored32 kind (bit_xor (mirrored32 kind s) b) ≡ bit_xor s (r * 2 ^ 24) =
+    mirror_xor kind (mirrored32 kind s) b ∙ ap₂ bit_xor (mirror_back kind s (below32 kind before (take n o))) (mirror_octet kind b small) in
+    ap (λ x. mirrored32 kind (moved 32 (divisor32 kind) 8 x)) plain
+    ∙ ap (mirrored32 kind) (more32 kind before o n r h refl small)
+    ∙ ap (λ i. L kind before (take i o)) (sym more)
 
-rows_more : (kind : Crc32) (t u : List ℕ) (k m : ℕ) → length t ≡ 256 → m ≡ 8 + k → u ≡ map (moved 32 (divisor32 kind) 8) t → IsTableOf kind k t → IsTableOf kind m u
-rows_more kind t u k m len more is rows n h =
-    ap (λ (l : List ℕ). get_or l n 0) is
-    ∙ get_or-map (moved 32 (divisor32 kind) 8) t n 0 0 (omega (arith, len))
-    ∙ ap (moved 32 (divisor32 kind) 8) (rows n h)
-    ∙ sym (ap (λ i. moved 32 (divisor32 kind) i (n * 2 ^ 24)) more ∙ moved_add 32 (divisor32 kind) (least32 kind) (most32 kind) 8 k (n * 2 ^ 24))
+-- that by the first table
+pub by_table : (kind : Crc32) (t : List (List ℕ)) (y o p : ℕ) → AreTables kind t → y < 2 ^ 32 → o < 256 → p ≡ bit_xor (y % 2 ^ 8) o
+    → bit_xor (in_table t 0 p) (y / 2 ^ 8) ≡ W kind 1 (bit_xor y o)
+by_table kind t y o p are hy ho is =
+    let small : p < 256 = rw is (xor_lt 8 (y % 2 ^ 8) o (omega arith) ho) in
+    ap₂ bit_xor (are 0 p (omega arith) small) (sym (by_none kind (y / 2 ^ 8) (omega arith)))
+    ∙ sym (peeled kind 0 1 y o p refl hy ho is)
 
-proximity_2_is : PROXIMITY_2 ≡ map (moved 32 (divisor32 Proximity1) 8) PROXIMITY
-unfolding moved
-proximity_2_is = refl
+-- One octet more, where octets of what was left before wait for theirs: y holds these.
+takes : (kind : Crc32) (t : List (List ℕ)) (i j k z y c d o p : ℕ) → AreTables kind t → i < 8 → j ≡ i → k ≡ i + 1 → y < 2 ^ 32 → o < 256
+    → W kind 1 (bit_xor c o) ≡ d → p ≡ bit_xor (y % 2 ^ 8) o
+    → W kind k c ≡ bit_xor z (W kind k y)
+    → W kind j d ≡ bit_xor (bit_xor z (in_table t i p)) (W kind j (y / 2 ^ 8))
+takes kind t i j k z y c d o p are few same more hy ho is at before =
+    let small : p < 256 = rw at (xor_lt 8 (y % 2 ^ 8) o (omega arith) ho) in
+    let next : k ≡ j + 1 = omega arith in
+    let row : in_table t i p ≡ W kind k p = are i p few small ∙ ap (λ n. W kind n p) (sym more) in
+    ap (W kind j) (sym is)
+    ∙ twice kind j 1 (bit_xor c o)
+    ∙ ap (λ n. W kind n (bit_xor c o)) (sym next)
+    ∙ sum kind k c o
+    ∙ ap (λ n. bit_xor n (W kind k o)) before
+    ∙ xor_assoc z (W kind k y) (W kind k o)
+    ∙ ap (bit_xor z) (sym (sum kind k y o) ∙ peeled kind j k y o p next hy ho at ∙ ap (λ n. bit_xor n (W kind j (y / 2 ^ 8))) (sym row))
+    ∙ sym (xor_assoc z (in_table t i p) (W kind j (y / 2 ^ 8)))
 
-pub proximity_table_2 : (kind : Crc32) → kind ≡ Proximity1 → IsTableOf kind 16 PROXIMITY_2
-proximity_table_2 kind e = subst (λ k. IsTableOf k 16 PROXIMITY_2) (sym e) (rows_more Proximity1 PROXIMITY PROXIMITY_2 8 16 refl refl proximity_2_is (proximity_table Proximity1 refl))
+-- One octet more, where none waits.
+adds : (kind : Crc32) (t : List (List ℕ)) (i k z c d o : ℕ) → AreTables kind t → i < 8 → k ≡ i + 1 → o < 256
+    → W kind 1 (bit_xor c o) ≡ d → W kind k c ≡ z → W kind i d ≡ bit_xor z (in_table t i o)
+adds kind t i k z c d o are few more ho is before =
+    ap (W kind i) (sym is)
+    ∙ twice kind i 1 (bit_xor c o)
+    ∙ ap (λ n. W kind n (bit_xor c o)) (sym more)
+    ∙ sum kind k c o
+    ∙ ap₂ bit_xor before (ap (λ n. W kind n o) more ∙ sym (are i o few ho))
 
-proximity_3_is : PROXIMITY_3 ≡ map (moved 32 (divisor32 Proximity1) 8) PROXIMITY_2
-unfolding moved
-proximity_3_is = refl
+eight32 : (kind : Crc32) (t : List (List ℕ)) (c0 c1 c2 c3 c4 c5 c6 c7 c8 o0 o1 o2 o3 o4 o5 o6 o7 p0 p1 p2 p3 : ℕ) → AreTables kind t
+    → c0 < 2 ^ 32 → c8 < 2 ^ 32 → o0 < 256 → o1 < 256 → o2 < 256 → o3 < 256 → o4 < 256 → o5 < 256 → o6 < 256 → o7 < 256
+    → W kind 1 (bit_xor c0 o0) ≡ c1
+    → W kind 1 (bit_xor c1 o1) ≡ c2
+    → W kind 1 (bit_xor c2 o2) ≡ c3
+    → W kind 1 (bit_xor c3 o3) ≡ c4
+    → W kind 1 (bit_xor c4 o4) ≡ c5
+    → W kind 1 (bit_xor c5 o5) ≡ c6
+    → W kind 1 (bit_xor c6 o6) ≡ c7
+    → W kind 1 (bit_xor c7 o7) ≡ c8
+    → p0 ≡ bit_xor (c0 % 2 ^ 8) o0 → p1 ≡ bit_xor (c0 / 2 ^ 8 % 2 ^ 8) o1 → p2 ≡ bit_xor (c0 / 2 ^ 16 % 2 ^ 8) o2 → p3 ≡ bit_xor (c0 / 2 ^ 24) o3
+    → bit_xor (bit_xor (bit_xor (bit_xor (bit_xor (bit_xor (bit_xor (in_table t 7 p0) (in_table t 6 p1)) (in_table t 5 p2)) (in_table t 4 p3)) (in_table t 3 o4)) (in_table t 2 o5)) (in_table t 1 o6)) (in_table t 0 o7) ≡ c8
+eight32 kind t c0 c1 c2 c3 c4 c5 c6 c7 c8 o0 o1 o2 o3 o4 o5 o6 o7 p0 p1 p2 p3 are h0 h8 k0 k1 k2 k3 k4 k5 k6 k7 e0 e1 e2 e3 e4 e5 e6 e7 i0 i1 i2 i3 =
+    let y1 : ℕ = c0 / 2 ^ 8 in
+    let y2 : ℕ = y1 / 2 ^ 8 in
+    let y3 : ℕ = y2 / 2 ^ 8 in
+    let q2 : p2 ≡ bit_xor (y2 % 2 ^ 8) o2 = i2 ∙ ap (λ n. bit_xor n o2) (omega arith) in
+    let q3 : p3 ≡ bit_xor (y3 % 2 ^ 8) o3 = i3 ∙ ap (λ n. bit_xor n o3) (omega arith) in
+    let small : p0 < 256 = rw i0 (xor_lt 8 (c0 % 2 ^ 8) o0 (omega arith) k0) in
+    let z0 : ℕ = in_table t 7 p0 in
+    let z1 : ℕ = bit_xor z0 (in_table t 6 p1) in
+    let z2 : ℕ = bit_xor z1 (in_table t 5 p2) in
+    let z3 : ℕ = bit_xor z2 (in_table t 4 p3) in
+    let s1 : W kind 7 c1 ≡ bit_xor z0 (W kind 7 y1) =
+    ap (W kind 7) (sym e0) ∙ twice kind 7 1 (bit_xor c0 o0) ∙ peeled kind 7 8 c0 o0 p0 refl h0 k0 i0 ∙ ap (λ n. bit_xor n (W kind 7 y1)) (sym (are 7 p0 (omega arith) small)) in
+    let s2 : W kind 6 c2 ≡ bit_xor z1 (W kind 6 y2) = takes kind t 6 6 7 z0 y1 c1 c2 o1 p1 are (omega arith) refl refl (omega arith) k1 e1 i1 s1 in
+    let s3 : W kind 5 c3 ≡ bit_xor z2 (W kind 5 y3) = takes kind t 5 5 6 z1 y2 c2 c3 o2 p2 are (omega arith) refl refl (omega arith) k2 e2 q2 s2 in
+    let s4 : W kind 4 c4 ≡ bit_xor z3 (W kind 4 (y3 / 2 ^ 8)) = takes kind t 4 4 5 z2 y3 c3 c4 o3 p3 are (omega arith) refl refl (omega arith) k3 e3 q3 s3 in
+    let gone : W kind 4 (y3 / 2 ^ 8) ≡ 0 = ap (W kind 4) (let e : y3 / 2 ^ 8 ≡ 0 = omega arith in e) ∙ nothing kind 4 in
+    let t4 : W kind 4 c4 ≡ z3 = s4 ∙ ap (bit_xor z3) gone ∙ xor_zero_r z3 in
+    let t5 = adds kind t 3 4 z3 c4 c5 o4 are (omega arith) refl k4 e4 t4 in
+    let t6 = adds kind t 2 3 (bit_xor z3 (in_table t 3 o4)) c5 c6 o5 are (omega arith) refl k5 e5 t5 in
+    let t7 = adds kind t 1 2 (bit_xor (bit_xor z3 (in_table t 3 o4)) (in_table t 2 o5)) c6 c7 o6 are (omega arith) refl k6 e6 t6 in
+    let t8 = adds kind t 0 1 (bit_xor (bit_xor (bit_xor z3 (in_table t 3 o4)) (in_table t 2 o5)) (in_table t 1 o6)) c7 c8 o7 are (omega arith) refl k7 e7 t7 in
+    sym t8 ∙ by_none kind c8 h8
 
-pub proximity_table_3 : (kind : Crc32) → kind ≡ Proximity1 → IsTableOf kind 24 PROXIMITY_3
-proximity_table_3 kind e = subst (λ k. IsTableOf k 24 PROXIMITY_3) (sym e) (rows_more Proximity1 PROXIMITY_2 PROXIMITY_3 16 24 refl refl proximity_3_is (proximity_table_2 Proximity1 refl))
-
-proximity_4_is : PROXIMITY_4 ≡ map (moved 32 (divisor32 Proximity1) 8) PROXIMITY_3
-unfolding moved
-proximity_4_is = refl
-
-pub proximity_table_4 : (kind : Crc32) → kind ≡ Proximity1 → IsTableOf kind 32 PROXIMITY_4
-proximity_table_4 kind e = subst (λ k. IsTableOf k 32 PROXIMITY_4) (sym e) (rows_more Proximity1 PROXIMITY_3 PROXIMITY_4 24 32 refl refl proximity_4_is (proximity_table_3 Proximity1 refl))
-
-castagnoli_2_is : CASTAGNOLI_2 ≡ map (moved 32 (divisor32 Castagnoli) 8) CASTAGNOLI
-unfolding moved
-castagnoli_2_is = refl
-
-pub castagnoli_table_2 : (kind : Crc32) → kind ≡ Castagnoli → IsTableOf kind 16 CASTAGNOLI_2
-castagnoli_table_2 kind e = subst (λ k. IsTableOf k 16 CASTAGNOLI_2) (sym e) (rows_more Castagnoli CASTAGNOLI CASTAGNOLI_2 8 16 refl refl castagnoli_2_is (castagnoli_table Castagnoli refl))
-
-castagnoli_3_is : CASTAGNOLI_3 ≡ map (moved 32 (divisor32 Castagnoli) 8) CASTAGNOLI_2
-unfolding moved
-castagnoli_3_is = refl
-
-pub castagnoli_table_3 : (kind : Crc32) → kind ≡ Castagnoli → IsTableOf kind 24 CASTAGNOLI_3
-castagnoli_table_3 kind e = subst (λ k. IsTableOf k 24 CASTAGNOLI_3) (sym e) (rows_more Castagnoli CASTAGNOLI_2 CASTAGNOLI_3 16 24 refl refl castagnoli_3_is (castagnoli_table_2 Castagnoli refl))
-
-castagnoli_4_is : CASTAGNOLI_4 ≡ map (moved 32 (divisor32 Castagnoli) 8) CASTAGNOLI_3
-unfolding moved
-castagnoli_4_is = refl
-
-pub castagnoli_table_4 : (kind : Crc32) → kind ≡ Castagnoli → IsTableOf kind 32 CASTAGNOLI_4
-castagnoli_table_4 kind e = subst (λ k. IsTableOf k 32 CASTAGNOLI_4) (sym e) (rows_more Castagnoli CASTAGNOLI_3 CASTAGNOLI_4 24 32 refl refl castagnoli_4_is (castagnoli_table_3 Castagnoli refl))
-
-ieee_2_is : IEEE_2 ≡ map (moved 32 (divisor32 Ieee) 8) IEEE
-unfolding moved
-ieee_2_is = refl
-
-pub ieee_table_2 : (kind : Crc32) → kind ≡ Ieee → IsTableOf kind 16 IEEE_2
-ieee_table_2 kind e = subst (λ k. IsTableOf k 16 IEEE_2) (sym e) (rows_more Ieee IEEE IEEE_2 8 16 refl refl ieee_2_is (ieee_table Ieee refl))
-
-ieee_3_is : IEEE_3 ≡ map (moved 32 (divisor32 Ieee) 8) IEEE_2
-unfolding moved
-ieee_3_is = refl
-
-pub ieee_table_3 : (kind : Crc32) → kind ≡ Ieee → IsTableOf kind 24 IEEE_3
-ieee_table_3 kind e = subst (λ k. IsTableOf k 24 IEEE_3) (sym e) (rows_more Ieee IEEE_2 IEEE_3 16 24 refl refl ieee_3_is (ieee_table_2 Ieee refl))
-
-ieee_4_is : IEEE_4 ≡ map (moved 32 (divisor32 Ieee) 8) IEEE_3
-unfolding moved
-ieee_4_is = refl
-
-pub ieee_table_4 : (kind : Crc32) → kind ≡ Ieee → IsTableOf kind 32 IEEE_4
-ieee_table_4 kind e = subst (λ k. IsTableOf k 32 IEEE_4) (sym e) (rows_more Ieee IEEE_3 IEEE_4 24 32 refl refl ieee_4_is (ieee_table_3 Ieee refl))
-
--- one octet more, where part of what is left was taken from tables
-part_more : (kind : Crc32) (x y b p : ℕ) → x < 2 ^ 32 → y < 2 ^ 32 → b < 256 → p ≡ bit_xor (y / 2 ^ 24) b
-    → moved 32 (divisor32 kind) 8 (bit_xor (bit_xor x y) (b * 2 ^ 24)) ≡ bit_xor (bit_xor (moved 32 (divisor32 kind) 8 x) (moved 32 (divisor32 kind) 8 (p * 2 ^ 24))) (y % 2 ^ 24 * 2 ^ 8)
-part_more kind x y b p hx hy hb is =
-    let g : ℕ = divisor32 kind in
-    let z : ℕ = b * 2 ^ 24 in
-    let fits : z < 2 ^ 32 = omega arith in
-    ap (moved 32 g 8) (xor_assoc x y z)
-    ∙ moved_xor 32 g (least32 kind) (most32 kind) 8 x (bit_xor y z) hx (xor_lt 32 y z hy fits)
-    ∙ ap (bit_xor (moved 32 g 8 x)) (octet_step 24 g (least32 kind) (most32 kind) y b p hy hb is)
-    ∙ sym (xor_assoc (moved 32 g 8 x) (moved 32 g 8 (p * 2 ^ 24)) (y % 2 ^ 24 * 2 ^ 8))
-
-eight_more : (kind : Crc32) (k m n : ℕ) → m ≡ 8 + k → moved 32 (divisor32 kind) 8 (moved 32 (divisor32 kind) k n) ≡ moved 32 (divisor32 kind) m n
-eight_more kind k m n e = sym (ap (λ i. moved 32 (divisor32 kind) i n) e ∙ moved_add 32 (divisor32 kind) (least32 kind) (most32 kind) 8 k n)
-
-pub four32 : (kind : Crc32) (t1 t2 t3 t4 : List ℕ) (c b0 b1 b2 b3 p0 p1 p2 p3 : ℕ)
-    → IsTable kind t1 → IsTableOf kind 16 t2 → IsTableOf kind 24 t3 → IsTableOf kind 32 t4
-    → c < 2 ^ 32 → b0 < 256 → b1 < 256 → b2 < 256 → b3 < 256
-    → p0 ≡ bit_xor (c / 2 ^ 24) b0 → p1 ≡ bit_xor (c / 2 ^ 16 % 256) b1 → p2 ≡ bit_xor (c / 2 ^ 8 % 256) b2 → p3 ≡ bit_xor (c % 256) b3
-    → bit_xor (bit_xor (bit_xor (get_or t4 p0 0) (get_or t3 p1 0)) (get_or t2 p2 0)) (get_or t1 p3 0)
-    ≡ moved 32 (divisor32 kind) 8 (bit_xor (moved 32 (divisor32 kind) 8 (bit_xor (moved 32 (divisor32 kind) 8 (bit_xor (moved 32 (divisor32 kind) 8 (bit_xor c (b0 * 2 ^ 24))) (b1 * 2 ^ 24))) (b2 * 2 ^ 24))) (b3 * 2 ^ 24))
-four32 kind t1 t2 t3 t4 c b0 b1 b2 b3 p0 p1 p2 p3 h1 h2 h3 h4 hc hb0 hb1 hb2 hb3 e0 e1 e2 e3 =
-    let g : ℕ = divisor32 kind in
-    let M : ℕ → ℕ → ℕ = λ k n. moved 32 g k n in
-    let sum : (k a b : ℕ) → a < 2 ^ 32 → b < 2 ^ 32 → moved 32 g k (bit_xor a b) ≡ bit_xor (moved 32 g k a) (moved 32 g k b) = λ k a b. moved_xor 32 g (least32 kind) (most32 kind) k a b in
-    let small : (k n : ℕ) → n < 2 ^ 32 → moved 32 g k n < 2 ^ 32 = λ k n. moved_below 32 g (least32 kind) (most32 kind) k n in
-    let s0 : p0 < 2 ^ 8 = rw e0 (xor_lt 8 (c / 2 ^ 24) b0 (omega arith) hb0) in
-    let s1 : p1 < 2 ^ 8 = rw e1 (xor_lt 8 (c / 2 ^ 16 % 256) b1 (omega arith) hb1) in
-    let s2 : p2 < 2 ^ 8 = rw e2 (xor_lt 8 (c / 2 ^ 8 % 256) b2 (omega arith) hb2) in
-    let s3 : p3 < 2 ^ 8 = rw e3 (xor_lt 8 (c % 256) b3 (omega arith) hb3) in
-    let r0 : ℕ = p0 * 2 ^ 24 in
-    let r1 : ℕ = p1 * 2 ^ 24 in
-    let r2 : ℕ = p2 * 2 ^ 24 in
-    let r3 : ℕ = p3 * 2 ^ 24 in
-    let f0 : r0 < 2 ^ 32 = omega arith in
-    let f1 : r1 < 2 ^ 32 = omega arith in
-    let f2 : r2 < 2 ^ 32 = omega arith in
-    let y1 : ℕ = c % 2 ^ 24 * 2 ^ 8 in
-    let y2 : ℕ = y1 % 2 ^ 24 * 2 ^ 8 in
-    let y3 : ℕ = y2 % 2 ^ 24 * 2 ^ 8 in
-    let x1 : ℕ = moved 32 g 8 r0 in
-    let x2 : ℕ = bit_xor (moved 32 g 16 r0) (moved 32 g 8 r1) in
-    let x3 : ℕ = bit_xor (bit_xor (moved 32 g 24 r0) (moved 32 g 16 r1)) (moved 32 g 8 r2) in
-    let x4 : ℕ = bit_xor (bit_xor (bit_xor (moved 32 g 32 r0) (moved 32 g 24 r1)) (moved 32 g 16 r2)) (moved 32 g 8 r3) in
-    let k1 : x1 < 2 ^ 32 = small 8 r0 f0 in
-    let k2 : x2 < 2 ^ 32 = xor_lt 32 (moved 32 g 16 r0) (moved 32 g 8 r1) (small 16 r0 f0) (small 8 r1 f1) in
-    let k3' : bit_xor (moved 32 g 24 r0) (moved 32 g 16 r1) < 2 ^ 32 = xor_lt 32 (moved 32 g 24 r0) (moved 32 g 16 r1) (small 24 r0 f0) (small 16 r1 f1) in
-    let k3 : x3 < 2 ^ 32 = xor_lt 32 (bit_xor (moved 32 g 24 r0) (moved 32 g 16 r1)) (moved 32 g 8 r2) k3' (small 8 r2 f2) in
-    let q1 : p1 ≡ bit_xor (y1 / 2 ^ 24) b1 = e1 ∙ ap (λ n. bit_xor n b1) (let e : c / 2 ^ 16 % 256 ≡ y1 / 2 ^ 24 = omega arith in e) in
-    let q2 : p2 ≡ bit_xor (y2 / 2 ^ 24) b2 = e2 ∙ ap (λ n. bit_xor n b2) (let e : c / 2 ^ 8 % 256 ≡ y2 / 2 ^ 24 = omega arith in e) in
-    let q3 : p3 ≡ bit_xor (y3 / 2 ^ 24) b3 = e3 ∙ ap (λ n. bit_xor n b3) (let e : c % 256 ≡ y3 / 2 ^ 24 = omega arith in e) in
-    let one : moved 32 g 8 (bit_xor c (b0 * 2 ^ 24)) ≡ bit_xor x1 y1 = octet_step 24 g (least32 kind) (most32 kind) c b0 p0 hc hb0 e0 in
-    let two : moved 32 g 8 (bit_xor (bit_xor x1 y1) (b1 * 2 ^ 24)) ≡ bit_xor x2 y2 =
-    part_more kind x1 y1 b1 p1 k1 (omega arith) hb1 q1 ∙ ap (λ m. bit_xor (bit_xor m (moved 32 g 8 r1)) y2) (eight_more kind 8 16 r0 refl) in
-    let three : moved 32 g 8 (bit_xor (bit_xor x2 y2) (b2 * 2 ^ 24)) ≡ bit_xor x3 y3 =
-    part_more kind x2 y2 b2 p2 k2 (omega arith) hb2 q2
-    ∙ ap (λ m. bit_xor (bit_xor m (moved 32 g 8 r2)) y3) (sum 8 (moved 32 g 16 r0) (moved 32 g 8 r1) (small 16 r0 f0) (small 8 r1 f1) ∙ ap₂ bit_xor (eight_more kind 16 24 r0 refl) (eight_more kind 8 16 r1 refl)) in
-    let four : moved 32 g 8 (bit_xor (bit_xor x3 y3) (b3 * 2 ^ 24)) ≡ bit_xor x4 0 =
-    part_more kind x3 y3 b3 p3 k3 (omega arith) hb3 q3
-    ∙ ap₂ (λ m n. bit_xor (bit_xor m (moved 32 g 8 r3)) n)
-    (sum 8 (bit_xor (moved 32 g 24 r0) (moved 32 g 16 r1)) (moved 32 g 8 r2) k3' (small 8 r2 f2)
-    ∙ ap₂ bit_xor (sum 8 (moved 32 g 24 r0) (moved 32 g 16 r1) (small 24 r0 f0) (small 16 r1 f1) ∙ ap₂ bit_xor (eight_more kind 24 32 r0 refl) (eight_more kind 16 24 r1 refl)) (eight_more kind 8 16 r2 refl))
-    (let e : y3 % 2 ^ 24 * 2 ^ 8 ≡ 0 = omega arith in e) in
-    ap₂ bit_xor (ap₂ bit_xor (ap₂ bit_xor (h4 p0 s0) (h3 p1 s1)) (h2 p2 s2)) (h1 p3 s3)
-    ∙ sym (xor_zero_r x4)
-    ∙ sym (
-    ap (λ m. moved 32 g 8 (bit_xor (moved 32 g 8 (bit_xor (moved 32 g 8 (bit_xor m (b1 * 2 ^ 24))) (b2 * 2 ^ 24))) (b3 * 2 ^ 24))) one
-    ∙ ap (λ m. moved 32 g 8 (bit_xor (moved 32 g 8 (bit_xor m (b2 * 2 ^ 24))) (b3 * 2 ^ 24))) two
-    ∙ ap (λ m. moved 32 g 8 (bit_xor m (b3 * 2 ^ 24))) three
-    ∙ four
-    )
-
--- So many octets are taken, by fours.
-pub record IsFours (kind : Crc32) (before : ℕ) (o : List ℕ) (whole place left : ℕ) : Type 0 where
+-- So many octets are taken, by eights.
+pub record IsEights32 (kind : Crc32) (before : ℕ) (o : List ℕ) (whole place mirror : ℕ) : Type 0 where
   pub within : place ≤ whole
-  pub fours : place % 4 ≡ 0
-  pub is : left ≡ left_behind kind before (take place o)
+  pub eights : place % 8 ≡ 0
+  pub is : mirror ≡ L kind before (take place o)
 
-pub fours_more : (kind : Crc32) (t1 t2 t3 t4 : List ℕ) (before whole place left next : ℕ) (o : List ℕ) (b0 b1 b2 b3 p0 p1 p2 p3 : ℕ)
-    → IsTable kind t1 → IsTableOf kind 16 t2 → IsTableOf kind 24 t3 → IsTableOf kind 32 t4
-    → whole % 4 ≡ 0 → whole ≤ length o → place < whole → ((i : ℕ) → get_or o i 0 < 256)
-    → b0 ≡ octet_read kind (get_or o place 0) → b1 ≡ octet_read kind (get_or o (place + 1) 0) → b2 ≡ octet_read kind (get_or o (place + 2) 0) → b3 ≡ octet_read kind (get_or o (place + 3) 0)
-    → p0 ≡ bit_xor (left / 2 ^ 24) b0 → p1 ≡ bit_xor (left / 2 ^ 16 % 256) b1 → p2 ≡ bit_xor (left / 2 ^ 8 % 256) b2 → p3 ≡ bit_xor (left % 256) b3
-    → next ≡ bit_xor (bit_xor (bit_xor (get_or t4 p0 0) (get_or t3 p1 0)) (get_or t2 p2 0)) (get_or t1 p3 0)
-    → IsFours kind before o whole place left → IsFours kind before o whole (place + 4) next
-fours_more kind t1 t2 t3 t4 before whole place left next o b0 b1 b2 b3 p0 p1 p2 p3 h1 h2 h3 h4 by inside some bytes d0 d1 d2 d3 e0 e1 e2 e3 is i =
-    let g : ℕ = divisor32 kind in
-    let at_four : place % 4 ≡ 0 = i.fours in
-    let octet : (n b : ℕ) → b ≡ octet_read kind (get_or o n 0) → b < 256 = λ n b e. rw e (octet_below kind (get_or o n 0) (bytes n)) in
-    let fits : left < 2 ^ 32 = rw i.is (below32 kind before (take place o)) in
-    let one : moved 32 g 8 (bit_xor left (b0 * 2 ^ 24)) ≡ left_behind kind before (take (place + 1) o) =
-    ap (λ s. moved 32 g 8 (bit_xor s (b0 * 2 ^ 24))) i.is ∙ more32 kind before o place b0 (omega arith) d0 (bytes place) in
-    let next_place : (k : ℕ) → place + k + 1 ≡ place + (k + 1) = λ k. omega arith in
-    let two : moved 32 g 8 (bit_xor (left_behind kind before (take (place + 1) o)) (b1 * 2 ^ 24)) ≡ left_behind kind before (take (place + 2) o) =
-    more32 kind before o (place + 1) b1 (omega arith) d1 (bytes (place + 1)) ∙ ap (λ k. left_behind kind before (take k o)) (next_place 1) in
-    let three : moved 32 g 8 (bit_xor (left_behind kind before (take (place + 2) o)) (b2 * 2 ^ 24)) ≡ left_behind kind before (take (place + 3) o) =
-    more32 kind before o (place + 2) b2 (omega arith) d2 (bytes (place + 2)) ∙ ap (λ k. left_behind kind before (take k o)) (next_place 2) in
-    let four : moved 32 g 8 (bit_xor (left_behind kind before (take (place + 3) o)) (b3 * 2 ^ 24)) ≡ left_behind kind before (take (place + 4) o) =
-    more32 kind before o (place + 3) b3 (omega arith) d3 (bytes (place + 3)) ∙ ap (λ k. left_behind kind before (take k o)) (next_place 3) in
+pub eights_more32 : (kind : Crc32) (t : List (List ℕ)) (before whole place mirror next p0 p1 p2 p3 p4 p5 p6 p7 : ℕ) (o : List ℕ) → AreTables kind t
+    → whole % 8 ≡ 0 → whole ≤ length o → place < whole → ((i : ℕ) → get_or o i 0 < 256)
+    → p0 ≡ bit_xor (mirror % 2 ^ 8) (get_or o place 0) → p1 ≡ bit_xor (mirror / 2 ^ 8 % 2 ^ 8) (get_or o (place + 1) 0)
+    → p2 ≡ bit_xor (mirror / 2 ^ 16 % 2 ^ 8) (get_or o (place + 2) 0) → p3 ≡ bit_xor (mirror / 2 ^ 24) (get_or o (place + 3) 0)
+    → p4 ≡ get_or o (place + 4) 0 → p5 ≡ get_or o (place + 5) 0 → p6 ≡ get_or o (place + 6) 0 → p7 ≡ get_or o (place + 7) 0
+    → next ≡ bit_xor (bit_xor (bit_xor (bit_xor (bit_xor (bit_xor (bit_xor (in_table t 7 p0) (in_table t 6 p1)) (in_table t 5 p2)) (in_table t 4 p3)) (in_table t 3 p4)) (in_table t 2 p5)) (in_table t 1 p6)) (in_table t 0 p7)
+    → IsEights32 kind before o whole place mirror → IsEights32 kind before o whole (place + 8) next
+eights_more32 kind t before whole place mirror next p0 p1 p2 p3 p4 p5 p6 p7 o are by inside some bytes i0 i1 i2 i3 i4 i5 i6 i7 is i =
+    let at_eight : place % 8 ≡ 0 = i.eights in
+    let S : ℕ → ℕ = λ n. L kind before (take (place + n) o) in
+    let B : ℕ → ℕ = λ n. get_or o (place + n) 0 in
+    let fits : (n : ℕ) → S n < 2 ^ 32 = λ n. mirror_below kind (left_behind kind before (take (place + n) o)) in
+    let start : mirror ≡ S 0 = i.is ∙ ap (λ k. L kind before (take k o)) (let e : place ≡ place + 0 = omega arith in e) in
+    let first : get_or o place 0 ≡ B 0 = ap (λ k. get_or o k 0) (let e : place ≡ place + 0 = omega arith in e) in
+    let one : (n : ℕ) → n < 8 → W kind 1 (bit_xor (S n) (B n)) ≡ S (n + 1) =
+    λ n h. one_more kind before o (place + n) (place + (n + 1)) (omega arith) (omega arith) (bytes (place + n)) in
     record {
       within = omega arith;
-      fours = omega arith;
+      eights = omega arith;
       is =
           is
-          ∙ four32 kind t1 t2 t3 t4 left b0 b1 b2 b3 p0 p1 p2 p3 h1 h2 h3 h4 fits (octet place b0 d0) (octet (place + 1) b1 d1) (octet (place + 2) b2 d2) (octet (place + 3) b3 d3) e0 e1 e2 e3
-          ∙ ap (λ m. moved 32 g 8 (bit_xor (moved 32 g 8 (bit_xor (moved 32 g 8 (bit_xor m (b1 * 2 ^ 24))) (b2 * 2 ^ 24))) (b3 * 2 ^ 24))) one
-          ∙ ap (λ m. moved 32 g 8 (bit_xor (moved 32 g 8 (bit_xor m (b2 * 2 ^ 24))) (b3 * 2 ^ 24))) two
-          ∙ ap (λ m. moved 32 g 8 (bit_xor m (b3 * 2 ^ 24))) three
-          ∙ four;
+          ∙ rw (i4, i5, i6, i7) refl
+          ∙ eight32 kind t (S 0) (S 1) (S 2) (S 3) (S 4) (S 5) (S 6) (S 7) (S 8) (B 0) (B 1) (B 2) (B 3) (B 4) (B 5) (B 6) (B 7) p0 p1 p2 p3 are (fits 0) (fits 8)
+          (bytes (place + 0)) (bytes (place + 1)) (bytes (place + 2)) (bytes (place + 3)) (bytes (place + 4)) (bytes (place + 5)) (bytes (place + 6)) (bytes (place + 7))
+          (one 0 (omega arith)) (one 1 (omega arith)) (one 2 (omega arith)) (one 3 (omega arith)) (one 4 (omega arith)) (one 5 (omega arith)) (one 6 (omega arith)) (one 7 (omega arith))
+          (i0 ∙ ap₂ (λ c b. bit_xor (c % 2 ^ 8) b) start first) (i1 ∙ ap (λ c. bit_xor (c / 2 ^ 8 % 2 ^ 8) (B 1)) start)
+          (i2 ∙ ap (λ c. bit_xor (c / 2 ^ 16 % 2 ^ 8) (B 2)) start) (i3 ∙ ap (λ c. bit_xor (c / 2 ^ 24) (B 3)) start);
     }
+
+-- Once all octets are taken, what is left comes back.
+pub all_taken : (kind : Crc32) (before : ℕ) (o : List ℕ) (n : ℕ) → length o ≤ n → mirrored32 kind (L kind before (take n o)) ≡ left_behind kind before o
+all_taken kind before o n h = mirror_back kind (left_behind kind before (take n o)) (below32 kind before (take n o)) ∙ ap (left_behind kind before) (take_all n o h)

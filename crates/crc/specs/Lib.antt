@@ -4,3 +4,4 @@ pub mod Damage
 pub mod FileChecks
 pub mod Products
 pub mod Pieces
+pub mod Mirrors

@@ -21,6 +21,7 @@ mod laws;
 mod lookup;
 mod moving;
 mod sixteen;
+mod sixteen_tables;
 mod thirty_two;
 
 pub use damage::damage_is_seen;

@@ -1,14 +1,9 @@
 //! The checks of thirty-two bits.
-ghost use Rattle.std.specs.Prelude.{◌≡◌, ℕ, ◌+◌, ◌*◌, ◌/◌, ◌%◌, ◌^◌, ◌<◌, ◌≤◌, bit_xor, slice_index};
-ghost use Rattle.std.specs.Prelude.{length, take};
-ghost use Rattle.crc.specs.Division.{moved};
-ghost use Rattle.crc.specs.FileChecks.{crc32_of, divisor32, left_behind, octet_read, start32};
-ghost use Rattle.crc.specs.FileChecks.{written32};
+ghost use Rattle.std.specs.Prelude.{◌≡◌, ◌+◌, ◌/◌, ◌%◌, ◌^◌, ◌≤◌, bit_xor, length, take};
+ghost use Rattle.crc.specs.FileChecks.{crc32_of, divisor32, left_behind, start32, written32};
+ghost use Rattle.crc.specs.Mirrors.{in_table, mirrored32, AreTables};
 
-use crate::lookup::{
-    CASTAGNOLI, CASTAGNOLI_2, CASTAGNOLI_3, CASTAGNOLI_4, IEEE, IEEE_2, IEEE_3, IEEE_4, PROXIMITY,
-    PROXIMITY_2, PROXIMITY_3, PROXIMITY_4,
-};
+use crate::lookup::{CASTAGNOLI, IEEE, PROXIMITY};
 
 /// A check of thirty-two bits that a file may have, each a checksum type of SANA's registry.
 #[derive(Clone, Copy, Debug, PartialEq, Eq)]
@@ -43,39 +38,62 @@ impl Crc32 {
     pub(crate) fn more(self, before: u32, octets: &[u8]) -> u32
         ensures { result ≡ left_behind self before octets.now }
     {
-        let table = self.table();
-        let whole = octets.len() / 4 * 4;
-        let mut left = self.fours(before, octets, whole);
+        let tables = self.tables();
+        let whole = octets.len() / 8 * 8;
+        let mut mirror = self.eights(before, octets, whole);
         for place in whole..octets.len() {
-            left = with_octet(table, left, self.octet_read(octets[place]));
+            mirror = with_octet(tables, mirror, octets[place]);
         }
-        left
+        self.mirrored(mirror)
     }
 
-    // The same of the first octets, so many fours.
-    fn fours(self, before: u32, octets: &[u8], whole: usize) -> u32
+    // The mirror of what is left of the first octets, so many eights.
+    fn eights(self, before: u32, octets: &[u8], whole: usize) -> u32
         requires within { whole ≤ length octets.now }
-        requires fours { whole % 4 ≡ 0 }
-        ensures { result ≡ left_behind self before (take whole octets.now) }
+        requires eights { whole % 8 ≡ 0 }
+        ensures { result ≡ mirrored32 self (left_behind self before (take whole octets.now)) }
     {
-        let table = self.table();
-        let second = self.second_table();
-        let third = self.third_table();
-        let fourth = self.fourth_table();
-        let mut left = before;
+        let tables = self.tables();
+        let mut mirror = self.mirrored(before);
         let mut place = 0;
         while place < whole {
-            let highest = (left >> 24) as u8 ^ self.octet_read(octets[place]);
-            let higher = ((left >> 16) % 256) as u8 ^ self.octet_read(octets[place + 1]);
-            let lower = ((left >> 8) % 256) as u8 ^ self.octet_read(octets[place + 2]);
-            let lowest = (left % 256) as u8 ^ self.octet_read(octets[place + 3]);
-            left = fourth[usize::from(highest)]
-                ^ third[usize::from(higher)]
-                ^ second[usize::from(lower)]
-                ^ table[usize::from(lowest)];
-            place += 4;
+            let first = (mirror % 256) as u8 ^ octets[place];
+            let second = ((mirror >> 8) % 256) as u8 ^ octets[place + 1];
+            let third = ((mirror >> 16) % 256) as u8 ^ octets[place + 2];
+            let fourth = (mirror >> 24) as u8 ^ octets[place + 3];
+            mirror = tables[7][usize::from(first)]
+                ^ tables[6][usize::from(second)]
+                ^ tables[5][usize::from(third)]
+                ^ tables[4][usize::from(fourth)]
+                ^ tables[3][usize::from(octets[place + 4])]
+                ^ tables[2][usize::from(octets[place + 5])]
+                ^ tables[1][usize::from(octets[place + 6])]
+                ^ tables[0][usize::from(octets[place + 7])];
+            place += 8;
         }
-        left
+        mirror
+    }
+
+    // What is left, with its octets or its bits the other way round: so its lowest octet is that to
+    // which the next octet is added, as it stands in a file.
+    fn mirrored(self, left: u32) -> u32
+        ensures { result ≡ mirrored32 self left }
+    {
+        match self {
+            Crc32::Proximity1 => left.swap_bytes(),
+            Crc32::Castagnoli | Crc32::Ieee => left.reverse_bits(),
+        }
+    }
+
+    // What each octet leaves, mirrored, with none to seven octets of zeros more behind it.
+    fn tables(self) -> &'static [[u32; 256]; 8]
+        ensures { AreTables self result.now }
+    {
+        match self {
+            Crc32::Proximity1 => &PROXIMITY,
+            Crc32::Castagnoli => &CASTAGNOLI,
+            Crc32::Ieee => &IEEE,
+        }
     }
 
     /// How what is left is written.
@@ -85,65 +103,6 @@ impl Crc32 {
         match self {
             Crc32::Proximity1 => left,
             Crc32::Castagnoli | Crc32::Ieee => !left.reverse_bits(),
-        }
-    }
-
-    // An octet as it is divided.
-    #[inline(always)]
-    fn octet_read(self, octet: u8) -> u8
-        ensures { result ≡ octet_read self octet }
-    {
-        match self {
-            Crc32::Proximity1 => octet,
-            Crc32::Castagnoli | Crc32::Ieee => octet.reverse_bits(),
-        }
-    }
-
-    // What each octet leaves.
-    fn table(self) -> &'static [u32; 256]
-        ensures { (n : ℕ) → n < 256 → slice_index result.now n
-            ≡ moved 32 (divisor32 self) 8 (n * 2 ^ 24) }
-    {
-        match self {
-            Crc32::Proximity1 => &PROXIMITY,
-            Crc32::Castagnoli => &CASTAGNOLI,
-            Crc32::Ieee => &IEEE,
-        }
-    }
-
-    // The same with one octet more.
-    fn second_table(self) -> &'static [u32; 256]
-        ensures { (n : ℕ) → n < 256 → slice_index result.now n
-            ≡ moved 32 (divisor32 self) 16 (n * 2 ^ 24) }
-    {
-        match self {
-            Crc32::Proximity1 => &PROXIMITY_2,
-            Crc32::Castagnoli => &CASTAGNOLI_2,
-            Crc32::Ieee => &IEEE_2,
-        }
-    }
-
-    // The same with two octets more.
-    fn third_table(self) -> &'static [u32; 256]
-        ensures { (n : ℕ) → n < 256 → slice_index result.now n
-            ≡ moved 32 (divisor32 self) 24 (n * 2 ^ 24) }
-    {
-        match self {
-            Crc32::Proximity1 => &PROXIMITY_3,
-            Crc32::Castagnoli => &CASTAGNOLI_3,
-            Crc32::Ieee => &IEEE_3,
-        }
-    }
-
-    // The same with three octets more.
-    fn fourth_table(self) -> &'static [u32; 256]
-        ensures { (n : ℕ) → n < 256 → slice_index result.now n
-            ≡ moved 32 (divisor32 self) 32 (n * 2 ^ 24) }
-    {
-        match self {
-            Crc32::Proximity1 => &PROXIMITY_4,
-            Crc32::Castagnoli => &CASTAGNOLI_4,
-            Crc32::Ieee => &IEEE_4,
         }
     }
 
@@ -159,12 +118,12 @@ impl Crc32 {
     }
 }
 
-/// What is left with one octet more.
+/// The mirror of what is left with one octet more.
 #[inline(always)]
-fn with_octet(table: &[u32; 256], left: u32, octet: u8) -> u32
-    ensures { result ≡ bit_xor (slice_index table.now (bit_xor (left / 2 ^ 24) octet))
-        (left * 2 ^ 8 % 2 ^ 32) }
+fn with_octet(tables: &[[u32; 256]; 8], mirror: u32, octet: u8) -> u32
+    ensures { result ≡ bit_xor (in_table tables.now 0 (bit_xor (mirror % 2 ^ 8) octet))
+        (mirror / 2 ^ 8) }
 {
-    let place = (left >> 24) as u8 ^ octet;
-    table[usize::from(place)] ^ (left << 8)
+    let place = (mirror % 256) as u8 ^ octet;
+    tables[0][usize::from(place)] ^ (mirror >> 8)
 }

@@ -1,6 +1,6 @@
 use Rattle.std.proofs.Common.{arith}
 use Rattle.crc.specs.FileChecks.{divisor32}
-use Rattle.crc.proofs.Tables32.{least32, most32}
+use Rattle.crc.proofs.Lefts.{least32, most32}
 use Rattle.crc.proofs.Powers.{doubled_high, doubled_low}
 use Rattle.crc.proofs.thirty_two.Crc32.doubled.Goals as goal
 

@@ -1,7 +1,8 @@
-use Rattle.std.proofs.Common.{◌*◌, ◌^◌, bit_xor, take, ap, ◌∙◌, arith}
-use Rattle.crc.specs.Division.{moved}
-use Rattle.crc.specs.FileChecks.{divisor32}
-use Rattle.crc.proofs.Tables32.{step32, more32, below32}
+use Rattle.std.proofs.Common.{◌+◌, ◌%◌, ◌^◌, bit_xor, take, get_or, refl, ap, ◌∙◌, arith}
+use Rattle.crc.specs.FileChecks.{left_behind}
+use Rattle.crc.specs.Mirrors.{mirrored32, mirror_moved}
+use Rattle.crc.proofs.Mirrors.{mirror_below}
+use Rattle.crc.proofs.Tables32.{by_table, one_more, all_taken}
 use Rattle.crc.proofs.thirty_two.Crc32.more.Goals as goal
 
 pub loop-place-preserved : goal.loop-place-preserved
@@ -9,8 +10,15 @@ loop-place-preserved c =
     let kind = c.args.self in
     let o = c.args.octets.now in
     let n = c.loop-place.place in
-    let b = c.octet_read.result in
-    c.with_octet-left.ensures
-    ∙ step32 kind c.table-table.result.now c.loop-place.left b c.table-table.ensures (rw c.loop-place.invariant (below32 kind c.args.before (take n o))) (omega arith)
-    ∙ ap (λ s. moved 32 (divisor32 kind) 8 (bit_xor s (b * 2 ^ 24))) c.loop-place.invariant
-    ∙ more32 kind c.args.before o n b (omega arith) c.octet_read.ensures (omega (arith, c.type_inv.octets n))
+    let b = get_or o n 0 in
+    let y = c.loop-place.mirror in
+    c.with_octet-mirror.ensures
+    ∙ by_table kind c.tables-tables.result.now y b (bit_xor (y % 2 ^ 8) b) c.tables-tables.ensures (rw c.loop-place.invariant (mirror_below kind (left_behind kind c.args.before (take n o)))) (omega (arith, c.type_inv.octets n)) refl
+    ∙ ap (λ m. mirror_moved kind 1 (bit_xor m b)) c.loop-place.invariant
+    ∙ one_more kind c.args.before o n (n + 1) refl (omega arith) (omega (arith, c.type_inv.octets n))
+
+pub returns : goal.returns
+returns c =
+    c.mirrored.ensures
+    ∙ ap (mirrored32 c.args.self) c.loop-place.invariant
+    ∙ all_taken c.args.self c.args.before c.args.octets.now c.loop-place.place (omega arith)

@@ -1,6 +1,6 @@
 use Rattle.std.proofs.Common.{◌∙◌, arith}
 use Rattle.crc.specs.FileChecks.{divisor32, moved_octets}
-use Rattle.crc.proofs.Tables32.{least32, most32}
+use Rattle.crc.proofs.Lefts.{least32, most32}
 use Rattle.crc.proofs.Powers.{moved_init, moved_done, moved_goes_even, moved_goes_odd}
 use Rattle.crc.proofs.thirty_two.Crc32.moved.Goals.{then-count-eq1, else-count-eq1}
 use Rattle.crc.proofs.thirty_two.Crc32.moved.Goals as goal

@@ -1,6 +1,6 @@
 use Rattle.crc.specs.FileChecks.{divisor32}
 use Rattle.crc.proofs.Powers.{IsMoved}
-use Rattle.crc.proofs.Tables32.{least32, most32}
+use Rattle.crc.proofs.Lefts.{least32, most32}
 use Rattle.crc.proofs.thirty_two.Crc32.moved.Given as goal
 
 abbrev pub invariant-loop-count : goal.invariant-loop-count

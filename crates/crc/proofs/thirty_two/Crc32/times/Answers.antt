@@ -1,6 +1,6 @@
 use Rattle.std.proofs.Common.{◌-◌, arith}
 use Rattle.crc.specs.FileChecks.{divisor32}
-use Rattle.crc.proofs.Tables32.{least32, most32}
+use Rattle.crc.proofs.Lefts.{least32, most32}
 use Rattle.crc.proofs.Powers.{product_init, product_done, product_goes}
 use Rattle.crc.proofs.thirty_two.Crc32.times.Goals as goal
 
