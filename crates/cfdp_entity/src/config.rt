@@ -40,7 +40,8 @@ pub struct EntityConfig {
 impl EntityConfig {
     /// An entity with these two ids, which have to differ. Ids have the least of 1, 2, 4 and 8
     /// octets that both fit, sequence numbers 4, the first of them 1; a PDU carries 1,024 octets of
-    /// the file at most, checksums are modular, and PDUs have no CRC. The policy is the default one.
+    /// the file at most, checksums are modular, and PDUs have no CRC. The policy is the default
+    /// one.
     #[tactic(auto, unfolding(cfdp_directives::specs::Pdu::Codes::is_known))]
     pub fn new(entity: u64, peer: u64) -> EntityConfig
         ensures valid { entity ≢ peer → IsConfig result }

@@ -1,5 +1,6 @@
 //! Lines, as their octets come.
-ghost use Rattle.std.specs.Prelude.{◌≡◌, ◌==◌, ◌+◌, ◌≤◌, ◌++◌, length, vec_len, IfOk, OnErr, OnOk, false};
+ghost use Rattle.std.specs.Prelude.{◌≡◌, ◌==◌, ◌+◌, ◌≤◌, ◌++◌, length, vec_len, IfOk, OnErr, OnOk};
+ghost use Rattle.std.specs.Prelude.{false};
 ghost use Rattle.cfdp_host.specs.Lines.{Takes};
 
 use cfdp_script::cut_at_first;

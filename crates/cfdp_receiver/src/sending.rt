@@ -25,8 +25,8 @@ use cfdp_header::Header;
 use cfdp_timers::{Effects, Kind};
 
 impl Receiver {
-    /// Octets of the PDU that is due, its header and its CRC too; `None` where none is, as while the
-    /// transaction is suspended. What is due can be written, and has 4,128 octets at the most.
+    /// Octets of the PDU that is due, its header and its CRC too; `None` where none is, as while
+    /// the transaction is suspended. What is due can be written, and has 4,128 octets at the most.
     /// Takes no memory.
     pub fn due(&self) -> Option<usize>
         ensures len { result ≡ due_len self.now }
@@ -131,8 +131,8 @@ impl Receiver {
         }
     }
 
-    /// Octets of a NAK from an offset on, its header and its CRC too: what it asks for is counted here, and
-    /// gathered once it is written.
+    /// Octets of a NAK from an offset on, its header and its CRC too: what it asks for is counted
+    /// here, and gathered once it is written.
     #[tactic(auto, using(crate::proofs::AskedLemmas::nak_fits))]
     fn len_of_nak(&self, cursor: u64) -> usize
         requires { IsWritableIn self.now (due_is.Nak cursor) }

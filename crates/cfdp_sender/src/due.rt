@@ -30,9 +30,9 @@ pub enum SenderDue {
 }
 
 impl Sender {
-    /// Octets of the PDU that is due, its header and its CRC too: of what `take_pdu` would write now. `None`
-    /// where none is due, as of a suspended transaction. Whatever the file holds, its size alone
-    /// counts. What is due can be written, and has 4,134 octets at the most.
+    /// Octets of the PDU that is due, its header and its CRC too: of what `take_pdu` would write
+    /// now. `None` where none is due, as of a suspended transaction. Whatever the file holds, its
+    /// size alone counts. What is due can be written, and has 4,134 octets at the most.
     pub fn due(&self) -> Option<usize>
         ensures some { is_some result ≡ is_some (sender_due self.now) }
         ensures short { IfSome result (λ len. len ≤ 4134) }

@@ -1,5 +1,6 @@
 //! A station that serves its user over a wire, in turns.
-ghost use Rattle.std.specs.Prelude.{◌≡◌, ◌≢◌, ◌++◌, ◌≤◌, ◌&&◌, not, Bool, List, [], ◌∷◌, false, length};
+ghost use Rattle.std.specs.Prelude.{◌≡◌, ◌≢◌, ◌++◌, ◌≤◌, ◌&&◌, not, Bool, List, [], ◌∷◌, false};
+ghost use Rattle.std.specs.Prelude.{length};
 ghost use Rattle.std.specs.Prelude.{map, is_err, OnOk};
 ghost use Rattle.cfdp_port.specs.Gains.{Gains};
 ghost use Rattle.cfdp_port.specs.Port.{AtStation, table_of};

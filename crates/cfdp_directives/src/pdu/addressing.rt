@@ -37,8 +37,8 @@ pub struct Addressing {
 }
 
 impl Addressing {
-    /// Takes them from the header of a PDU that was heard, as for an answer in the same widths, with
-    /// a CRC where that PDU has one.
+    /// Takes them from the header of a PDU that was heard, as for an answer in the same widths, and
+    /// with a CRC where that PDU has one.
     pub fn of(header: &Header) -> Addressing
         ensures { result ≡ addressing_of header.now }
     {
@@ -128,9 +128,9 @@ impl Addressing {
         encode(&header, pdu, out)
     }
 
-    /// Writes a file data PDU but for its data, `count` octets, and its CRC into the first octets of
-    /// `out`, and says how many it wrote: there the data go, and behind them the CRC (`write_crc`).
-    /// The octets behind stay. Takes no memory.
+    /// Writes a file data PDU but for its data, `count` octets, and its CRC into the first octets
+    /// of `out`, and says how many it wrote: there the data go, and behind them the CRC
+    /// (`write_crc`). The octets behind stay. Takes no memory.
     #[tactic(auto, using(crate::proofs::Addressed::header_fits))]
     pub fn write_data_front(&self, large: bool, offset: u64, count: usize, out: &mut [u8]) -> usize
         requires addressing { FitsAddressing self.now }

@@ -1,8 +1,10 @@
-ghost use Rattle.std.specs.Prelude.{◌≡◌, ℕ, ◌+◌, ◌^◌, ◌<◌, ◌++◌, [], true, List, length, Option, Some, None};
+ghost use Rattle.std.specs.Prelude.{◌≡◌, ℕ, ◌+◌, ◌^◌, ◌<◌, ◌++◌, [], true, List, length, Option};
+ghost use Rattle.std.specs.Prelude.{Some, None};
 ghost use Rattle.crc.specs.Pieces.{Piece, Cuts};
 ghost use Rattle.cfdp_directives.specs.Pdu.Checksum.{checksum_of};
 ghost use Rattle.cfdp_directives.specs.Pdu.Sums as words;
-ghost use Rattle.cfdp_directives.specs.Pdu.Sums.{nothing_summed, summed, all_summed, sum_told, AreSumsOf, SumsFit};
+ghost use Rattle.cfdp_directives.specs.Pdu.Sums.{nothing_summed, summed, all_summed, sum_told};
+ghost use Rattle.cfdp_directives.specs.Pdu.Sums.{AreSumsOf, SumsFit};
 ghost use Rattle.cfdp_directives.specs.declared.pdu.sums.Checksums.{Checksums};
 
 use crate::pdu::checksum::Checksum;

@@ -9,7 +9,8 @@ ghost use Rattle.cfdp_node.specs.Station.Request.{addresses_app, carried_app, ca
 ghost use Rattle.cfdp_node.specs.Station.Request.{consoled_app};
 ghost use Rattle.cfdp_node.specs.Station.Request.{file_app, first_number_rule, flags_of, held_app};
 ghost use Rattle.cfdp_node.specs.Station.Request.{incoming_app, limits_of, lists_app, named_rule};
-ghost use Rattle.cfdp_node.specs.Station.Request.{names_app, numbered_app, numbers_of, operated_app};
+ghost use Rattle.cfdp_node.specs.Station.Request.{names_app, numbered_app, numbers_of};
+ghost use Rattle.cfdp_node.specs.Station.Request.{operated_app};
 ghost use Rattle.cfdp_node.specs.Station.Request.{own_numbers_app, pairs_rule, said_number_rule};
 ghost use Rattle.cfdp_node.specs.Station.Request.{said_rule, sent_app, spooled_app, station_app};
 ghost use Rattle.cfdp_node.specs.Station.Request.{station_asked, station_of, stores_app};

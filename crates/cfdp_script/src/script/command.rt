@@ -6,8 +6,10 @@ ghost use Rattle.cfdp_script.specs.Script.Lines.{Reads, both, line_of, meaning, 
 ghost use Rattle.cfdp_script.specs.Script.Lines.{fill_of, fill_count, command_of, put_of, call_of};
 ghost use Rattle.cfdp_script.specs.Script.Lines.{motion_of, round_of, station_words};
 ghost use Rattle.cfdp_script.specs.Script.Lines.{transaction_words, number_words, frames_of};
-ghost use Rattle.cfdp_script.specs.Script.Lines.{which_of, count_of, frame_count, lane_of, prompt_of, asked_of};
-ghost use Rattle.cfdp_script.specs.Script.Lines.{damage_at, damage_of, damaged_of, id_of, station_of};
+ghost use Rattle.cfdp_script.specs.Script.Lines.{which_of, count_of, frame_count, lane_of};
+ghost use Rattle.cfdp_script.specs.Script.Lines.{prompt_of, asked_of};
+ghost use Rattle.cfdp_script.specs.Script.Lines.{damage_at, damage_of, damaged_of, id_of};
+ghost use Rattle.cfdp_script.specs.Script.Lines.{station_of};
 
 use crate::script::words::{Words, cut_at_first};
 use cfdp_directives::Octets;
