@@ -70,7 +70,9 @@ impl<'a, V: Write + Drop> OperatorConsole<'a, V> {
 
     /// The writer of its log.
     pub fn into_writer(self) -> KeptLog<V> {
-        self.post.journal.into_writer()
+        let post = self.post;
+        let OperatorPost { journal, .. } = post;
+        journal.into_writer()
     }
 
     /// Answers a line, and gives the command that it is, if it is one.
