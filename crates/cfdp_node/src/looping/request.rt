@@ -1,5 +1,5 @@
 //! What the words behind `loop` ask for.
-ghost use Rattle.std.specs.Prelude.{◌≡◌, false, IfOk, option_map};
+ghost use Rattle.std.specs.Prelude.{◌≡◌, ◌≤◌, false, IfOk, IfSome, option_map};
 ghost use Rattle.clap.specs.Matches.{found_of};
 ghost use Rattle.clap.specs.Walk.{rows_of, rule_of};
 ghost use Rattle.cfdp_node.specs.Looping.Request.{drop_rule, files_app, folders_app, loop_app};
