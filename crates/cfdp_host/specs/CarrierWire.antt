@@ -8,7 +8,7 @@ use Rattle.cfdp_host.specs.declared.carrier.datagram.PduCarrier.{PduCarrier}
 use Rattle.cfdp_host.specs.declared.carrier.datagram.PduCarrier.TheVariants as pdu_carriers
 use Rattle.cfdp_host.specs.declared.carrier.Carrier.{Carrier}
 use Rattle.cfdp_host.specs.declared.carrier.Carrier.TheVariants.{Frames, Packets, Pdus}
-use Rattle.cfdp_host.specs.Carrier.{ConversionState, GivesFrame, IsFirst, Leaves, TakesDatagram, TakesFrame}
+use Rattle.cfdp_host.specs.Carrier.{ConversionState, GivesFrame, IsFirst, Leaves, Passes, TakesFrame}
 
 -- The wire of datagrams; the way from frames to these and back, if they aren't the frames; and
 -- whether that wire was ready, and nothing was sent since.
@@ -77,15 +77,13 @@ module _ {W : Type 0} (Steps : W → WireCall → W → Type 0) where
     pub takes : TakesFrame frame c taken
     pub sends : SendsOut (record old { conversion = Some taken }) new
 
-  -- Where a frame comes to the station, it is one of its end of the link, which took the PDU of a
-  -- datagram before that, or none.
+  -- Where a frame comes to the station, it is one of its end of the link: one that waited, or one
+  -- behind a datagram that came before that.
   pub record BringsFrame (frame : List ℕ) (c : ConversionState) (old new : CarrierState W)
       : Type 0 where
-    pub taken : ConversionState
     pub after : ConversionState
-    pub comes : (taken ≡ c) ⊎ ((datagram : List ℕ)
-        × Steps old.wire (Asked (Ok (Some datagram))) new.wire × TakesDatagram datagram c taken)
-    pub gives : GivesFrame frame taken after
+    pub comes : GivesFrame frame c after ⊎ ((datagram : List ℕ)
+        × Steps old.wire (Asked (Ok (Some datagram))) new.wire × Passes datagram frame c after)
     pub now : new.conversion ≡ Some after
 
   -- A frame may leave only where no datagram waits, and the wire was ready for one.

@@ -11,7 +11,7 @@
 ghost use Rattle.std.specs.Prelude.{◌≡◌, ℕ, ◌≤◌, List, [], ◌∷◌, length, take, None, Some, true};
 ghost use Rattle.std.specs.Prelude.{IfOk, IfSome, OnErr, OnOk};
 ghost use Rattle.cfdp_host.specs.Carrier.{ConversionState, GivesFrame, IsFirst, Leaves};
-ghost use Rattle.cfdp_host.specs.Carrier.{TakesDatagram, TakesFrame};
+ghost use Rattle.cfdp_host.specs.Carrier.{Passes, TakesDatagram, TakesFrame};
 ghost use Rattle.cfdp_host.specs.CarrierWire.{Carries, IsFirstOf, LeavesNext, MayLeave};
 ghost use Rattle.cfdp_host.specs.CarrierWire.{SendsOut, pdu_carrier, waiting_of};
 
@@ -178,6 +178,19 @@ impl Conversion {
         self.down.next_frame(&mut buffer[..len])?;
         Some(len)
     }
+
+    /// Takes the PDU of a datagram that came, and writes the next frame for the station to the front
+    /// of a buffer, as `next_frame` does. A datagram that is dropped is counted in the tally.
+    fn pass(&mut self, datagram: &[u8], tally: &CarrierTally, buffer: &mut [u8]) -> Option<usize>
+        ensures within { IfSome result (λ len. len ≤ length buffer.new) }
+        ensures passes { IfSome result (λ len. Passes datagram.now (take len buffer.new) self.old
+            self.new) }
+    {
+        if let Err(cause) = self.take_datagram(datagram) {
+            tally.count(cause);
+        }
+        self.next_frame(buffer)
+    }
 }
 
 /// The way from frames to datagrams and back, if these aren't the frames.
@@ -343,10 +356,7 @@ impl<W: PeerWire> Wire for CarrierWire<'_, W> {
         let Some(len) = self.wire.receive(&mut self.datagram)? else {
             return Ok(None);
         };
-        if let Err(cause) = conversion.take_datagram(&self.datagram[..len]) {
-            self.tally.count(cause);
-        }
-        match conversion.next_frame(buffer) {
+        match conversion.pass(&self.datagram[..len], self.tally, buffer) {
             Some(len) => Ok(Some(len)),
             None => Err(WireFault),
         }
