@@ -55,10 +55,17 @@ trace = false                   # tells what passes on standard error
 # Keys of --set.
 [set]
 zone = 256                      # octets of a frame's packet zone, 16 to 2040
+insert_zone = 0                 # octets of the insert zone in frames that it sends, 0 to 64
+control_field = 0               # 1 where these have an operational control field
+error_control = 0               # 1 where these have a frame error control field
+peer_insert_zone = 0            # the same of frames that it takes
+peer_control_field = 0
+peer_error_control = 0
 segment = 1024                  # octets of a file in one PDU at most, 1 to 4096
 id_width = 2                    # octets of an entity id, 1 to 8
 number_width = 8                # octets of a transaction's number, 1 to 8
 checksum = 0                    # 0 modular, 15 null; CRC-32: 1 Proximity-1, 2 C, 3 IEEE
+pdu_crc = 0                     # 1 where the PDUs that it sends end in a CRC
 eof_limit = 3                   # how often an EOF is sent again, 0 to 255
 nak_limit = 3                   # how often a NAK is sent again, 0 to 255
 finished_limit = 3              # how often a Finished is sent again, 0 to 255
@@ -81,10 +88,4 @@ peer_secondary_header = 0       # the same of packets that come, which are passe
 # peer_virtual_channel = 6      # of those that it takes
 # peer_data_virtual_channel = 8
 # peer_apid = 101
-# insert_zone = 0               # octets of the insert zone in frames that it sends, 0 to 64
-# control_field = 0             # 1 where these have an operational control field
-# error_control = 0             # 1 where these have a frame error control field
-# peer_insert_zone = 0          # the same of frames that it takes
-# peer_control_field = 0
-# peer_error_control = 0
 ";

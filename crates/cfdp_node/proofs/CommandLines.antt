@@ -1,5 +1,5 @@
 -- What command lines ask for, worked out: rows of the definitions in specs/Request.
-use Rattle.std.proofs.Common.{◌≡◌, true, false, List, [], ◌∷◌, codes, None, Some, refl}
+use Rattle.std.proofs.Common.{◌≡◌, ℕ, true, false, List, [], ◌∷◌, codes, None, Some, refl}
 use Rattle.clap.specs.Walk.{Text}
 use Rattle.clap.specs.declared.error.kind.ErrorKind.TheVariants.{DisplayHelp, DisplayHelpOnMissingArgumentOrSubcommand, InvalidValue, MissingRequiredArgument, UnknownArgument, ValueValidation}
 use Rattle.clap.proofs.OnLiterals.{clap_on_literals}
@@ -10,7 +10,9 @@ use Rattle.cfdp_node.specs.declared.station.request.CarrierKind.TheVariants.{Fra
 use Rattle.cfdp_node.specs.declared.station.request.StationFlags.{StationFlags}
 use Rattle.cfdp_node.specs.declared.station.request.StationLimits.{StationLimits}
 use Rattle.cfdp_node.specs.declared.station.request.TimeUnit.TheVariants.{Milliseconds, Seconds}
+use Rattle.frame_fields.specs.Fields.{no_fields}
 use Rattle.cfdp_report.specs.declared.dump.form.DumpForm.TheVariants.{Short, Long, Fields}
+use Rattle.cfdp_report.specs.declared.dump.shape.FrameShape.{FrameShape}
 use Rattle.cfdp_script.specs.declared.dump.DumpKind.TheVariants.{Pdus, Frames}
 
 -- words behind the program's name
@@ -44,32 +46,42 @@ drawn_of_file = (refl, refl)
 
 -- ---- dump
 
-plain_pdus : (refusals (line (codes "dump" ∷ codes "pdus" ∷ [])) ≡ []) × (asked_of (line (codes "dump" ∷ codes "pdus" ∷ [])) ≡ Some (dump (Pdus, 256, Short) None))
+-- frames with packet zones of so many octets and no fields beside the M_PDU
+abbrev bare : ℕ → FrameShape
+bare zone = record { zone = zone; fields = no_fields }
+
+plain_pdus : (refusals (line (codes "dump" ∷ codes "pdus" ∷ [])) ≡ []) × (asked_of (line (codes "dump" ∷ codes "pdus" ∷ [])) ≡ Some (dump (Pdus, bare 256, Short) None))
 unfolding clap_on_literals
 plain_pdus = (refl, refl)
 
 plain_frames : (refusals (line (codes "dump" ∷ codes "frames" ∷ [])) ≡ [])
-    × (asked_of (line (codes "dump" ∷ codes "frames" ∷ [])) ≡ Some (dump (Frames, 256, Short) None))
+    × (asked_of (line (codes "dump" ∷ codes "frames" ∷ [])) ≡ Some (dump (Frames, bare 256, Short) None))
 unfolding clap_on_literals
 plain_frames = (refl, refl)
 
 zoned_frames : (refusals (line (codes "dump" ∷ codes "frames" ∷ codes "--zone" ∷ codes "300" ∷ [])) ≡ [])
-    × (asked_of (line (codes "dump" ∷ codes "frames" ∷ codes "--zone" ∷ codes "300" ∷ [])) ≡ Some (dump (Frames, 300, Short) None))
+    × (asked_of (line (codes "dump" ∷ codes "frames" ∷ codes "--zone" ∷ codes "300" ∷ [])) ≡ Some (dump (Frames, bare 300, Short) None))
 unfolding clap_on_literals
 zoned_frames = (refl, refl)
 
+filled_frames : (refusals (line (codes "dump" ∷ codes "frames" ∷ codes "--error-control" ∷ codes "--insert-zone" ∷ codes "8" ∷ [])) ≡ [])
+    × (asked_of (line (codes "dump" ∷ codes "frames" ∷ codes "--error-control" ∷ codes "--insert-zone" ∷ codes "8" ∷ []))
+    ≡ Some (dump (Frames, record { zone = 256; fields = record { insert_zone = 8; control_field = false; error_control = true } }, Short) None))
+unfolding clap_on_literals
+filled_frames = (refl, refl)
+
 long_pdus : (refusals (line (codes "dump" ∷ codes "--long" ∷ codes "pdus" ∷ [])) ≡ [])
-    × (asked_of (line (codes "dump" ∷ codes "--long" ∷ codes "pdus" ∷ [])) ≡ Some (dump (Pdus, 256, Long) None))
+    × (asked_of (line (codes "dump" ∷ codes "--long" ∷ codes "pdus" ∷ [])) ≡ Some (dump (Pdus, bare 256, Long) None))
 unfolding clap_on_literals
 long_pdus = (refl, refl)
 
 fields_of_frames : (refusals (line (codes "dump" ∷ codes "--fields" ∷ codes "frames" ∷ codes "--long" ∷ [])) ≡ [])
-    × (asked_of (line (codes "dump" ∷ codes "--fields" ∷ codes "frames" ∷ codes "--long" ∷ [])) ≡ Some (dump (Frames, 256, Fields) None))
+    × (asked_of (line (codes "dump" ∷ codes "--fields" ∷ codes "frames" ∷ codes "--long" ∷ [])) ≡ Some (dump (Frames, bare 256, Fields) None))
 unfolding clap_on_literals
 fields_of_frames = (refl, refl)
 
 pdus_of_file : (refusals (line (codes "dump" ∷ codes "pdus" ∷ codes "a" ∷ [])) ≡ [])
-    × (asked_of (line (codes "dump" ∷ codes "pdus" ∷ codes "a" ∷ [])) ≡ Some (dump (Pdus, 256, Short) (Some (codes "a"))))
+    × (asked_of (line (codes "dump" ∷ codes "pdus" ∷ codes "a" ∷ [])) ≡ Some (dump (Pdus, bare 256, Short) (Some (codes "a"))))
 unfolding clap_on_literals
 pdus_of_file = (refl, refl)
 

@@ -8,12 +8,12 @@ use Rattle.link_sim.specs.Stations.{IsWorldConfig}
 use Rattle.link_sim.specs.declared.side.Side.{Side}
 use Rattle.link_sim.specs.declared.side.Side.TheVariants.{One, Two}
 use Rattle.cfdp_node.specs.Looping.Turns.{loop_settings}
-use Rattle.cfdp_report.specs.Settings.{FitFields, entity_of, link_of, station_of, world_of}
+use Rattle.cfdp_report.specs.Settings.{FitFields, entity_of, fields_of, link_of, station_of, world_of}
 
 pub fit : FitFields loop_settings
-fit = (lit< tt, (lit< tt, lit< tt, lit< tt, lit< tt), ((lit< tt, lit< tt, lit< tt), (lit< tt, lit< tt, lit< tt, lit< tt), (lit< tt, lit< tt, lit< tt)))
+fit = (lit< tt, (lit< tt, lit< tt, lit< tt), (lit< tt, lit< tt, lit< tt, lit< tt, lit< tt), ((lit< tt, lit< tt, lit< tt), (lit< tt, lit< tt, lit< tt, lit< tt), (lit< tt, lit< tt, lit< tt)))
 
-good_link : (s : Side) → IsLink (link_of s 256)
+good_link : (s : Side) → IsLink (link_of s 256 (fields_of loop_settings))
 good_link One = record { virtual_channel = lit< tt; data_virtual_channel = lit< tt; apart = λ e. cc; least_zone = lit≤ tt; most_zone = lit≤ tt; apid = lit≤ tt; fields = record { insert_zone = lit≤ tt } }
 good_link Two = record { virtual_channel = lit< tt; data_virtual_channel = lit< tt; apart = λ e. cc; least_zone = lit≤ tt; most_zone = lit≤ tt; apid = lit≤ tt; fields = record { insert_zone = lit≤ tt } }
 

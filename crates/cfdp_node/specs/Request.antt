@@ -18,12 +18,15 @@ use Rattle.clap.specs.declared.error.kind.ErrorKind.TheVariants.{DisplayHelp, Di
 use Rattle.clap.specs.declared.parser.matches.ArgMatches.{ArgMatches}
 use Rattle.cfdp_report.specs.declared.dump.form.DumpForm.{DumpForm}
 use Rattle.cfdp_report.specs.declared.dump.form.DumpForm.TheVariants.{Short, Long, Fields}
+use Rattle.cfdp_report.specs.declared.dump.shape.FrameShape.{FrameShape}
+use Rattle.cfdp_report.specs.Dump.Shape.{IsShape}
+use Rattle.frame_fields.specs.declared.config.FrameFields.{FrameFields}
 use Rattle.cfdp_script.specs.declared.dump.DumpRequest.{DumpRequest}
 use Rattle.cfdp_node.specs.declared.arguments.Request.{Request}
 use Rattle.cfdp_node.specs.declared.arguments.Request.TheVariants.{Sim, Dump, Loop, Station, Ask, Version}
 use Rattle.cfdp_script.specs.declared.dump.DumpKind.{DumpKind}
 use Rattle.cfdp_script.specs.declared.dump.DumpKind.TheVariants.{Pdus, Frames}
-use Rattle.cfdp_node.specs.Looping.Request.{LoopAsked, loop_app, loop_asked, loop_of, place_rule}
+use Rattle.cfdp_node.specs.Looping.Request.{LoopAsked, loop_app, loop_asked, loop_of, number_in, number_rule, place_rule}
 use Rattle.cfdp_node.specs.Station.Request.{StationAsked, station_app, station_asked, station_of, words_for}
 use Rattle.cfdp_node.specs.Shown.{ShownAsked, asked_shown, flag_rule, is_given, shown_of, with_shown}
 
@@ -54,9 +57,19 @@ sim_app = with_rule (with_shown (new_app (codes "sim"))) input_rule
 abbrev pub lines_app : App
 lines_app = with_rule (with_rule (new_app (codes "dump")) kind_rule) zone_rule
 
+-- the octets of an insert zone: up to 64, and 0 where none are given
+abbrev pub insert_rule : Rule
+insert_rule = number_rule (codes "insert-zone") 0 64 (codes "0")
+
+-- which fields frames have beside their header and their M_PDU
+abbrev pub frames_app : App
+frames_app =
+    with_rule (with_rule (with_rule lines_app insert_rule) (flag_rule (codes "control-field")))
+    (flag_rule (codes "error-control"))
+
 -- and how they are told; and the file with them
 abbrev pub told_app : App
-told_app = with_rule (with_rule lines_app (flag_rule (codes "long"))) (flag_rule (codes "fields"))
+told_app = with_rule (with_rule frames_app (flag_rule (codes "long"))) (flag_rule (codes "fields"))
 
 abbrev pub dump_app : App
 dump_app = with_rule told_app input_rule
@@ -100,9 +113,9 @@ IsCommand app c = (app_of c ≡ app) × HasNoGlobals c
 
 -- ---- what is asked for
 
--- How lines are to be told: their kind, the zone of frames, and in which form.
+-- How lines are to be told: their kind, what frames are made of, and in which form.
 abbrev pub Lines : Type 0
-Lines = DumpKind × ℕ × DumpForm
+Lines = DumpKind × FrameShape × DumpForm
 
 -- To run a script, and what is shown of it; to tell lines, and how; to send a file, and how; to run
 -- a station, and how; to send a command to the station at an address; or the version. A file that
@@ -137,10 +150,24 @@ sim_of rows = sim (shown_of rows) (first_of (codes "file") rows)
 abbrev pub form_of : (fields long : Bool) → DumpForm
 form_of fields long = if fields then Fields else (if long then Long else Short)
 
+-- the fields that frames have
+abbrev pub fields_of : List Row → Option FrameFields
+fields_of rows = option_map (λ insert. record {
+  insert_zone = insert;
+  control_field = is_given (codes "control-field") rows;
+  error_control = is_given (codes "error-control") rows;
+}) (number_in (codes "insert-zone") 0 64 rows)
+
+-- what frames are made of
+abbrev pub shape_of : List Row → Option FrameShape
+shape_of rows = option_and_then
+    (λ zone. option_map (λ fields. record { zone = zone; fields = fields }) (fields_of rows))
+    (option_and_then zone_of_word (first_of (codes "zone") rows))
+
 abbrev pub lines_of : List Row → Option Lines
 lines_of rows = option_and_then (λ kind. option_map
-    (λ zone. (kind, zone, form_of (is_given (codes "fields") rows) (is_given (codes "long") rows)))
-    (option_and_then zone_of_word (first_of (codes "zone") rows)))
+    (λ shape. (kind, shape, form_of (is_given (codes "fields") rows) (is_given (codes "long") rows)))
+    (shape_of rows))
     (option_and_then kind_of_word (first_of (codes "kind") rows))
 
 abbrev pub dump_of : List Row → Option Asked
@@ -174,7 +201,7 @@ refusals words = or_else (fault_of program_app words)
 -- ---- what the program makes of it
 
 abbrev pub asked_lines : DumpRequest → Lines
-asked_lines request = (request.kind, request.zone, request.form)
+asked_lines request = (request.kind, request.shape, request.form)
 
 abbrev pub asked : Request → Asked
 asked (Sim request) = sim (asked_shown request.shown)
@@ -185,14 +212,14 @@ asked (Station request) = station (station_asked request)
 asked (Ask address words) = ask address.bytes.items (map (λ word. word.bytes.items) words.items)
 asked Version = version
 
--- A packet zone that is asked for has a length that it may have.
-abbrev pub HasZone : Request → Type 0
-HasZone (Sim request) = ⊤
-HasZone (Dump lines file) = (16 ≤ lines.zone) × (lines.zone ≤ 2040)
-HasZone (Loop request) = ⊤
-HasZone (Station request) = ⊤
-HasZone (Ask address words) = ⊤
-HasZone Version = ⊤
+-- A packet zone and an insert zone that are asked for have lengths that they may have.
+abbrev pub HasShape : Request → Type 0
+HasShape (Sim request) = ⊤
+HasShape (Dump lines file) = IsShape lines.shape
+HasShape (Loop request) = ⊤
+HasShape (Station request) = ⊤
+HasShape (Ask address words) = ⊤
+HasShape Version = ⊤
 
 -- the exit status of the process where its arguments are not done
 abbrev pub refusal_status : ErrorKind → ℕ

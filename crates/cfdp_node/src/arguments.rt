@@ -7,26 +7,27 @@ ghost use Rattle.clap.specs.Matches.{found_of};
 ghost use Rattle.clap.specs.Values.{kind_of};
 ghost use Rattle.clap.specs.Walk.{first_of, rows_of, rule_of};
 ghost use Rattle.clap.specs.Simple.{subcommand_rows_of};
-ghost use Rattle.cfdp_node.specs.Request.{HasNoGlobals, HasZone, IsCommand, IsStatusOf, RefusedBy};
+ghost use Rattle.cfdp_node.specs.Request.{HasNoGlobals, HasShape, IsCommand, IsStatusOf, RefusedBy};
 ghost use Rattle.cfdp_node.specs.Request.{asked, asked_by, asked_of, dump_app, dump_of};
 ghost use Rattle.cfdp_node.specs.Request.{kind_of_word, kind_rule, input_rule, asked_lines};
 ghost use Rattle.cfdp_node.specs.Request.{address_app, address_rule, ask_app, ask_of, lines_of};
 ghost use Rattle.cfdp_node.specs.Request.{program_app, refusals, sim_app, sim_of, words_rule};
-ghost use Rattle.cfdp_node.specs.Request.{form_of, lines_app, told_app, top_app, zone_of_word};
-ghost use Rattle.cfdp_node.specs.Request.{zone_rule};
+ghost use Rattle.cfdp_node.specs.Request.{fields_of, form_of, frames_app, insert_rule, lines_app};
+ghost use Rattle.cfdp_node.specs.Request.{shape_of, told_app, top_app, zone_of_word, zone_rule};
 ghost use Rattle.cfdp_node.specs.Request as asks;
+ghost use Rattle.cfdp_report.specs.Dump.Shape.{IsShape};
 ghost use Rattle.cfdp_node.specs.Looping.Request.{loop_app, loop_of};
 ghost use Rattle.cfdp_node.specs.Station.Request.{station_app, station_of};
 ghost use Rattle.cfdp_node.specs.Shown.{file_rule, flag_rule};
 ghost use Rattle.cfdp_node.specs.Shown as showing;
 
 use crate::dropping::let_go;
-use crate::looping::request::{LoopRequest, loop_command, loop_request};
+use crate::looping::request::{LoopRequest, loop_command, loop_request, number_in};
 use crate::shown::{shown_by, shown_command};
 use crate::station::request::{StationRequest, owned_words, station_command, station_request};
 use crate::station::settings_file::with_settings;
-use aos_frame::{LEAST_ZONE, MOST_ZONE};
-use cfdp_report::{DumpForm, SettingsHelp, Shown};
+use aos_frame::{FrameFields, LEAST_ZONE, MOST_ZONE};
+use cfdp_report::{DumpForm, FrameShape, SettingsHelp, Shown};
 use cfdp_script::{DumpKind, DumpRequest};
 use clap::error::ErrorKind;
 use clap::{Arg, ArgAction, ArgMatches, Command, Error, value_parser};
@@ -156,20 +157,24 @@ With --long a line goes on. That of a frame:
   dir, data                         its lane, where CHANNEL is one of those that
                                     scripts use: 5 and 6 dir, 7 and 8 data
   cycle                             its COUNT has 28 bits; else it has 24
+  insert VV.., control VV.., check VV..
+                                    its insert zone, its operational control
+                                    field, its frame error control field
 That of a PDU:
   toward receiver destination N     or sender; N is the entity that receives the
                                     file, whichever way the PDU goes
   large                             sizes and offsets have 8 octets; else 4
   fault-location N                  the entity that a fault location names
   tlv TT:VV..                       each option, type and value in hexadecimal
+  crc VVVV                          its CRC, where it has one
 With --fields there is a line for each field instead, NAME: VALUE (SECTION), and
 an empty line behind each PDU, frame or error. SECTION is one of CCSDS
 727.0-B-5, as CFDP 5.2.4, or of CCSDS 732.0-B-4, as AOS 4.1.2.3.
 Errors of any line: 0 Hex (no such digits).
 Errors of PDUs: 1 Short, 2 Version, 3 BadCrc, 4 Length, 5 Unacknowledged,
 7 Directive, 8 Truncated, 9 Trailing, 10 Tlv, 11 Condition; 6 is no longer used.
-Errors of frames: 1 Length (mostly: another --zone is meant), 2 Version,
-3 OtherProfile, 6 OnlyIdle.
+Errors of frames: 1 Length (mostly: another --zone, or other fields, are meant),
+12 Damaged (with --error-control), 2 Version, 3 OtherProfile, 6 OnlyIdle.
 
 Exit status: 0 whatever the lines say, 2 bad arguments, 3 a failed read or
 write, or no memory (told on standard error).
@@ -194,7 +199,7 @@ Example:
 /// The status with which the process ends, where there is nothing to do: help or a settings file,
 /// which went to standard output, or a mistake, which was told on standard error.
 pub fn read(rt: &HostRuntime) -> Result<Request, u8>
-    ensures zone { IfOk result HasZone }
+    ensures zone { IfOk result HasShape }
     ensures status { IfErr result (λ status. (status ≡ 0) ⊎ (status ≡ 2) ⊎ (status ≡ 3)) }
 {
     let words: Vec<String> = match env::args(rt) {
@@ -231,7 +236,7 @@ fn request_of(rt: &HostRuntime, words: &[String]) -> Result<Request, u8>
     ensures refused { IfErr result (RefusedBy
         (refusals (map (λ word. word.bytes.items) words.now))) }
     ensures status { IfErr result (λ status. (status ≡ 0) ⊎ (status ≡ 2) ⊎ (status ≡ 3)) }
-    ensures zone { IfOk result HasZone }
+    ensures zone { IfOk result HasShape }
 {
     match parse(rt.alloc(), words) {
         Ok(request) => Ok(request),
@@ -258,7 +263,7 @@ pub fn parse<'a>(alloc: Global, words: &'a [String]) -> Result<Request, Error>
     ensures asked { IfOk result (λ request. asked_of (map (λ word. word.bytes.items) words.now)
         ≡ Some (asked request)) }
     ensures refused { FailsBy (refusals (map (λ word. word.bytes.items) words.now)) result }
-    ensures zone { IfOk result HasZone }
+    ensures zone { IfOk result HasShape }
 {
     let help = sim_help(alloc)?;
     let mut command = grammar(alloc, help.as_str())?;
@@ -279,7 +284,7 @@ fn parse_by<'a>(
     ensures asked { IfOk result (λ request. asked_of (map (λ word. word.bytes.items) words.now)
         ≡ Some (asked request)) }
     ensures refused { FailsBy (refusals (map (λ word. word.bytes.items) words.now)) result }
-    ensures zone { IfOk result HasZone }
+    ensures zone { IfOk result HasShape }
 {
     match matched(alloc, command, words)? {
         Some(request) => Ok(request),
@@ -314,7 +319,7 @@ fn matched<'a>(
         ≡ asked_of (map (λ word. word.bytes.items) words.now)) }
     ensures refused { FailsBy (fault_of program_app (map (λ word. word.bytes.items) words.now))
         result }
-    ensures zone { IfOk result (λ found. IfSome found HasZone) }
+    ensures zone { IfOk result (λ found. IfSome found HasShape) }
 {
     let matches = command.try_get_matches_from_mut(words)?;
     Ok(requested(alloc, &matches)?)
@@ -324,7 +329,7 @@ fn matched<'a>(
 fn requested(alloc: Global, matches: &ArgMatches<'_>) -> Result<Option<Request>, AllocError>
     ensures asked { IfOk result (λ found. option_map asked found
         ≡ asked_by (subcommand_rows_of matches.now)) }
-    ensures zone { IfOk result (λ found. IfSome found HasZone) }
+    ensures zone { IfOk result (λ found. IfSome found HasShape) }
 {
     match matches.subcommand() {
         Some(("sim", arguments)) => sim_request(alloc, arguments),
@@ -341,7 +346,7 @@ fn requested(alloc: Global, matches: &ArgMatches<'_>) -> Result<Option<Request>,
 fn sim_request(alloc: Global, arguments: &ArgMatches<'_>) -> Result<Option<Request>, AllocError>
     ensures asked { IfOk result (λ found. option_map asked found
         ≡ Some (sim_of (rows_of (found_of arguments.now)))) }
-    ensures zone { IfOk result (λ found. IfSome found HasZone) }
+    ensures zone { IfOk result (λ found. IfSome found HasShape) }
 {
     let request = SimRequest {
         shown: shown_by(alloc, arguments)?,
@@ -357,7 +362,7 @@ fn transfer_request(
 ) -> Result<Option<Request>, AllocError>
     ensures asked { IfOk result (λ found. option_map asked found
         ≡ option_map asks.loop (loop_of (rows_of (found_of arguments.now)))) }
-    ensures zone { IfOk result (λ found. IfSome found HasZone) }
+    ensures zone { IfOk result (λ found. IfSome found HasShape) }
 {
     Ok(loop_request(alloc, arguments)?.map(Request::Loop))
 }
@@ -366,7 +371,7 @@ fn transfer_request(
 fn ask_request(alloc: Global, arguments: &ArgMatches<'_>) -> Result<Option<Request>, AllocError>
     ensures asked { IfOk result (λ found. option_map asked found
         ≡ ask_of (rows_of (found_of arguments.now))) }
-    ensures zone { IfOk result (λ found. IfSome found HasZone) }
+    ensures zone { IfOk result (λ found. IfSome found HasShape) }
 {
     let words = owned_words(alloc, arguments, "words")?;
     match owned_word(alloc, arguments, "address")? {
@@ -380,7 +385,7 @@ fn ask_request(alloc: Global, arguments: &ArgMatches<'_>) -> Result<Option<Reque
 fn serving_request(alloc: Global, arguments: &ArgMatches<'_>) -> Result<Option<Request>, AllocError>
     ensures asked { IfOk result (λ found. option_map asked found
         ≡ option_map asks.station (station_of (rows_of (found_of arguments.now)))) }
-    ensures zone { IfOk result (λ found. IfSome found HasZone) }
+    ensures zone { IfOk result (λ found. IfSome found HasShape) }
 {
     Ok(station_request(alloc, arguments)?.map(Request::Station))
 }
@@ -404,7 +409,7 @@ pub fn owned_word(
 fn dump_request(alloc: Global, arguments: &ArgMatches<'_>) -> Result<Option<Request>, AllocError>
     ensures asked { IfOk result (λ found. option_map asked found
         ≡ dump_of (rows_of (found_of arguments.now))) }
-    ensures zone { IfOk result (λ found. IfSome found HasZone) }
+    ensures zone { IfOk result (λ found. IfSome found HasShape) }
 {
     let file = owned_word(alloc, arguments, "file")?;
     match lines_asked(arguments) {
@@ -417,12 +422,35 @@ fn dump_request(alloc: Global, arguments: &ArgMatches<'_>) -> Result<Option<Requ
 fn lines_asked(arguments: &ArgMatches<'_>) -> Option<DumpRequest>
     ensures asked { option_map (λ lines. asked_lines lines) result
         ≡ lines_of (rows_of (found_of arguments.now)) }
-    ensures zone { IfSome result (λ lines. (16 ≤ lines.zone) × (lines.zone ≤ 2040)) }
+    ensures zone { IfSome result (λ lines. IsShape lines.shape) }
 {
     let kind = dump_kind(word_of(arguments, "kind")?)?;
-    let zone = zone_octets(word_of(arguments, "zone")?)?;
+    let shape = frame_shape(arguments)?;
     let form = dump_form(is_given(arguments, "fields"), is_given(arguments, "long"));
-    Some(DumpRequest { kind, zone, form })
+    Some(DumpRequest { kind, shape, form })
+}
+
+/// What frames are made of, `None` where a number is out of its range.
+fn frame_shape(arguments: &ArgMatches<'_>) -> Option<FrameShape>
+    ensures asked { result ≡ shape_of (rows_of (found_of arguments.now)) }
+    ensures range { IfSome result IsShape }
+{
+    Some(FrameShape {
+        zone: zone_octets(word_of(arguments, "zone")?)?,
+        fields: frame_fields(arguments)?,
+    })
+}
+
+/// The fields of frames, `None` where an insert zone is too long.
+fn frame_fields(arguments: &ArgMatches<'_>) -> Option<FrameFields>
+    ensures asked { result ≡ fields_of (rows_of (found_of arguments.now)) }
+    ensures range { IfSome result (λ fields. fields.insert_zone ≤ 64) }
+{
+    Some(FrameFields {
+        insert_zone: number_in(arguments, "insert-zone", 0, 64)? as u8,
+        control_field: is_given(arguments, "control-field"),
+        error_control: is_given(arguments, "error-control"),
+    })
 }
 
 /// The form that these two options ask for: fields, where both do.
@@ -590,7 +618,7 @@ fn dump_command<'a>(alloc: Global) -> Result<Command<'a>, AllocError>
 fn told_command<'a>(alloc: Global) -> Result<Command<'a>, AllocError>
     ensures { IfOk result (IsCommand told_app) }
 {
-    lines_command(alloc)?
+    frames_command(alloc)?
         .arg(flag(
             alloc,
             "long",
@@ -600,6 +628,24 @@ fn told_command<'a>(alloc: Global) -> Result<Command<'a>, AllocError>
             alloc,
             "fields",
             "Tells each field in a line of its own, with its section of the standard",
+        ))
+}
+
+/// `dump` with what the lines are, and which fields frames have.
+fn frames_command<'a>(alloc: Global) -> Result<Command<'a>, AllocError>
+    ensures { IfOk result (IsCommand frames_app) }
+{
+    lines_command(alloc)?
+        .arg(insert_argument(alloc))?
+        .arg(flag(
+            alloc,
+            "control-field",
+            "Frames have an operational control field",
+        ))?
+        .arg(flag(
+            alloc,
+            "error-control",
+            "Frames have a frame error control field",
         ))
 }
 
@@ -705,6 +751,17 @@ fn zone_argument<'a>(alloc: Global) -> Arg<'a>
         .help("Octets of a frame's packet zone, 16 to 2040")
         .value_parser(value_parser!(u64).range(LEAST_ZONE as i64..=MOST_ZONE as i64))
         .default_value("256")
+}
+
+fn insert_argument<'a>(alloc: Global) -> Arg<'a>
+    ensures { (rule_of result ≡ insert_rule) × (result.global ≡ false) }
+{
+    Arg::new(alloc, "insert-zone")
+        .long("insert-zone")
+        .value_name("I")
+        .help("Octets of a frame's insert zone, 0 to 64")
+        .value_parser(value_parser!(u64).range(0..=64))
+        .default_value("0")
 }
 
 /// Prints what the parser has to say, and gives the status that goes with it, which is that of

@@ -9,6 +9,7 @@ use Rattle.cfdp_report.specs.Watch.Chart.{ChartsSighting, ChartsSoFar, EndsChart
 use Rattle.cfdp_report.specs.Watch.Continues.{Continues}
 use Rattle.cfdp_report.specs.Dump.Lines.{WritesLine, WritesLines, as_line}
 use Rattle.cfdp_report.specs.Watch.Trace.{TellsDeed}
+use Rattle.cfdp_report.specs.declared.dump.shape.FrameShapes.{FrameShapes}
 use Rattle.cfdp_report.specs.declared.watch.chart.ChartWriter.{ChartWriter}
 use Rattle.cfdp_report.specs.declared.watch.sighting.Sighting.{Sighting}
 use Rattle.cfdp_report.proofs.TextLines.{AllZip-joined}
@@ -33,10 +34,10 @@ drawn_line : (text : List ℕ) → flat_map drawn_octet (as_line text) ≡ as_li
 drawn_line text = flat_map-append drawn_octet text (10 ∷ [])
 
 -- with its front and what it tells the line is written
-pub arrow_written : {E : Type 0} (r : Result (Unit {0}) E) (zone : ℕ) (s : Sighting) (old mid new : Option (List ℕ)) (line : List ℕ)
-    → WritesLine (TellsDeed zone s) (Some []) (Some line) → Appends old mid (front_of s) → OnOk r (Appends mid new (flat_map drawn_octet line))
-    → OnOk r (WritesLine (ChartsSighting zone s) old new)
-arrow_written (Ok x) zone s old mid new line told front drawn =
+pub arrow_written : {E : Type 0} (r : Result (Unit {0}) E) (shapes : FrameShapes) (s : Sighting) (old mid new : Option (List ℕ)) (line : List ℕ)
+    → WritesLine (TellsDeed shapes s) (Some []) (Some line) → Appends old mid (front_of s) → OnOk r (Appends mid new (flat_map drawn_octet line))
+    → OnOk r (WritesLine (ChartsSighting shapes s) old new)
+arrow_written (Ok x) shapes s old mid new line told front drawn =
     let deed = told.text in
     let octets : flat_map drawn_octet line ≡ as_line (flat_map drawn_octet deed) = ap (λ l. flat_map drawn_octet l) told.written ∙ drawn_line deed in
     record {
@@ -45,7 +46,7 @@ arrow_written (Ok x) zone s old mid new line told front drawn =
       written = subst (Appends old new) (sym (append_assoc (front_of s) (flat_map drawn_octet deed) (10 ∷ [])))
           (Appends-trans old mid new (front_of s) (as_line (flat_map drawn_octet deed)) front (subst (Appends mid new) octets drawn));
     }
-arrow_written (Err e) zone s old mid new line told front drawn = tt
+arrow_written (Err e) shapes s old mid new line told front drawn = tt
 
 -- before the first line there is the head alone
 pub chart_begun : {E : Type 0} (r : Result (Unit {0}) E) (writer : ChartWriter) (old mid new : Option (List ℕ))
@@ -73,8 +74,8 @@ take-joined (suc n) (x ∷ xs) ys =
 
 -- behind the lines of what was seen before stand those of the first of these
 pub chart_goes_on : {E : Type 0} (r : Result (Unit {0}) E) (was is : ChartWriter) (room : ℕ) (more first : List Sighting) (old mid new : Option (List ℕ))
-    → is.zone ≡ was.zone → room ≡ most_lines - was.lines → is.lines ≡ min (was.lines + length more) (2 ^ 64 - 1) → first ≡ take room more
-    → WritesLines (ChartsSighting was.zone) first old mid → Keeps mid new → OnOk r (Continues (ChartsSoFar was) (ChartsSoFar is) more old new)
+    → is.shapes ≡ was.shapes → room ≡ most_lines - was.lines → is.lines ≡ min (was.lines + length more) (2 ^ 64 - 1) → first ≡ take room more
+    → WritesLines (ChartsSighting was.shapes) first old mid → Keeps mid new → OnOk r (Continues (ChartsSoFar was) (ChartsSoFar is) more old new)
 chart_goes_on (Ok x) was is room more first old mid new zone has_room count firsts wrote kept = λ seen start before.
     let room_is : room ≡ most_lines - length seen = (let counted_is = before.count in omega (arith, has_room, counted_is)) in
     let shown : take most_lines seen ++ first ≡ take most_lines (seen ++ more) =
@@ -83,8 +84,8 @@ chart_goes_on (Ok x) was is room more first old mid new zone has_room count firs
       count = (let counted_is = before.count in let both = length-append seen more in omega (arith, count, counted_is, both));
       texts = before.texts ++ wrote.texts;
       each = subst (λ z. AllZip (ChartsSighting z) (take most_lines (seen ++ more)) (before.texts ++ wrote.texts)) (sym zone)
-          (subst (λ xs. AllZip (ChartsSighting was.zone) xs (before.texts ++ wrote.texts)) shown
-          (AllZip-joined (ChartsSighting was.zone) (take most_lines seen) first before.texts wrote.texts before.each wrote.each));
+          (subst (λ xs. AllZip (ChartsSighting was.shapes) xs (before.texts ++ wrote.texts)) shown
+          (AllZip-joined (ChartsSighting was.shapes) (take most_lines seen) first before.texts wrote.texts before.each wrote.each));
       written = subst (Appends start new) (append_assoc head_text (flat_map as_line before.texts) (flat_map as_line wrote.texts) ∙ sym (ap (λ t. head_text ++ t) (flat_map-append as_line before.texts wrote.texts)))
           (Appends-trans start old new (head_text ++ flat_map as_line before.texts) (flat_map as_line wrote.texts) before.written (Appends-kept old mid new (flat_map as_line wrote.texts) wrote.written kept));
     }

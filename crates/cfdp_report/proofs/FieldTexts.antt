@@ -3,7 +3,7 @@ use Rattle.std.proofs.Common.{◌≡◌, ℕ, List, ◌++◌, codes, refl}
 use Rattle.std.specs.Prelude.{decimal}
 use Rattle.std.specs.List.{flat_map}
 use Rattle.cfdp_directives.specs.Pdu.Tlv.{Tlv}
-use Rattle.cfdp_report.specs.Dump.Fields.{checksum_field, code_field, name_field, number_field, option_field, range_field, text_field}
+use Rattle.cfdp_report.specs.Dump.Fields.{checksum_field, code_field, filled_field, name_field, number_field, option_field, range_field, text_field}
 use Rattle.cfdp_report.specs.Dump.Lines.{hex_number_text, hex_octet_text, name_text}
 
 pub text_is : (name value section : List ℕ) → text_field name value section ≡ name ++ (codes ": " ++ (value ++ (codes " (" ++ (section ++ codes ")\n"))))
@@ -34,3 +34,8 @@ range_is start end = refl
 pub option_is : (t : Tlv) → option_field t ≡ codes "option: type " ++ (hex_octet_text t.kind ++ (codes " value " ++ (flat_map hex_octet_text t.value ++ codes " (CFDP 5.4)\n")))
 unfolding option_field
 option_is t = refl
+
+pub filled_is : (name octets section : List ℕ)
+    → filled_field name octets section ≡ name ++ (codes ": " ++ (flat_map hex_octet_text octets ++ (codes " (" ++ (section ++ codes ")\n"))))
+unfolding filled_field
+filled_is name octets section = refl

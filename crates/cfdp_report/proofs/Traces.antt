@@ -7,6 +7,7 @@ use Rattle.cfdp_report.specs.Dump.Lines.{WritesLines}
 use Rattle.cfdp_report.specs.Watch.Continues.{Continues}
 use Rattle.cfdp_report.specs.Watch.Trace.{TellsSighting, TracesSoFar, sighting_front}
 use Rattle.cfdp_report.proofs.TextLines.{lines_joined, lines_kept}
+use Rattle.cfdp_report.specs.declared.dump.shape.FrameShapes.{FrameShapes}
 use Rattle.cfdp_report.specs.declared.watch.sighting.Sighting.{Sighting}
 
 -- six parts in a row, grouped from the front
@@ -22,8 +23,8 @@ front_written s old new station of written =
     (subst (Appends old new) (sym (grouped (decimal s.step) (codes ".") (decimal s.event) (codes " ") (decimal station) (codes " "))) written)
 
 -- behind the lines of what was seen before stand those of these
-pub trace_goes_on : {E : Type 0} (r : Result (Unit {0}) E) (zone : ℕ) (more : List Sighting) (old mid new : Option (List ℕ))
-    → WritesLines (TellsSighting zone) more old mid → Keeps mid new → OnOk r (Continues (TracesSoFar zone) (TracesSoFar zone) more old new)
-trace_goes_on (Ok x) zone more old mid new wrote kept = λ seen start before.
-    lines_joined (TellsSighting zone) seen more start old new before (lines_kept (TellsSighting zone) more old mid new wrote kept)
-trace_goes_on (Err e) zone more old mid new wrote kept = tt
+pub trace_goes_on : {E : Type 0} (r : Result (Unit {0}) E) (shapes : FrameShapes) (more : List Sighting) (old mid new : Option (List ℕ))
+    → WritesLines (TellsSighting shapes) more old mid → Keeps mid new → OnOk r (Continues (TracesSoFar shapes) (TracesSoFar shapes) more old new)
+trace_goes_on (Ok x) shapes more old mid new wrote kept = λ seen start before.
+    lines_joined (TellsSighting shapes) seen more start old new before (lines_kept (TellsSighting shapes) more old mid new wrote kept)
+trace_goes_on (Err e) shapes more old mid new wrote kept = tt

@@ -1,4 +1,5 @@
 -- What octets spell, in lines.
+pub mod Shape
 pub mod Refusal
 pub mod Lines
 pub mod Fields

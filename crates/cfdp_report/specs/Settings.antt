@@ -9,7 +9,7 @@ use Rattle.cfdp_directives.specs.declared.user.limits.Times.{Times}
 use Rattle.cfdp_directives.specs.declared.user.policy.Policy.{Policy}
 use Rattle.cfdp_entity.specs.declared.config.EntityConfig.{EntityConfig}
 use Rattle.cfdp_station.specs.declared.config.StationConfig.{StationConfig}
-use Rattle.frame_fields.specs.Fields.{no_fields}
+use Rattle.frame_fields.specs.declared.config.FrameFields.{FrameFields}
 use Rattle.aos_frame.specs.declared.config.LinkConfig.{LinkConfig}
 use Rattle.link_sim.specs.Stations as sides
 use Rattle.link_sim.specs.declared.side.Side.{Side}
@@ -19,17 +19,21 @@ use Rattle.cfdp_report.specs.declared.settings.table.Row.{Row}
 use Rattle.cfdp_report.specs.declared.settings.Settings.{Settings}
 use Rattle.cfdp_report.specs.declared.settings.table.Setting.{Setting}
 use Rattle.cfdp_report.specs.declared.settings.table.Setting.TheVariants as key
-use Rattle.cfdp_report.specs.declared.settings.table.Setting.TheVariants.{Zone, Segment, IdWidth, NumberWidth, FirstNumber, Checksum, EofLimit, NakLimit, FinishedLimit, EofTime, NakTime, FinishedTime, InactivityTime, OnAckLimit, OnNakLimit, OnInactivity}
+use Rattle.cfdp_report.specs.declared.settings.table.Setting.TheVariants.{Zone, InsertZone, ControlField, ErrorControl, Segment, IdWidth, NumberWidth, FirstNumber, Checksum, PduCrc, EofLimit, NakLimit, FinishedLimit, EofTime, NakTime, FinishedTime, InactivityTime, OnAckLimit, OnNakLimit, OnInactivity}
 
 -- the values before the first `set`
 abbrev pub default_settings : Settings
 default_settings = record {
   zone = 256;
+  insert_zone = 0;
+  control_field = 0;
+  error_control = 0;
   segment = 1024;
   id_width = 2;
   number_width = 4;
   first_number = 1;
   checksum = 0;
+  pdu_crc = 0;
   eof_limit = 3;
   nak_limit = 3;
   finished_limit = 3;
@@ -45,11 +49,15 @@ default_settings = record {
 -- the settings with one value changed
 abbrev pub set_value : Settings → Setting → ℕ → Settings
 set_value s Zone n = record s { zone = n }
+set_value s InsertZone n = record s { insert_zone = n }
+set_value s ControlField n = record s { control_field = n }
+set_value s ErrorControl n = record s { error_control = n }
 set_value s Segment n = record s { segment = n }
 set_value s IdWidth n = record s { id_width = n }
 set_value s NumberWidth n = record s { number_width = n }
 set_value s FirstNumber n = record s { first_number = n }
 set_value s Checksum n = record s { checksum = n }
+set_value s PduCrc n = record s { pdu_crc = n }
 set_value s EofLimit n = record s { eof_limit = n }
 set_value s NakLimit n = record s { nak_limit = n }
 set_value s FinishedLimit n = record s { finished_limit = n }
@@ -79,11 +87,14 @@ FitPolicy s = FitLimits s × FitTimes s × FitHandlers s
 
 abbrev pub FitSending : Settings → Type 0
 FitSending s = (s.id_width < 256) × (s.number_width < 256) × (s.segment < 2 ^ 16)
-    × (s.checksum < 16)
+    × (s.checksum < 16) × (s.pdu_crc < 2)
+
+abbrev pub FitFrames : Settings → Type 0
+FitFrames s = (s.insert_zone < 256) × (s.control_field < 2) × (s.error_control < 2)
 
 -- Each value fits its field. A number of a put is any u64.
 abbrev pub FitFields : Settings → Type 0
-FitFields s = (s.zone < 2 ^ 16) × FitSending s × FitPolicy s
+FitFields s = (s.zone < 2 ^ 16) × FitFrames s × FitSending s × FitPolicy s
 
 -- ---- the configuration
 
@@ -127,34 +138,43 @@ entity_of s side = record {
   first_number = s.first_number;
   segment = s.segment;
   checksum_kind = s.checksum;
+  pdu_crc = s.pdu_crc == 1;
   policy = policy_of s;
 }
 
+-- the fields of frames beside their header and their M_PDU
+abbrev pub fields_of : Settings → FrameFields
+fields_of s = record {
+  insert_zone = s.insert_zone;
+  control_field = s.control_field == 1;
+  error_control = s.error_control == 1;
+}
+
 -- the frames that a station sends
-abbrev pub link_of : Side → ℕ → LinkConfig
-link_of One zone = record {
+abbrev pub link_of : Side → (zone : ℕ) → FrameFields → LinkConfig
+link_of One zone fields = record {
   spacecraft = 42;
   virtual_channel = 5;
   data_virtual_channel = 7;
   zone = zone;
   apid = 100;
-  fields = no_fields;
+  fields = fields;
 }
-link_of Two zone = record {
+link_of Two zone fields = record {
   spacecraft = 42;
   virtual_channel = 6;
   data_virtual_channel = 8;
   zone = zone;
   apid = 101;
-  fields = no_fields;
+  fields = fields;
 }
 
 -- a station receives the frames that the other sends
 abbrev pub station_of : Settings → Side → StationConfig
 station_of s side = record {
   entity = entity_of s side;
-  sends = link_of side s.zone;
-  receives = link_of (sides.other side) s.zone;
+  sends = link_of side s.zone (fields_of s);
+  receives = link_of (sides.other side) s.zone (fields_of s);
   capacity = 16384;
 }
 
@@ -188,11 +208,15 @@ is octets word = pointwise nat_eq octets word
 abbrev pub keys : List (Setting × List ℕ)
 keys =
     (key.Zone, codes "zone") ∷
+    (key.InsertZone, codes "insert_zone") ∷
+    (key.ControlField, codes "control_field") ∷
+    (key.ErrorControl, codes "error_control") ∷
     (key.Segment, codes "segment") ∷
     (key.IdWidth, codes "id_width") ∷
     (key.NumberWidth, codes "number_width") ∷
     (key.FirstNumber, codes "first_number") ∷
     (key.Checksum, codes "checksum") ∷
+    (key.PduCrc, codes "pdu_crc") ∷
     (key.EofLimit, codes "eof_limit") ∷
     (key.NakLimit, codes "nak_limit") ∷
     (key.FinishedLimit, codes "finished_limit") ∷

@@ -19,6 +19,7 @@ pub use cause::cause_text;
 pub use dump::form::DumpForm;
 pub use dump::line::HexNumber;
 pub use dump::refusal::Refusal;
+pub use dump::shape::FrameShape;
 pub use dump::{write_frame, write_pdu};
 pub use exit::{Exit, Fault};
 pub use input::Input;

@@ -1,10 +1,10 @@
 //! What can be set of stations.
-ghost use Rattle.std.specs.Prelude.{◌≡◌, ◌<◌, ◌^◌, ◌↔◌, IsSome, IfSome};
+ghost use Rattle.std.specs.Prelude.{◌≡◌, ◌==◌, ◌<◌, ◌^◌, ◌↔◌, IsSome, IfSome};
 ghost use Rattle.link_sim.specs.Stations.{IsWorldConfig};
 ghost use Rattle.cfdp_report.specs.Settings.{pair_of, world_of, station_of, entity_of, policy_of};
 ghost use Rattle.cfdp_report.specs.Settings.{limits_of, times_of, handlers_of, handler_of, link_of};
 ghost use Rattle.cfdp_report.specs.Settings.{FitFields, FitSending, FitPolicy, FitLimits, FitTimes};
-ghost use Rattle.cfdp_report.specs.Settings.{FitHandlers};
+ghost use Rattle.cfdp_report.specs.Settings.{FitFrames, FitHandlers, fields_of};
 
 pub mod table;
 
@@ -19,11 +19,15 @@ use valid_config::{Config, Valid};
 #[derive(Clone, Copy)]
 pub struct Settings {
     pub zone: u64,
+    pub insert_zone: u64,
+    pub control_field: u64,
+    pub error_control: u64,
     pub segment: u64,
     pub id_width: u64,
     pub number_width: u64,
     pub first_number: u64,
     pub checksum: u64,
+    pub pdu_crc: u64,
     pub eof_limit: u64,
     pub nak_limit: u64,
     pub finished_limit: u64,
@@ -42,11 +46,15 @@ impl Settings {
     /// The values before the first `set`.
     pub const DEFAULT: Settings = Settings {
         zone: TABLE[Setting::Zone as usize].default,
+        insert_zone: TABLE[Setting::InsertZone as usize].default,
+        control_field: TABLE[Setting::ControlField as usize].default,
+        error_control: TABLE[Setting::ErrorControl as usize].default,
         segment: TABLE[Setting::Segment as usize].default,
         id_width: TABLE[Setting::IdWidth as usize].default,
         number_width: TABLE[Setting::NumberWidth as usize].default,
         first_number: TABLE[Setting::FirstNumber as usize].default,
         checksum: TABLE[Setting::Checksum as usize].default,
+        pdu_crc: TABLE[Setting::PduCrc as usize].default,
         eof_limit: TABLE[Setting::EofLimit as usize].default,
         nak_limit: TABLE[Setting::NakLimit as usize].default,
         finished_limit: TABLE[Setting::FinishedLimit as usize].default,
@@ -65,11 +73,15 @@ impl Settings {
     {
         match setting {
             Setting::Zone => self.zone = value,
+            Setting::InsertZone => self.insert_zone = value,
+            Setting::ControlField => self.control_field = value,
+            Setting::ErrorControl => self.error_control = value,
             Setting::Segment => self.segment = value,
             Setting::IdWidth => self.id_width = value,
             Setting::NumberWidth => self.number_width = value,
             Setting::FirstNumber => self.first_number = value,
             Setting::Checksum => self.checksum = value,
+            Setting::PduCrc => self.pdu_crc = value,
             Setting::EofLimit => self.eof_limit = value,
             Setting::NakLimit => self.nak_limit = value,
             Setting::FinishedLimit => self.finished_limit = value,
@@ -87,11 +99,15 @@ impl Settings {
     fn value(&self, setting: Setting) -> u64 {
         match setting {
             Setting::Zone => self.zone,
+            Setting::InsertZone => self.insert_zone,
+            Setting::ControlField => self.control_field,
+            Setting::ErrorControl => self.error_control,
             Setting::Segment => self.segment,
             Setting::IdWidth => self.id_width,
             Setting::NumberWidth => self.number_width,
             Setting::FirstNumber => self.first_number,
             Setting::Checksum => self.checksum,
+            Setting::PduCrc => self.pdu_crc,
             Setting::EofLimit => self.eof_limit,
             Setting::NakLimit => self.nak_limit,
             Setting::FinishedLimit => self.finished_limit,
@@ -161,12 +177,24 @@ impl Settings {
         ensures some { IsSome result ↔ FitFields self.now }
         ensures same { IfSome result (λ config. config ≡ station_of self.now side) }
     {
-        let zone = u16::try_from(self.zone).ok()?;
+        let (zone, fields) = (u16::try_from(self.zone).ok()?, self.fields()?);
         Some(StationConfig::new(
             self.entity(side)?,
-            link(side, zone),
-            link(side.other(), zone),
+            link(side, zone, fields),
+            link(side.other(), zone, fields),
         ))
+    }
+
+    /// Which fields frames have, where each value fits.
+    fn fields(&self) -> Option<FrameFields>
+        ensures some { IsSome result ↔ FitFrames self.now }
+        ensures same { IfSome result (λ fields. fields ≡ fields_of self.now) }
+    {
+        Some(FrameFields {
+            insert_zone: octet(self.insert_zone)?,
+            control_field: flag(self.control_field)?,
+            error_control: flag(self.error_control)?,
+        })
     }
 
     fn entity(&self, side: Side) -> Option<EntityConfig>
@@ -238,6 +266,18 @@ fn octet(value: u64) -> Option<u8>
     u8::try_from(value).ok()
 }
 
+/// What 0 and 1 say.
+fn flag(value: u64) -> Option<bool>
+    ensures some { IsSome result ↔ (value < 2) }
+    ensures same { IfSome result (λ flag. flag ≡ (value == 1)) }
+{
+    match value {
+        0 => Some(false),
+        1 => Some(true),
+        _ => None,
+    }
+}
+
 fn duration(value: u64) -> Option<u32>
     ensures some { IsSome result ↔ (value < 2 ^ 32) }
     ensures same { IfSome result (λ duration. duration ≡ value) }
@@ -253,8 +293,8 @@ fn handler(number: u64) -> Option<Handler>
 }
 
 /// The frames that a station sends.
-fn link(side: Side, zone: u16) -> LinkConfig
-    ensures { result ≡ link_of side zone }
+fn link(side: Side, zone: u16, fields: FrameFields) -> LinkConfig
+    ensures { result ≡ link_of side zone fields }
 {
     let (virtual_channel, data_virtual_channel, apid) = match side {
         Side::One => (5, 7, 100),
@@ -266,6 +306,6 @@ fn link(side: Side, zone: u16) -> LinkConfig
         data_virtual_channel,
         zone,
         apid,
-        fields: FrameFields::NONE,
+        fields,
     }
 }

@@ -7,6 +7,7 @@ use Rattle.hex.specs.Hex.{decode_of}
 use Rattle.cfdp_report.specs.Dump.Lines.{WritesLines}
 use Rattle.cfdp_report.specs.Dump.Told.{TellsAsFrame, TellsAsPdu, end_of}
 use Rattle.cfdp_report.specs.declared.dump.form.DumpForm.{DumpForm}
+use Rattle.cfdp_report.specs.declared.dump.shape.FrameShape.{FrameShape}
 use Rattle.cfdp_report.specs.Dump.Refusal.{refusal_text}
 use Rattle.cfdp_report.specs.declared.dump.refusal.Refusal.TheVariants.{Hex}
 use Rattle.cfdp_report.specs.declared.exit.Exit.{Exit}
@@ -22,9 +23,9 @@ unfoldable pub lines : List ℕ → List (List ℕ)
 lines [] = []
 lines (octet ∷ rest) = if octet == 10 then [] ∷ lines rest else onto_first octet (lines rest)
 
-abbrev pub TellsAs : DumpKind → DumpForm → (zone : ℕ) → List ℕ → List ℕ → Type 0
-TellsAs Pdus form zone = TellsAsPdu form
-TellsAs Frames form zone = TellsAsFrame form zone
+abbrev pub TellsAs : DumpKind → DumpForm → FrameShape → List ℕ → List ℕ → Type 0
+TellsAs Pdus form shape = TellsAsPdu form
+TellsAs Frames form shape = TellsAsFrame form shape
 
 -- a word without `0x` in front
 abbrev pub bare : List ℕ → List ℕ
@@ -43,7 +44,7 @@ hex_octets line = result_ok (decode_of (digits_of (without_return line)))
 abbrev pub TellsLine : DumpRequest → List ℕ → List ℕ → Type 0
 TellsLine request line text =
     MatchOption (hex_octets line) (text ≡ refusal_text Hex ++ end_of request.form)
-    (λ octets. TellsAs request.kind request.form request.zone octets text)
+    (λ octets. TellsAs request.kind request.form request.shape octets text)
 
 -- A text isn't too long to be read, where it is known.
 abbrev pub IsShort : Option (List ℕ) → Type 0

@@ -1,10 +1,11 @@
 //! Dumps: what lines of hexadecimal digits spell.
-ghost use Rattle.std.specs.Prelude.{◌≡◌, ◌<◌, ◌≤◌, ◌∷◌, length, IfOk, OnOk};
+ghost use Rattle.std.specs.Prelude.{◌≡◌, ◌<◌, ◌∷◌, length, IfOk, OnOk};
 ghost use Rattle.std.specs.Io.Buffered.{writer_buffer, writer_contents};
 ghost use Rattle.std.specs.Option.{option_map};
 ghost use Rattle.std.specs.Result.{result_ok};
 ghost use Rattle.hex.specs.Hex.{decode_of};
 ghost use Rattle.cfdp_report.specs.Dump.Lines.{WritesLine, WritesLines};
+ghost use Rattle.cfdp_report.specs.Dump.Shape.{IsShape};
 ghost use Rattle.cfdp_report.specs.Exit.{IsFlushedAt};
 ghost use Rattle.cfdp_script.specs.Dump.{EndsDump, hex_octets, TellsLine};
 ghost use Rattle.cfdp_script.specs.Dump as dumps;
@@ -12,7 +13,7 @@ ghost use Rattle.cfdp_script.specs.Dump as dumps;
 use crate::input::{read_script, write_fault};
 use crate::script::without_return;
 use crate::script::words::cut_at_first;
-use cfdp_report::{DumpForm, Exit, Refusal, write_frame, write_pdu};
+use cfdp_report::{DumpForm, Exit, FrameShape, Refusal, write_frame, write_pdu};
 use hex::FromHexError;
 use std::alloc::{AllocError, Global};
 use std::io;
@@ -32,8 +33,9 @@ pub enum DumpKind {
 pub struct DumpRequest {
     /// What the lines are.
     pub kind: DumpKind,
-    /// The octets of a frame's packet zone, 16 to 2,040.
-    pub zone: u16,
+    /// What frames are made of: their packet zone has 16 to 2,040 octets, and their insert zone up
+    /// to 64.
+    pub shape: FrameShape,
     /// How they are told.
     pub form: DumpForm,
 }
@@ -43,8 +45,8 @@ pub struct DumpRequest {
 /// last needs not and which may have a carriage return in front; an empty line is no octets. Spaces
 /// may stand anywhere between the digits, and `0x` behind a space or at the line's beginning.
 ///
-/// Frames have packet zones of `zone` octets and are told whatever their spacecraft and channel. Of
-/// PDUs `zone` says nothing.
+/// Frames have the packet zone and the fields of `shape`, and are told whatever their spacecraft and
+/// channel. Of PDUs `shape` says nothing.
 ///
 /// The answer is `Complete` whatever the lines say, once all have left the buffer. It is `Device`
 /// where they couldn't be read, as `read_script` says, where a line couldn't be written, or where
@@ -55,7 +57,7 @@ pub fn run_dump<R: Read + Drop, W: Write + Drop>(
     reader: R,
     out: &mut BufWriter<W>,
 ) -> Exit
-    requires { (16 ≤ request.zone) × (request.zone ≤ 2040) }
+    requires { IsShape request.shape }
     ensures told { EndsDump request (R.remaining reader) (writer_contents W.contents out.old)
         (writer_contents W.contents out.new) result }
     ensures flushed { IsFlushedAt result (writer_buffer out.new) }
@@ -70,7 +72,7 @@ pub fn dump_lines<R: Read + Drop, W: Write>(
     reader: R,
     out: &mut W,
 ) -> Exit
-    requires { (16 ≤ request.zone) × (request.zone ≤ 2040) }
+    requires { IsShape request.shape }
     ensures { EndsDump request (R.remaining reader) (W.contents out.old) (W.contents out.new)
         result }
 {
@@ -139,7 +141,7 @@ fn write_line<W: Write>(
     };
     match request.kind {
         DumpKind::Pdus => write_pdu(octets.as_slice(), request.form, out),
-        DumpKind::Frames => write_frame(octets.as_slice(), request.zone, request.form, out),
+        DumpKind::Frames => write_frame(octets.as_slice(), request.shape, request.form, out),
     }
 }
 

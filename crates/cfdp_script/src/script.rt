@@ -35,7 +35,7 @@ pub struct Script {
     settings: Settings,
     last_set: usize,
     // The line of the last `set` of each setting, in the order of `Setting`; 0 without one.
-    set_lines: [usize; 16],
+    set_lines: [usize; 20],
     first_bad: Option<BadLine>,
 }
 
@@ -73,7 +73,7 @@ impl Script {
             steps: Vec::new(alloc),
             settings: Settings::DEFAULT,
             last_set: 0,
-            set_lines: [0; 16],
+            set_lines: [0; 20],
             first_bad: None,
         };
         script.read_lines(alloc, text)?;
@@ -244,14 +244,14 @@ pub fn line_that_gave(files: &[GivenFile], file: &FileLine) -> Option<usize>
 }
 
 /// Notes which line set a setting last.
-fn note_set(lines: &mut [usize; 16], setting: Setting, line: usize) {
+fn note_set(lines: &mut [usize; 20], setting: Setting, line: usize) {
     if let Some(last) = lines.get_mut(setting as usize) {
         *last = line;
     }
 }
 
 /// The line that set a setting last.
-fn set_line(lines: &[usize; 16], setting: Setting) -> usize {
+fn set_line(lines: &[usize; 20], setting: Setting) -> usize {
     lines.get(setting as usize).copied().unwrap_or(0)
 }
 

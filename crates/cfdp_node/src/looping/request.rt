@@ -210,14 +210,17 @@ impl LoopWords<'_> {
 
 /// The number that was found for this argument, if it lies between these two or is one of them.
 pub fn number_in(arguments: &ArgMatches<'_>, name: &str, low: u64, high: u64) -> Option<u64>
-    ensures { result ≡ requests.number_in name.now low high (rows_of (found_of arguments.now)) }
+    ensures number { result
+        ≡ requests.number_in name.now low high (rows_of (found_of arguments.now)) }
+    ensures range { IfSome result (λ number. number ≤ high) }
 {
     number_of(word_of(arguments, name)?, low, high)
 }
 
 /// The number that this word says, if it lies between these two or is one of them.
 fn number_of(word: &str, low: u64, high: u64) -> Option<u64>
-    ensures { result ≡ number_of_word low high word.now }
+    ensures number { result ≡ number_of_word low high word.now }
+    ensures range { IfSome result (λ number. number ≤ high) }
 {
     match word.parse::<u64>() {
         Ok(number) if low <= number && number <= high => Some(number),

@@ -118,8 +118,9 @@ impl fmt::Display for Misfit {
     }
 }
 
-/// The keys of a station beside those of a script.
-const OWN_KEYS: [&'static str; 16] = [
+/// The keys of a station beside those of a script, of which `insert_zone`, `control_field` and
+/// `error_control` are of the frames that it sends.
+const OWN_KEYS: [&'static str; 13] = [
     "spacecraft",
     "virtual_channel",
     "data_virtual_channel",
@@ -130,9 +131,6 @@ const OWN_KEYS: [&'static str; 16] = [
     "packet_type",
     "secondary_header",
     "peer_secondary_header",
-    "insert_zone",
-    "control_field",
-    "error_control",
     "peer_insert_zone",
     "peer_control_field",
     "peer_error_control",

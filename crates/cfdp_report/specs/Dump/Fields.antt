@@ -18,6 +18,7 @@ use Rattle.cfdp_directives.specs.declared.pdu.content.Pdu.TheVariants as pdu
 use Rattle.cfdp_directives.specs.Pdu.Tlv.{Tlv, location_of}
 use Rattle.aos_frame.specs.declared.header.FrameHeader.{FrameHeader}
 use Rattle.cfdp_report.specs.Dump.Lines.{hex_number_text, hex_octet_text, name_text, options_of}
+use Rattle.cfdp_report.specs.Dump.Shape.{crc_octets}
 use Rattle.cfdp_report.specs.Report.Wording.{delivery_word, status_word}
 
 -- ---- a field
@@ -49,6 +50,17 @@ flag_word set = if set then codes "yes" else codes "no"
 abbrev pub flag_field : (name : List ℕ) (set : Bool) (section : List ℕ) → List ℕ
 flag_field name set section = text_field name (flag_word set) section
 
+-- octets in hexadecimal digits
+unfoldable pub filled_field : (name octets section : List ℕ) → List ℕ
+filled_field name octets section =
+    name ++ (codes ": " ++ (flat_map hex_octet_text octets ++ (codes " (" ++ (section
+    ++ codes ")\n"))))
+
+-- the same, where there are some
+abbrev pub part_field : (name octets section : List ℕ) → List ℕ
+part_field name octets section = if length octets == 0 then codes ""
+    else filled_field name octets section
+
 -- the octet there, 0 behind the end
 abbrev pub octet_at : List ℕ → ℕ → ℕ
 octet_at octets at = get_or octets at 0
@@ -73,7 +85,7 @@ fixed_fields h octets =
     ++ (code_field
     (codes "direction") (direction_bit h.direction) (direction_word h.direction) (codes "CFDP 5.1")
     ++ (code_field (codes "transmission mode") 0 (codes "acknowledged") (codes "CFDP 5.1")
-    ++ (flag_field (codes "CRC") false (codes "CFDP 5.1")
+    ++ (flag_field (codes "CRC") h.crc (codes "CFDP 5.1")
     ++ (flag_field (codes "large file") h.large (codes "CFDP 5.1")
     ++ (octets_field (codes "data field") h.length (codes "CFDP 5.1")
     ++ number_field (codes "segmentation control") (octet_at octets 3 / 128)
@@ -221,13 +233,14 @@ content_fields segmented (pdu.Metadata kind size source destination options) res
     ++ name_fields source.now destination.now)))
 content_fields segmented p rest = end_fields p rest
 
--- the fields of a PDU, in the order of its octets
+-- the fields of a PDU, in the order of its octets, and its CRC (CFDP 4.1), where it has one
 abbrev pub pdu_fields : Header → pdus.Pdu → (octets : List ℕ) → List ℕ
 pdu_fields h p octets =
     fixed_fields h octets
     ++ (id_fields h
     ++ (content_fields h.segment_metadata p (drop (header_len h.id_width h.number_width) octets)
-    ++ options_fields p))
+    ++ (options_fields p
+    ++ part_field (codes "PDU CRC") (crc_octets h octets) (codes "CFDP 4.1"))))
 
 -- ---- a frame
 
@@ -258,5 +271,21 @@ zone_fields pointer zone =
     code_field (codes "first header pointer") pointer (pointer_word pointer) (codes "AOS 4.1.4.2")
     ++ octets_field (codes "packet zone") zone (codes "AOS 4.1.4.2")
 
-abbrev pub frame_fields : FrameHeader → (pointer zone : ℕ) → List ℕ
-frame_fields h pointer zone = channel_fields h ++ (count_fields h ++ zone_fields pointer zone)
+-- the insert zone in front of these, where there is one (AOS 4.1.3)
+abbrev pub insert_field : (insert : List ℕ) → List ℕ
+insert_field insert = part_field (codes "insert zone") insert (codes "AOS 4.1.3")
+
+-- the operational control field and the frame error control field behind them, where there are some
+-- (AOS 4.1.5, 4.1.6)
+abbrev pub behind_fields : (control check : List ℕ) → List ℕ
+behind_fields control check =
+    part_field (codes "operational control") control (codes "AOS 4.1.5")
+    ++ part_field (codes "frame error control") check (codes "AOS 4.1.6")
+
+-- the fields of a frame, in the order of its octets
+abbrev pub frame_fields : FrameHeader → (pointer zone : ℕ) → (insert control check : List ℕ)
+    → List ℕ
+frame_fields h pointer zone insert control check =
+    channel_fields h
+    ++ (count_fields h
+    ++ (insert_field insert ++ (zone_fields pointer zone ++ behind_fields control check)))

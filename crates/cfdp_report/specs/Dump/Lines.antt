@@ -115,6 +115,18 @@ lane_word channel =
     else if channel == 7 || channel == 8 then codes " data"
     else codes ""
 
+-- octets of a part in hexadecimal digits behind a word, where there are some
+abbrev pub part_text : (word octets : List ℕ) → List ℕ
+part_text word octets = if length octets == 0 then codes ""
+    else word ++ flat_map hex_octet_text octets
+
+-- the insert zone, the operational control field and the frame error control field of a frame
+-- (732.0-B-4, 4.1.3, 4.1.5, 4.1.6), where it has them
+abbrev pub parts_text : (insert control check : List ℕ) → List ℕ
+parts_text insert control check =
+    part_text (codes " insert ") insert
+    ++ (part_text (codes " control ") control ++ part_text (codes " check ") check)
+
 -- whether the count has 28 bits (732.0-B-4, 4.1.2.5, usage flag of the count cycle)
 abbrev pub cycle_word : Bool → List ℕ
 cycle_word cycle = if cycle then codes " cycle" else codes ""

@@ -1,10 +1,12 @@
 -- Why a line of a dump spells nothing, by number and name.
-use Rattle.std.specs.Prelude.{ℕ, ◌+◌, Bool, true, false, List, ◌++◌, codes, decimal, if◌then◌else◌}
+use Rattle.std.specs.Prelude.{ℕ, Bool, true, false, List, ◌++◌, codes, decimal, if◌then◌else◌}
 use Rattle.cfdp_directives.specs.Pdu.Faults.{pdu_refusal_number, pdu_refusal_name}
 use Rattle.aos_frame.specs.Frame as frames
 use Rattle.aos_frame.specs.declared.error.FrameError.{FrameError}
 use Rattle.aos_frame.specs.declared.error.FrameError.TheVariants.{Length}
 use Rattle.cfdp_report.specs.declared.dump.refusal.Refusal.{Refusal}
+use Rattle.cfdp_report.specs.declared.dump.shape.FrameShape.{FrameShape}
+use Rattle.cfdp_report.specs.Dump.Shape.{frame_len}
 use Rattle.cfdp_report.specs.declared.dump.refusal.Refusal.TheVariants.{Hex, Pdu, Frame}
 
 -- the number of a refusal
@@ -29,11 +31,11 @@ abbrev pub is_length : FrameError → Bool
 is_length Length = true
 is_length _ = false
 
--- why so many octets are no frame with a packet zone of that many; behind a refused length stands
--- how many there are, and how many such a frame has
-abbrev pub frame_fault_text : FrameError → (zone count : ℕ) → List ℕ
-frame_fault_text error zone count =
+-- why so many octets are no frame that is made so; behind a refused length stands how many there
+-- are, and how many such a frame has
+abbrev pub frame_fault_text : FrameError → FrameShape → (count : ℕ) → List ℕ
+frame_fault_text error shape count =
     if is_length error
     then refusal_text (Frame error) ++ codes " " ++ decimal count ++ codes " octets, not "
-    ++ decimal (8 + zone)
+    ++ decimal (frame_len shape)
     else refusal_text (Frame error)

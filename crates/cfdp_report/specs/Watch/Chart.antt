@@ -7,6 +7,7 @@ use Rattle.link_sim.specs.declared.side.Side.{Side}
 use Rattle.link_sim.specs.declared.side.Side.TheVariants.{One, Two}
 use Rattle.cfdp_report.specs.Dump.Lines.{as_line}
 use Rattle.cfdp_report.specs.Watch.Trace.{TellsDeed}
+use Rattle.cfdp_report.specs.declared.dump.shape.FrameShapes.{FrameShapes}
 use Rattle.cfdp_report.specs.declared.watch.chart.ChartWriter.{ChartWriter}
 use Rattle.cfdp_report.specs.declared.watch.sighting.Deed.{Deed}
 use Rattle.cfdp_report.specs.declared.watch.sighting.Deed.TheVariants.{SendsFrame, SendsPdu, TakesFrame, HearsPdu, LosesFrame, Ticks, Drops, Tells}
@@ -43,9 +44,9 @@ arrow One Tells = codes "Note over S1: "
 arrow Two Tells = codes "Note over S2: "
 
 -- The line for one line of a trace: its arrow or note, and what the trace says but for the station.
-pub record ChartsSighting (zone : ℕ) (s : Sighting) (text : List ℕ) : Type 0 where
+pub record ChartsSighting (shapes : FrameShapes) (s : Sighting) (text : List ℕ) : Type 0 where
   pub deed : List ℕ
-  pub tells : TellsDeed zone s deed
+  pub tells : TellsDeed shapes s deed
   pub whole : text ≡ arrow s.station s.deed ++ decimal s.step ++ codes "." ++ decimal s.event
       ++ codes " " ++ flat_map drawn_octet deed
 
@@ -73,17 +74,17 @@ pub record ChartsSoFar (writer : ChartWriter) (seen : List Sighting)
     (start now : Option (List ℕ)) : Type 0 where
   pub count : writer.lines ≡ counted seen
   pub texts : List (List ℕ)
-  pub each : AllZip (ChartsSighting writer.zone) (take most_lines seen) texts
+  pub each : AllZip (ChartsSighting writer.shapes) (take most_lines seen) texts
   pub written : Appends start now (head_text ++ flat_map as_line texts)
 
 -- What was written is the chart of these: its head, one line for each of the first ones in their
 -- order, and how many are left out.
-pub record Charts (zone : ℕ) (all : List Sighting) (old new : Option (List ℕ)) : Type 0 where
+pub record Charts (shapes : FrameShapes) (all : List Sighting) (old new : Option (List ℕ)) : Type 0 where
   pub texts : List (List ℕ)
-  pub each : AllZip (ChartsSighting zone) (take most_lines all) texts
+  pub each : AllZip (ChartsSighting shapes) (take most_lines all) texts
   pub written : Appends old new (head_text ++ flat_map as_line texts ++ rest_text (counted all))
 
 -- the end that makes the chart of whatever was seen whole
 abbrev pub EndsChart : ChartWriter → (old new : Option (List ℕ)) → Type 0
 EndsChart writer old new = (seen : List Sighting) → (start : Option (List ℕ))
-    → ChartsSoFar writer seen start old → Charts writer.zone seen start new
+    → ChartsSoFar writer seen start old → Charts writer.shapes seen start new

@@ -1,8 +1,9 @@
 //! A field, as a line of a dump.
 ghost use Rattle.std.specs.Prelude.{◌≡◌, Some};
 ghost use Rattle.cfdp_report.specs.Dump.Fields.{code_field, flag_field, number_field, octets_field};
-ghost use Rattle.cfdp_report.specs.Dump.Fields.{text_field};
+ghost use Rattle.cfdp_report.specs.Dump.Fields.{filled_field, part_field, text_field};
 
+use crate::dump::line::HexOctets;
 use std::fmt;
 
 /// A number: its name, its value, and the section of the standard.
@@ -74,5 +75,34 @@ impl fmt::Display for TextField {
 
     fn fmt<W: fmt::Write>(&self, f: &mut fmt::Formatter<W>) -> fmt::Result {
         write!(f, "{}: {} ({})\n", self.0, self.1, self.2)
+    }
+}
+
+/// Octets in hexadecimal digits: the field's name, these, and the section of the standard. Nothing
+/// where there are none.
+#[derive(Clone, Copy)]
+pub struct PartField<'a>(pub &'static str, pub &'a [u8], pub &'static str);
+
+impl fmt::Display for PartField<'_> {
+    ghost output = { λ field. Some (part_field field.0.now field.1.now field.2.now) };
+
+    fn fmt<W: fmt::Write>(&self, f: &mut fmt::Formatter<W>) -> fmt::Result {
+        if self.1.len() == 0 {
+            write!(f, "")
+        } else {
+            write!(f, "{}", FilledField(self.0, self.1, self.2))
+        }
+    }
+}
+
+/// The same, whether there are some or not.
+#[derive(Clone, Copy)]
+struct FilledField<'a>(&'static str, &'a [u8], &'static str);
+
+impl fmt::Display for FilledField<'_> {
+    ghost output = { λ field. Some (filled_field field.0.now field.1.now field.2.now) };
+
+    fn fmt<W: fmt::Write>(&self, f: &mut fmt::Formatter<W>) -> fmt::Result {
+        write!(f, "{}: {} ({})\n", self.0, HexOctets(self.1), self.2)
     }
 }

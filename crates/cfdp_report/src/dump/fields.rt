@@ -4,6 +4,7 @@ ghost use Rattle.std.specs.List.{flat_map};
 ghost use Rattle.cfdp_report.specs.Dump.Lines.{options_of};
 ghost use Rattle.cfdp_report.specs.Dump.Fields.{checksum_field, content_fields, end_fields};
 ghost use Rattle.cfdp_report.specs.Dump.Fields.{fixed_fields, frame_fields, id_fields, name_field};
+ghost use Rattle.cfdp_report.specs.Dump.Fields.{behind_fields, insert_field};
 ghost use Rattle.cfdp_report.specs.Dump.Fields.{name_fields};
 ghost use Rattle.cfdp_report.specs.Dump.Fields.{option_field, options_fields, pdu_fields};
 ghost use Rattle.cfdp_report.specs.Dump.Fields.{channel_fields, count_fields, zone_fields};
@@ -11,8 +12,10 @@ ghost use Rattle.cfdp_report.specs.Dump.Fields.{prompt_fields, range_field, segm
 ghost use Rattle.cfdp_report.specs.Dump.Fields.{short_fields};
 ghost use Rattle.cfdp_report.specs.Dump.Fields as fields;
 
-use crate::dump::field::{CodeField, FlagField, NumberField, OctetsField};
-use crate::dump::line::{FrameLine, HexNumber, HexOctet, HexOctets, fault_location};
+use crate::dump::field::{CodeField, FlagField, NumberField, OctetsField, PartField};
+use crate::dump::line::{
+    FrameLine, FrameParts, HexNumber, HexOctet, HexOctets, crc_octets, fault_location,
+};
 use crate::report::name::Name;
 use crate::report::wording::{delivery_word, status_word};
 use aos_frame::FrameHeader;
@@ -66,9 +69,10 @@ impl fmt::Display for PduFields<'_> {
             pdu,
             rest: octets_behind(self.octets, header.len()),
         };
+        let crc = PartField("PDU CRC", crc_octets(header, self.octets), "CFDP 4.1");
         write!(
             f,
-            "{fixed}{}{content}{}",
+            "{fixed}{}{content}{}{crc}",
             IdFields(header),
             OptionFields(pdu)
         )
@@ -114,7 +118,7 @@ impl fmt::Display for FixedFields<'_> {
             HEADER,
         );
         let mode = CodeField("transmission mode", 0, "acknowledged", HEADER);
-        let crc = FlagField("CRC", false, HEADER);
+        let crc = FlagField("CRC", header.crc, HEADER);
         let large = FlagField("large file", header.large, HEADER);
         let length = OctetsField("data field", u64::from(header.length), HEADER);
         let control = octet_at(self.octets, 3) / 128;
@@ -496,16 +500,19 @@ impl fmt::Display for OptionField<'_> {
     }
 }
 
-/// A frame with a packet zone of so many octets, field by field.
+/// A frame with a packet zone of so many octets, field by field, in the order of its octets.
 #[derive(Clone, Copy)]
-pub struct FrameFields {
+pub struct FrameFieldLines<'a> {
     pub frame: FrameLine,
     /// The octets of the packet zone.
     pub zone: u16,
+    /// Its fields beside the M_PDU.
+    pub parts: FrameParts<'a>,
 }
 
-impl fmt::Display for FrameFields {
-    ghost output = { λ it. Some (frame_fields it.frame.header it.frame.pointer it.zone) };
+impl fmt::Display for FrameFieldLines<'_> {
+    ghost output = { λ it. Some (frame_fields it.frame.header it.frame.pointer it.zone
+        it.parts.insert.now it.parts.control.now it.parts.check.now) };
 
     fn fmt<W: fmt::Write>(&self, f: &mut fmt::Formatter<W>) -> fmt::Result {
         let (channel, count) = (
@@ -516,7 +523,9 @@ impl fmt::Display for FrameFields {
             pointer: self.frame.pointer,
             zone: self.zone,
         };
-        write!(f, "{channel}{count}{zone}")
+        let insert = InsertField(self.parts.insert);
+        let behind = BehindFields(self.parts);
+        write!(f, "{channel}{count}{insert}{zone}{behind}")
     }
 }
 
@@ -569,6 +578,33 @@ impl fmt::Display for ZoneFields {
         let pointer = CodeField("first header pointer", pointer, word, ZONE);
         let zone = OctetsField("packet zone", u64::from(self.zone), ZONE);
         write!(f, "{pointer}{zone}")
+    }
+}
+
+/// The insert zone of a frame, in front of its M_PDU, where it has one.
+#[derive(Clone, Copy)]
+struct InsertField<'a>(&'a [u8]);
+
+impl fmt::Display for InsertField<'_> {
+    ghost output = { λ it. Some (insert_field it.0.now) };
+
+    fn fmt<W: fmt::Write>(&self, f: &mut fmt::Formatter<W>) -> fmt::Result {
+        write!(f, "{}", PartField("insert zone", self.0, "AOS 4.1.3"))
+    }
+}
+
+/// The fields of a frame behind its M_PDU, where it has them.
+#[derive(Clone, Copy)]
+struct BehindFields<'a>(FrameParts<'a>);
+
+impl fmt::Display for BehindFields<'_> {
+    ghost output = { λ it. Some (behind_fields it.0.control.now it.0.check.now) };
+
+    fn fmt<W: fmt::Write>(&self, f: &mut fmt::Formatter<W>) -> fmt::Result {
+        let parts = self.0;
+        let control = PartField("operational control", parts.control, "AOS 4.1.5");
+        let check = PartField("frame error control", parts.check, "AOS 4.1.6");
+        write!(f, "{control}{check}")
     }
 }
 

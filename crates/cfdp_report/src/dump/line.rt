@@ -5,10 +5,11 @@ ghost use Rattle.cfdp_directives.specs.Pdu.Tlv.{location_of};
 ghost use Rattle.cfdp_report.specs.Dump.Lines.{fields_text, frame_text};
 ghost use Rattle.cfdp_report.specs.Dump.Lines.{hex_number_text, hex_octet_text, location_text};
 ghost use Rattle.cfdp_report.specs.Dump.Lines.{long_text, option_text, options_of};
-ghost use Rattle.cfdp_report.specs.Dump.Lines.{pdu_text, range_text};
+ghost use Rattle.cfdp_report.specs.Dump.Lines.{part_text, parts_text, pdu_text, range_text};
+ghost use Rattle.cfdp_report.specs.Dump.Shape as shapes;
 ghost use Rattle.cfdp_report.specs.Dump.Told.{frame_line, pdu_line};
 
-use crate::dump::fields::{FrameFields, PduFields};
+use crate::dump::fields::{FrameFieldLines, PduFields};
 use crate::dump::form::DumpForm;
 use crate::report::name::{Name, hex_digit};
 use crate::report::wording::{Id, delivery_word, status_word};
@@ -40,7 +41,10 @@ impl fmt::Display for DumpedPdu<'_> {
         let line = PduLine { id: header.id, pdu };
         match form {
             DumpForm::Short => write!(f, "{line}"),
-            DumpForm::Long => write!(f, "{line}{}", LongPart { header, pdu }),
+            DumpForm::Long => {
+                let crc = PartWords(" crc ", crc_octets(header, octets));
+                write!(f, "{line}{}{crc}", LongPart { header, pdu })
+            }
             DumpForm::Fields => write!(
                 f,
                 "{}",
@@ -52,6 +56,14 @@ impl fmt::Display for DumpedPdu<'_> {
             ),
         }
     }
+}
+
+/// The CRC at the end of a PDU, if it has one.
+pub fn crc_octets(header: Header, octets: &[u8]) -> &[u8]
+    ensures { result.now ≡ shapes.crc_octets header octets.now }
+{
+    let at = octets.len().saturating_sub(header.crc_len());
+    &octets[at..]
 }
 
 /// A PDU, with the transaction that its header names.
@@ -320,26 +332,82 @@ impl fmt::Display for HexNumber {
 
 /// A frame as a dump tells it.
 #[derive(Clone, Copy)]
-pub struct DumpedFrame {
+pub struct DumpedFrame<'a> {
     pub frame: FrameLine,
     /// The octets of its packet zone.
     pub zone: u16,
+    /// Its fields beside the M_PDU.
+    pub parts: FrameParts<'a>,
     pub form: DumpForm,
 }
 
-impl fmt::Display for DumpedFrame {
-    ghost output = { λ it. Some (frame_line it.form it.frame.header it.frame.pointer it.zone) };
+impl fmt::Display for DumpedFrame<'_> {
+    ghost output = { λ it. Some (frame_line it.form it.frame.header it.frame.pointer it.zone
+        it.parts.insert.now it.parts.control.now it.parts.check.now) };
 
     fn fmt<W: fmt::Write>(&self, f: &mut fmt::Formatter<W>) -> fmt::Result {
-        let DumpedFrame { frame, zone, form } = *self;
+        let DumpedFrame {
+            frame,
+            zone,
+            parts,
+            form,
+        } = *self;
         match form {
             DumpForm::Short => write!(f, "{frame}"),
             DumpForm::Long => {
                 let lane = lane_word(frame.header.virtual_channel);
                 let cycle = cycle_word(frame.header.cycle);
-                write!(f, "{frame}{lane}{cycle}")
+                write!(f, "{frame}{lane}{cycle}{}", FrameWords(parts))
             }
-            DumpForm::Fields => write!(f, "{}", FrameFields { frame, zone }),
+            DumpForm::Fields => write!(f, "{}", FrameFieldLines { frame, zone, parts }),
+        }
+    }
+}
+
+/// The fields of a frame beside its M_PDU; no octets where it lacks one.
+#[derive(Clone, Copy)]
+pub struct FrameParts<'a> {
+    /// The insert zone.
+    pub insert: &'a [u8],
+    /// The operational control field.
+    pub control: &'a [u8],
+    /// The frame error control field.
+    pub check: &'a [u8],
+}
+
+/// The fields of a frame in a long line.
+#[derive(Clone, Copy)]
+struct FrameWords<'a>(FrameParts<'a>);
+
+impl fmt::Display for FrameWords<'_> {
+    ghost output = { λ it. Some (parts_text it.0.insert.now it.0.control.now it.0.check.now) };
+
+    fn fmt<W: fmt::Write>(&self, f: &mut fmt::Formatter<W>) -> fmt::Result {
+        let FrameParts {
+            insert,
+            control,
+            check,
+        } = self.0;
+        let insert = PartWords(" insert ", insert);
+        let control = PartWords(" control ", control);
+        let check = PartWords(" check ", check);
+        write!(f, "{insert}{control}{check}")
+    }
+}
+
+/// Octets of a part in hexadecimal digits, behind a word with spaces around it; nothing where there
+/// are none.
+#[derive(Clone, Copy)]
+struct PartWords<'a>(&'static str, &'a [u8]);
+
+impl fmt::Display for PartWords<'_> {
+    ghost output = { λ it. Some (part_text it.0.now it.1.now) };
+
+    fn fmt<W: fmt::Write>(&self, f: &mut fmt::Formatter<W>) -> fmt::Result {
+        if self.1.len() == 0 {
+            write!(f, "")
+        } else {
+            write!(f, "{}{}", self.0, HexOctets(self.1))
         }
     }
 }

@@ -2,6 +2,7 @@
 ghost use Rattle.std.specs.Prelude.{◌≡◌, Some};
 ghost use Rattle.cfdp_report.specs.Dump.Refusal.{refusal_text};
 
+use crate::dump::shape::FrameShape;
 use aos_frame::FrameError;
 use cfdp_directives::PduError;
 use std::fmt;
@@ -47,13 +48,13 @@ impl Refusal {
     }
 }
 
-/// Why so many octets are no frame with a packet zone of that many.
+/// Why so many octets are no frame of a shape.
 #[derive(Clone, Copy)]
 pub struct FrameRefusal {
     /// Why they are none.
     pub error: FrameError,
-    /// The octets of the packet zone, 16 to 2,040.
-    pub zone: u16,
+    /// What such a frame is made of.
+    pub shape: FrameShape,
     /// How many octets there are.
     pub count: usize,
 }
@@ -63,12 +64,12 @@ pub struct FrameRefusal {
 impl fmt::Display for FrameRefusal {
     ghost use Rattle.cfdp_report.specs.Dump.Refusal.{frame_fault_text};
 
-    ghost output = { λ it. Some (frame_fault_text it.error it.zone it.count) };
+    ghost output = { λ it. Some (frame_fault_text it.error it.shape it.count) };
 
     fn fmt<W: fmt::Write>(&self, f: &mut fmt::Formatter<W>) -> fmt::Result {
         let refusal = Refusal::Frame(self.error);
         if is_length(self.error) {
-            let (count, whole) = (self.count, 8 + u32::from(self.zone));
+            let (count, whole) = (self.count, self.shape.frame_len());
             write!(f, "{refusal} {count} octets, not {whole}")
         } else {
             write!(f, "{refusal}")

@@ -1,12 +1,23 @@
 //! Conditions in words (CCSDS 727.0-B-5, table 5-5).
 use cfdp_directives::{Condition, Indication};
+use link_sim::Side;
 use std::io;
 use std::io::Write;
+
+/// The code of a cancel that a user asked for.
+const CANCELLED: u8 = 15;
 
 /// Which conditions stations told their users.
 #[derive(Clone, Copy)]
 pub struct Conditions {
     are_told: [bool; 16],
+}
+
+/// Of which stations the users cancelled transactions.
+#[derive(Clone, Copy)]
+pub struct Cancels {
+    pub one: bool,
+    pub two: bool,
 }
 
 impl Conditions {
@@ -24,19 +35,36 @@ impl Conditions {
         }
     }
 
-    /// Writes a line for each of them but 0, in the order of their codes: what it says.
+    /// Writes a line for each of them but 0, in the order of their codes: what it says, and of a
+    /// cancel also whose it was.
     ///
     /// # Errors
     ///
     /// That of the writer.
-    pub fn write<W: Write>(&self, out: &mut W) -> io::Result<()> {
+    pub fn write<W: Write>(&self, cancels: Cancels, out: &mut W) -> io::Result<()> {
         for code in 1..16u8 {
             if self.are_told[usize::from(code)] {
-                writeln!(out, "condition {code}: {}", condition_words(code))?;
+                write!(out, "condition {code}: {}", condition_words(code))?;
+                if code == CANCELLED {
+                    write_cancels(cancels, out)?;
+                }
+                writeln!(out)?;
             }
         }
         Ok(())
     }
+}
+
+/// Writes the stations whose users cancelled transactions, where it is known.
+fn write_cancels<W: Write>(cancels: Cancels, out: &mut W) -> io::Result<()> {
+    let mut mark = ", ";
+    for (side, has_cancelled) in [(Side::One, cancels.one), (Side::Two, cancels.two)] {
+        if has_cancelled {
+            write!(out, "{mark}that of station {}", side.entity())?;
+            mark = " and ";
+        }
+    }
+    Ok(())
 }
 
 /// The condition that an indication tells, where it tells one.

@@ -3,7 +3,7 @@ ghost use Rattle.std.specs.Prelude.{◌≡◌, map};
 ghost use Rattle.cfdp_report.specs.Settings.{is, key_among, row_key, setting_of};
 
 use crate::nearest::Nearest;
-use aos_frame::{LEAST_ZONE, MOST_ZONE};
+use aos_frame::{LEAST_ZONE, MOST_INSERT_ZONE, MOST_ZONE};
 use cfdp_entity::{MOST_SEGMENT, MOST_WIDTH};
 use std::alloc::{AllocError, Global};
 use std::fmt;
@@ -13,6 +13,12 @@ use std::fmt;
 pub enum Setting {
     /// Octets of a frame's packet zone.
     Zone,
+    /// Octets of a frame's insert zone.
+    InsertZone,
+    /// Whether frames have an operational control field: 0 or 1.
+    ControlField,
+    /// Whether frames have a frame error control field: 0 or 1.
+    ErrorControl,
     /// Octets of the file in one PDU at the most.
     Segment,
     /// Octets of an entity id.
@@ -23,6 +29,8 @@ pub enum Setting {
     FirstNumber,
     /// The code of the checksum type.
     Checksum,
+    /// Whether PDUs end in a CRC: 0 or 1.
+    PduCrc,
     /// How often an EOF is sent again.
     EofLimit,
     /// How often a NAK is sent again.
@@ -61,13 +69,34 @@ pub struct Row {
 }
 
 /// All settings, in the order of `Setting`.
-pub const TABLE: [Row; 16] = [
+pub const TABLE: [Row; 20] = [
     Row {
         setting: Setting::Zone,
         key: "zone",
         range: Range::Between(LEAST_ZONE as u64, MOST_ZONE as u64),
         default: 256,
         help: "octets of a frame's packet zone, 16 to 2040",
+    },
+    Row {
+        setting: Setting::InsertZone,
+        key: "insert_zone",
+        range: Range::Between(0, MOST_INSERT_ZONE as u64),
+        default: 0,
+        help: "octets of a frame's insert zone, 0 to 64",
+    },
+    Row {
+        setting: Setting::ControlField,
+        key: "control_field",
+        range: Range::Between(0, 1),
+        default: 0,
+        help: "1: frames have an operational control field",
+    },
+    Row {
+        setting: Setting::ErrorControl,
+        key: "error_control",
+        range: Range::Between(0, 1),
+        default: 0,
+        help: "1: frames have a frame error control field",
     },
     Row {
         setting: Setting::Segment,
@@ -103,6 +132,13 @@ pub const TABLE: [Row; 16] = [
         range: Range::BetweenOr(0, 3, 15),
         default: 0,
         help: "0 modular, 15 null; CRC-32: 1 Proximity-1, 2 C, 3 IEEE",
+    },
+    Row {
+        setting: Setting::PduCrc,
+        key: "pdu_crc",
+        range: Range::Between(0, 1),
+        default: 0,
+        help: "1: PDUs end in a CRC",
     },
     Row {
         setting: Setting::EofLimit,

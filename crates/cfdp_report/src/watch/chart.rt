@@ -8,6 +8,7 @@ ghost use Rattle.cfdp_report.specs.Watch.Chart.{ChartsSighting, ChartsSoFar, End
 ghost use Rattle.cfdp_report.specs.Watch.Continues.{Continues};
 ghost use Rattle.cfdp_report.specs.Dump.Lines.{WritesLine, WritesLines};
 
+use crate::dump::shape::FrameShapes;
 use crate::watch::sighting::{Deed, Sighting};
 use crate::watch::trace::write_deed;
 use link_sim::Side;
@@ -23,18 +24,18 @@ const MOST_LINES: usize = 400;
 /// note for anything else. Of more than 400 the others are left out, and a last line says how many.
 #[derive(Clone, Copy)]
 pub struct ChartWriter {
-    /// The octets of a frame's packet zone.
-    zone: u16,
+    /// What the frames of both stations are made of.
+    shapes: FrameShapes,
     /// How many lines the trace has so far.
     lines: usize,
 }
 
 impl ChartWriter {
-    /// Before anything was seen, of frames with packet zones of so many octets.
-    pub fn new(zone: u16) -> ChartWriter
-        ensures { (result.zone ≡ zone) × (result.lines ≡ 0) }
+    /// Before anything was seen, of frames that are made so.
+    pub fn new(shapes: FrameShapes) -> ChartWriter
+        ensures { (result.shapes ≡ shapes) × (result.lines ≡ 0) }
     {
-        ChartWriter { zone, lines: 0 }
+        ChartWriter { shapes, lines: 0 }
     }
 
     /// Begins a chart, whose head has left the buffer then.
@@ -45,7 +46,7 @@ impl ChartWriter {
     pub fn begin<V: Write + Drop>(&mut self, out: &mut BufWriter<V>) -> io::Result<()>
         ensures begun { OnOk result (ChartsSoFar self.new [] (writer_contents V.contents out.old)
             (writer_contents V.contents out.new)) }
-        ensures zone { self.new.zone ≡ self.old.zone }
+        ensures shapes { self.new.shapes ≡ self.old.shapes }
         ensures flushed { OnOk result (writer_buffer out.new ≡ []) }
     {
         self.lines = 0;
@@ -70,12 +71,12 @@ impl ChartWriter {
         ensures goes_on { OnOk result (Continues (ChartsSoFar self.old) (ChartsSoFar self.new)
             sightings.now (writer_contents V.contents out.old)
             (writer_contents V.contents out.new)) }
-        ensures zone { self.new.zone ≡ self.old.zone }
+        ensures shapes { self.new.shapes ≡ self.old.shapes }
         ensures flushed { OnOk result (writer_buffer out.new ≡ []) }
     {
         let room = MOST_LINES.saturating_sub(self.lines);
         self.lines = self.lines.saturating_add(sightings.len());
-        write_lines(alloc, out, self.zone, first_of(room, sightings))?;
+        write_lines(alloc, out, self.shapes, first_of(room, sightings))?;
         out.flush()
     }
 
@@ -110,14 +111,14 @@ fn first_of(most: usize, sightings: &[Sighting]) -> &[Sighting]
 fn write_lines<W: Write>(
     alloc: Global,
     out: &mut W,
-    zone: u16,
+    shapes: FrameShapes,
     sightings: &[Sighting],
 ) -> io::Result<()>
-    ensures { OnOk result (WritesLines (ChartsSighting zone) sightings.now
+    ensures { OnOk result (WritesLines (ChartsSighting shapes) sightings.now
         (W.contents out.old) (W.contents out.new)) }
 {
     for sighting in sightings {
-        write_arrow(alloc, out, zone, sighting)?;
+        write_arrow(alloc, out, shapes, sighting)?;
     }
     Ok(())
 }
@@ -140,14 +141,14 @@ fn write_rest<W: Write>(out: &mut W, lines: usize) -> io::Result<()>
 fn write_arrow<W: Write>(
     alloc: Global,
     out: &mut W,
-    zone: u16,
+    shapes: FrameShapes,
     sighting: &Sighting,
 ) -> io::Result<()>
-    ensures { OnOk result (WritesLine (ChartsSighting zone sighting.now)
+    ensures { OnOk result (WritesLine (ChartsSighting shapes sighting.now)
         (W.contents out.old) (W.contents out.new)) }
 {
     let mut deed = Vec::new(alloc);
-    write_deed(&mut deed, zone, sighting)?;
+    write_deed(&mut deed, shapes, sighting)?;
     let arrow = arrow(sighting.station, sighting.deed);
     write!(out, "{arrow}{}.{} ", sighting.step, sighting.event)?;
     write!(out, "{}", Drawn(deed.as_slice()))

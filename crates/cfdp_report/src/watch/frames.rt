@@ -1,6 +1,7 @@
 //! The frames of one direction, watched.
 use crate::watch::sent::SentFrames;
 use crate::watch::sighting::{Deed, Log};
+use cfdp_directives::{Condition, Pdu, decode};
 use cfdp_station::LinkConfig;
 use link_sim::{FrameLink, FrameLinks, Lane, Mark, Side};
 use link_stack::{LinkDrop, Up};
@@ -25,6 +26,8 @@ pub struct Watch {
     file_data: Counts,
     // Those of both lanes.
     sent: SentFrames,
+    // Whether a PDU told that the station's user cancelled its transaction.
+    has_cancel: bool,
     // What finds the PDUs in the frames that left, and in those that arrived.
     sending: Up,
     hearing: Up,
@@ -44,6 +47,7 @@ impl Watch {
             directives: Counts { sent: 0, taken: 0 },
             file_data: Counts { sent: 0, taken: 0 },
             sent: SentFrames { all: 0, lost: 0 },
+            has_cancel: false,
             sending: Up::new(alloc, link)?,
             hearing: Up::new(alloc, link)?,
         })
@@ -52,6 +56,11 @@ impl Watch {
     /// How many frames were seen to leave, and to be lost.
     pub fn sent(&self) -> SentFrames {
         self.sent
+    }
+
+    /// Whether a PDU that was seen told that the station's user cancelled its transaction.
+    pub fn has_cancel(&self) -> bool {
+        self.has_cancel
     }
 
     /// Notes what became of these frames in one event: any number were sent, and at most one
@@ -101,7 +110,7 @@ impl Watch {
     pub fn leaves(&mut self, lane: Lane, frame: &[u8], log: &mut Log) {
         self.sent.all = self.sent.all.saturating_add(1);
         log.note(self.from, Deed::SendsFrame(lane), frame);
-        note_pdus(
+        self.has_cancel |= note_pdus(
             self.alloc,
             &mut self.sending,
             frame,
@@ -133,7 +142,7 @@ impl Watch {
     fn arrives(&mut self, lane: Lane, frame: &[u8], log: &mut Log) {
         let to = self.from.other();
         log.note(to, Deed::TakesFrame(lane), frame);
-        note_pdus(
+        self.has_cancel |= note_pdus(
             self.alloc,
             &mut self.hearing,
             frame,
@@ -144,15 +153,63 @@ impl Watch {
     }
 }
 
-/// Notes the PDUs that a frame completes.
-fn note_pdus(alloc: Global, up: &mut Up, frame: &[u8], station: Side, deed: Deed, log: &mut Log) {
+/// Notes the PDUs that a frame completes. Answers whether one of them tells that the user of the
+/// station that sent it cancelled its transaction.
+fn note_pdus(
+    alloc: Global,
+    up: &mut Up,
+    frame: &[u8],
+    station: Side,
+    deed: Deed,
+    log: &mut Log,
+) -> bool {
     let mut pdus = Vec::new(alloc);
     let before = up.drops(LinkDrop::NoMemory.number());
     up.receive(frame, &mut pdus);
     if up.drops(LinkDrop::NoMemory.number()) != before {
         log.note_short();
     }
+    let mut has_cancel = false;
     for pdu in &pdus {
         log.note(station, deed, pdu);
+        has_cancel |= tells_cancel(pdu);
     }
+    has_cancel
+}
+
+/// Whether a PDU tells that the user of the station that sent it cancelled its transaction: an EOF
+/// or a Finished with that condition, which names no other entity.
+fn tells_cancel(pdu: &[u8]) -> bool {
+    match decode(pdu) {
+        Ok(
+            (
+                header,
+                Pdu::Eof {
+                    condition,
+                    tlvs,
+                    ..
+                },
+            ),
+        ) => is_cancel(condition)
+            && tlvs.fault_location().unwrap_or(header.id.source) == header.id.source,
+        Ok(
+            (
+                header,
+                Pdu::Finished {
+                    condition,
+                    tlvs,
+                    ..
+                },
+            ),
+        ) => {
+            is_cancel(condition)
+                && tlvs.fault_location().unwrap_or(header.destination) == header.destination
+        }
+        _ => false,
+    }
+}
+
+/// Whether this is the condition of a cancel that a user asked for.
+fn is_cancel(condition: Condition) -> bool {
+    condition.code() == 15
 }

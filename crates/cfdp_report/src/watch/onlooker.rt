@@ -1,6 +1,7 @@
 //! One who looks on at a run: at a script's, or at turns over two wires.
 
-use crate::report::condition::Conditions;
+use crate::dump::shape::FrameShapes;
+use crate::report::condition::{Cancels, Conditions};
 use crate::watch::dropped::Dropped;
 use crate::watch::frames::Watch;
 use crate::watch::recorder::{Recorder, Screen, Showing};
@@ -103,6 +104,8 @@ impl Onlooker<'_> {
 pub struct Summary {
     /// Which conditions the stations told their users.
     pub conditions: Conditions,
+    /// Of which stations the users cancelled transactions, as their PDUs tell it.
+    pub cancels: Cancels,
     /// What either station sent and dropped.
     pub one: StationSummary,
     pub two: StationSummary,
@@ -163,7 +166,7 @@ impl<'a> Seen<'a> {
             conditions: Conditions::new(),
             one: SeenStation::new(Side::One, one),
             two: SeenStation::new(Side::Two, two),
-            recorder: Recorder::new(screen, shown, config.one.sends.zone),
+            recorder: Recorder::new(screen, shown, FrameShapes::of(&config)),
         })
     }
 
@@ -176,8 +179,13 @@ impl<'a> Seen<'a> {
             one,
             two,
         } = self;
+        let cancels = Cancels {
+            one: one.frames.has_cancel(),
+            two: two.frames.has_cancel(),
+        };
         Summary {
             conditions,
+            cancels,
             one: one.into_summary(),
             two: two.into_summary(),
             showing: recorder.ends(),

@@ -1,5 +1,6 @@
 //! What is seen, written as it is seen.
 use crate::cause::cause_text;
+use crate::dump::shape::FrameShapes;
 use crate::watch::capture::{begin_capture, write_capture};
 use crate::watch::chart::ChartWriter;
 use crate::watch::progress::Progress;
@@ -45,7 +46,7 @@ pub enum Showing {
 #[derive(Drop)]
 pub struct Recorder<'a> {
     screen: Screen<'a>,
-    zone: u16,
+    shapes: FrameShapes,
     trace: Option<BufWriter<Stderr>>,
     capture: Option<SeenFile<'a>>,
     chart: Option<SeenFile<'a>>,
@@ -54,15 +55,15 @@ pub struct Recorder<'a> {
 }
 
 impl<'a> Recorder<'a> {
-    /// Before anything is seen, of frames with packet zones of so many octets. The files are begun.
-    pub fn new(screen: Screen<'a>, shown: &'a Shown, zone: u16) -> Recorder<'a> {
+    /// Before anything is seen, of frames that are made so. The files are begun.
+    pub fn new(screen: Screen<'a>, shown: &'a Shown, shapes: FrameShapes) -> Recorder<'a> {
         let mut recorder = Recorder {
             screen,
-            zone,
+            shapes,
             trace: None,
             capture: None,
             chart: None,
-            chart_writer: ChartWriter::new(zone),
+            chart_writer: ChartWriter::new(shapes),
             showing: Showing::Whole,
         };
         if shown.trace {
@@ -127,7 +128,7 @@ impl<'a> Recorder<'a> {
         let screen = self.screen;
         if let Some(out) = &mut self.trace {
             screen.yields();
-            if write_trace(out, self.zone, sightings).is_err() {
+            if write_trace(out, self.shapes, sightings).is_err() {
                 self.lose_trace();
             }
         }

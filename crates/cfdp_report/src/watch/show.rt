@@ -76,7 +76,7 @@ fn explain(rt: &HostRuntime, shown: &Shown, seen: &Summary) -> u8
 /// Writes what the conditions that were told say, and what the stations sent, lost and dropped.
 fn write_explanation(rt: &HostRuntime, seen: &Summary) -> io::Result<()> {
     let mut text = Vec::new(rt.alloc());
-    seen.conditions.write(&mut text)?;
+    seen.conditions.write(seen.cancels, &mut text)?;
     seen.one.write(&mut text)?;
     seen.two.write(&mut text)?;
     rt.stderr().write_all(text.as_slice())

@@ -4,12 +4,13 @@ ghost use Rattle.std.specs.Prelude.{◌≡◌, [], OnOk};
 ghost use Rattle.cfdp_report.specs.Dump.Lines.{WritesLine, WritesLines};
 ghost use Rattle.cfdp_report.specs.Watch.Continues.{Continues};
 ghost use Rattle.cfdp_report.specs.Watch.Trace.{TellsDeed, TellsSighting, TellsWords, TracesSoFar};
-ghost use Rattle.cfdp_report.specs.Watch.Trace.{deed_word};
+ghost use Rattle.cfdp_report.specs.Watch.Trace.{deed_word, sender};
 
 use crate::dump::form::DumpForm;
+use crate::dump::shape::{FrameShape, FrameShapes};
 use crate::dump::{write_frame, write_pdu};
 use crate::watch::sighting::{Deed, Sighting};
-use link_sim::Lane;
+use link_sim::{Lane, Side};
 use std::io;
 use std::io::{BufWriter, Write};
 
@@ -32,46 +33,60 @@ impl Deed {
             Deed::Tells => "tells",
         }
     }
+
+    /// The station that sent the frame with which this station did it.
+    fn sender(self, station: Side) -> Side
+        ensures { result ≡ sender self station }
+    {
+        match self {
+            Deed::TakesFrame(_) => station.other(),
+            _ => station,
+        }
+    }
 }
 
 /// Writes a line for each thing that a station did, in order, behind those of what was seen before:
 /// the line of the script and the number of the event, with a point between, the station, and what
-/// it did. They have left the buffer then. Frames have packet zones of `zone` octets.
+/// it did. They have left the buffer then. `shapes` says what the frames of each are made of.
 ///
 /// # Errors
 ///
 /// That of the writer.
 pub fn write_trace<V: Write + Drop>(
     out: &mut BufWriter<V>,
-    zone: u16,
+    shapes: FrameShapes,
     sightings: &[Sighting],
 ) -> io::Result<()>
-    ensures goes_on { OnOk result (Continues (TracesSoFar zone) (TracesSoFar zone) sightings.now
+    ensures goes_on { OnOk result (Continues (TracesSoFar shapes) (TracesSoFar shapes) sightings.now
         (writer_contents V.contents out.old) (writer_contents V.contents out.new)) }
     ensures flushed { OnOk result (writer_buffer out.new ≡ []) }
 {
-    write_sightings(out, zone, sightings)?;
+    write_sightings(out, shapes, sightings)?;
     out.flush()
 }
 
 /// Writes a line for each of these.
-fn write_sightings<W: Write>(out: &mut W, zone: u16, sightings: &[Sighting]) -> io::Result<()>
-    ensures { OnOk result (WritesLines (TellsSighting zone) sightings.now
+fn write_sightings<W: Write>(
+    out: &mut W,
+    shapes: FrameShapes,
+    sightings: &[Sighting],
+) -> io::Result<()>
+    ensures { OnOk result (WritesLines (TellsSighting shapes) sightings.now
         (W.contents out.old) (W.contents out.new)) }
 {
     for sighting in sightings {
-        write_sighting(out, zone, sighting)?;
+        write_sighting(out, shapes, sighting)?;
     }
     Ok(())
 }
 
-fn write_sighting<W: Write>(out: &mut W, zone: u16, sighting: &Sighting) -> io::Result<()>
-    ensures { OnOk result (WritesLine (TellsSighting zone sighting.now)
+fn write_sighting<W: Write>(out: &mut W, shapes: FrameShapes, sighting: &Sighting) -> io::Result<()>
+    ensures { OnOk result (WritesLine (TellsSighting shapes sighting.now)
         (W.contents out.old) (W.contents out.new)) }
 {
     let station = sighting.station.entity();
     write!(out, "{}.{} {station} ", sighting.step, sighting.event)?;
-    write_deed(out, zone, sighting)
+    write_deed(out, shapes, sighting)
 }
 
 /// Writes what a station did: the verb, and what a dump says of the frame or the PDU, or the words
@@ -80,24 +95,25 @@ fn write_sighting<W: Write>(out: &mut W, zone: u16, sighting: &Sighting) -> io::
 /// # Errors
 ///
 /// That of the writer.
-pub fn write_deed<W: Write>(out: &mut W, zone: u16, sighting: &Sighting) -> io::Result<()>
-    ensures { OnOk result (WritesLine (TellsDeed zone sighting.now)
+pub fn write_deed<W: Write>(out: &mut W, shapes: FrameShapes, sighting: &Sighting) -> io::Result<()>
+    ensures { OnOk result (WritesLine (TellsDeed shapes sighting.now)
         (W.contents out.old) (W.contents out.new)) }
 {
     write!(out, "{} ", sighting.deed.word())?;
-    write_words(out, zone, sighting)
+    let from = sighting.deed.sender(sighting.station);
+    write_words(out, shapes.sent_by(from), sighting)
 }
 
-/// Writes what stands behind the verb.
-fn write_words<W: Write>(out: &mut W, zone: u16, sighting: &Sighting) -> io::Result<()>
+/// Writes what stands behind the verb. A frame is made so.
+fn write_words<W: Write>(out: &mut W, shape: FrameShape, sighting: &Sighting) -> io::Result<()>
     ensures { OnOk result (WritesLine
-        (TellsWords sighting.now.deed zone sighting.now.octets.items)
+        (TellsWords sighting.now.deed shape sighting.now.octets.items)
         (W.contents out.old) (W.contents out.new)) }
 {
     match sighting.deed {
         Deed::SendsPdu(_) | Deed::HearsPdu => write_pdu(&sighting.octets, DumpForm::Short, out),
         Deed::SendsFrame(_) | Deed::TakesFrame(_) | Deed::LosesFrame(_) => {
-            write_frame(&sighting.octets, zone, DumpForm::Short, out)
+            write_frame(&sighting.octets, shape, DumpForm::Short, out)
         }
         Deed::Ticks | Deed::Drops | Deed::Tells => write_line(out, &sighting.octets),
     }

@@ -4,9 +4,9 @@ use Rattle.cfdp_report.proofs.TextLines.{lines-none, lines-more}
 use Rattle.cfdp_report.proofs.watch.chart.write_lines.Goals as goal
 
 pub loop-sighting-init : goal.loop-sighting-init
-loop-sighting-init g c = lines-none (ChartsSighting c.args.zone) _
+loop-sighting-init g c = lines-none (ChartsSighting c.args.shapes) _
 
 pub loop-sighting-preserved : goal.loop-sighting-preserved
 loop-sighting-preserved g c =
     rw (take_more c.args.sightings.now c.loop-sighting.sighting-index c.sighting-item.result c.loop-sighting-test.true, ← c.sighting-item.is)
-    (lines-more (ChartsSighting c.args.zone) _ c.sighting-item.result _ _ _ c.loop-sighting.invariant c.in_ok-write_arrow.ensures)
+    (lines-more (ChartsSighting c.args.shapes) _ c.sighting-item.result _ _ _ c.loop-sighting.invariant c.in_ok-write_arrow.ensures)

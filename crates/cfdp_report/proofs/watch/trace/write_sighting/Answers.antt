@@ -7,7 +7,7 @@ use Rattle.cfdp_report.proofs.watch.trace.write_sighting.Goals as goal
 pub returns : goal.returns
 returns g c =
     let s = c.args.sighting.now in
-    line_behind (TellsDeed c.args.zone s) (TellsSighting c.args.zone s) _ (sighting_front s) _ _ _
+    line_behind (TellsDeed c.args.shapes s) (TellsSighting c.args.shapes s) _ (sighting_front s) _ _ _
     (λ words tells. record { deed = words; tells = tells; whole = refl })
     (front_written s _ _ c.entity-station.result c.entity-station.ensures c.in_ok-write.ensures.bytes)
     c.write_deed.ensures
