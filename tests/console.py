@@ -2,6 +2,11 @@
 """The console of a station that runs: what it shows a web client, and what it lets that do.
 
     tests/console.py [PROGRAM]    all of it, by this program or by that which `rt ci` leaves
+    tests/console.py --tools      looks for a browser: status 0 where there is one
+    tests/console.py --picture FILE [PROGRAM]    draws the page of a station at work
+
+Its page is tried in a browser (`console_page.py`), Debian's chromium; where there is none that is
+said, and not tried. Where it lacks, --tools has it installed, if it may and can.
 """
 import contextlib
 import html.parser
@@ -9,7 +14,6 @@ import http.client
 import json
 import os
 import re
-import shutil
 import socket
 import subprocess
 import sys
@@ -18,6 +22,8 @@ import threading
 import time
 import types
 
+import browser
+import console_page
 import control
 import links
 from links import SLACK, Link, Relay
@@ -30,12 +36,27 @@ MOST_OPEN, MOST_OCTETS, PATIENCE = 16, 65536, 10
 
 TOKEN = "0123456789abcdef-token"
 
-# Browsers that can show a page without a screen.
-BROWSERS = ("chromium", "chromium-browser", "google-chrome", "google-chrome-stable")
-
 # The most by which frames may be late for a console, in seconds, and the share of them that counts:
 # the rest are late for what else runs on the machine.
 LATE, SHARE = 0.001, 0.95
+
+# A client that asks for all that there is, again and again, and tells how many answers it had.
+CLIENT = """
+import http.client, sys, time
+port, stop, is_kept = int(sys.argv[1]), time.monotonic() + float(sys.argv[2]), "one" in sys.argv[3]
+paths = ("/transactions", "/log", "/history", "/metrics", "/")
+it, count = None, 0
+while time.monotonic() < stop:
+    try:
+        it = it or http.client.HTTPConnection("127.0.0.1", port, timeout=15)
+        it.request("GET", paths[count % 5])
+        it.getresponse().read()
+        count += 1
+    except (OSError, http.client.HTTPException):
+        it = None
+    it = it if is_kept else None
+print(count)
+"""
 
 
 class Console:
@@ -460,83 +481,39 @@ def slow_mistakes(program):
 
 
 def late_mistakes(program):
-    """What is wrong with the times at which frames leave while 16 clients ask all that they can."""
-    shares = []
-    for is_asked in (False, True):
-        relay = Relay()
-        with Link(program, relay) as link:
-            link.puts(1, {"long": bytes(1_500_000)})
-            link.starts(2, ["--inbox", "to"], PATIENT)
-            words = ["--outbox", "from", "--put", "long", "long", "--rate", "1000"]
-            it = Console(link, 1, words, PATIENT)
-            time.sleep(1)
-            since = time.time()
-            asked = asks_much(it, 4) if is_asked else time.sleep(4)
-            times = [when for when, own, _ in list(relay.came) if own == 1 and when >= since]
-        if is_asked and asked < 100:
-            yield f"only {asked} answers in 4 seconds"
-        shares.append(lateness(times))
-    if shares[1] - shares[0] > LATE:
-        before, after = (f"{share * 1e3:.2f} ms" for share in shares)
-        yield f"frames are {after} apart where clients ask, and {before} else"
+    """What is wrong with the times at which frames leave a station while 16 clients ask its console
+    all that they can, beside those where they ask its peer's."""
+    for how in ("over new connections", "over one connection each"):
+        beside, own = (lateness(program, end, how) for end in (2, 1))
+        if own - beside > LATE:
+            yield (f"{how}: frames are {own * 1e3:.2f} ms apart, and {beside * 1e3:.2f} ms where "
+                   "the peer is asked")
 
 
-def asks_much(it, seconds):
-    """How many answers 16 clients are given that ask for all that there is, again and again."""
-    stop, counts = time.monotonic() + seconds, []
-    paths = ("/transactions", "/log", "/history", "/metrics", "/")
-
-    def asks():
-        count = 0
-        while time.monotonic() < stop:
-            with contextlib.suppress(OSError, http.client.HTTPException):
-                it.asks("GET", paths[count % len(paths)])
-                count += 1
-        counts.append(count)
-
-    threads = [threading.Thread(target=asks) for _ in range(MOST_OPEN)]
-    for one in threads:
-        one.start()
-    for one in threads:
-        one.join()
-    return sum(counts)
-
-
-def lateness(times):
-    """How far apart frames are, at most, but for the few that are late for another cause."""
+def lateness(program, end, how):
+    """How far apart frames of station 1 are, at most, but for the few that are late for another
+    cause, while clients ask the console of the station at this end."""
+    relay = Relay()
+    with Link(program, relay) as link:
+        link.puts(1, {"long": bytes(1_500_000)})
+        words = {1: ["--outbox", "from", "--put", "long", "long", "--rate", "1000"],
+                 2: ["--inbox", "to"]}
+        ports = {own: Console(link, own, words[own], PATIENT).port for own in (2, 1)}
+        call = [sys.executable, "-c", CLIENT, str(ports[end]), "5", how]
+        clients = [subprocess.Popen(call, stdout=subprocess.PIPE) for _ in range(MOST_OPEN)]
+        time.sleep(1)
+        since = time.time()
+        answers = sum(int(it.communicate()[0]) for it in clients)
+        times = [when for when, own, _ in list(relay.came) if own == 1 and when >= since]
+    if answers < 100 or len(times) < 2000:
+        raise OSError(f"{answers} answers, and {len(times)} frames")
     gaps = sorted(after - before for before, after in zip(times, times[1:]))
-    return gaps[int(len(gaps) * SHARE)] if gaps else 0.0
-
-
-# ---- in a browser
-
-
-def browser_mistakes(program):
-    """What is wrong with the page in a browser, where there is one."""
-    found = [path for path in map(shutil.which, BROWSERS) if path]
-    if not found:
-        print("skipped: the page of the console in a browser, as no Chromium is here", flush=True)
-        return
-    with Link(program) as link:
-        link.puts(2, {"markup": b"x"})
-        it = Console(link, 2, ["--inbox", "to", "--outbox", "from"])
-        it.does("/puts", {"source": "markup", "destination": "<b>x</b>"})
-        with tempfile.TemporaryDirectory() as room:
-            words = [found[0], "--headless", "--no-sandbox", "--disable-gpu", "--dump-dom",
-                     f"--user-data-dir={room}", "--virtual-time-budget=4000",
-                     f"http://127.0.0.1:{it.port}/"]
-            ran = subprocess.run(words, capture_output=True, timeout=60, check=False)
-        text = ran.stdout.decode()
-    for wanted in ("Station 2 \u2192 peer 1", "link up"):
-        if wanted not in text:
-            yield f"the page doesn't say {wanted!r}: {text[-2000:]} {ran.stderr.decode()[-500:]}"
-    if "<b>x" in text:
-        yield "a name is markup in the page"
+    return gaps[int(len(gaps) * SHARE)]
 
 
 def lone_mistakes(program):
     """What is tried with nothing beside it, since it tells times."""
-    yield "frames of a station that 16 clients ask", late_mistakes(program)
+    yield "the console: frames of a station that 16 clients ask", late_mistakes(program)
 
 
 def all_mistakes(program):
@@ -547,21 +524,28 @@ def all_mistakes(program):
     yield "the console: what is no request", request_mistakes(program)
     yield "the console: connections that are kept", kept_mistakes(program)
     yield "the console: slow clients and a seventeenth", slow_mistakes(program)
-    yield "the console: its page in a browser", browser_mistakes(program)
+    yield from console_page.all_mistakes(program, Console)
 
 
 def main(words):
+    if words[:1] == ["--tools"]:
+        return 0 if browser.look_for_browser() else 1
+    drawn = words[1] if words[:1] == ["--picture"] else None
+    words = words[2:] if drawn else words
     path = os.path.abspath(words[0] if words else f"{TOP}/crates/cfdp_node/out/cfdp_node")
     failed = 0
     with tempfile.TemporaryDirectory() as room:
         program = types.SimpleNamespace(path=path, room=room)
+        if drawn:
+            console_page.picture(program, Console, drawn)
+            return 0
         for tried in (lone_mistakes, all_mistakes):
             for what, wrong in tried(program):
                 found = list(wrong)
                 failed += bool(found)
-                print(f"{'failed' if found else 'passed'}: {what}")
+                print(f"{'failed' if found else 'passed'}: {what}", flush=True)
                 for it in found:
-                    print(f"    {it}")
+                    print(f"    {it}", flush=True)
     return 1 if failed else 0
 
 

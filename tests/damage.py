@@ -75,7 +75,7 @@ def damage_mistakes(program, rate, zone, count):
             status, out, err = it.ended()
             if status or not out.endswith(f"complete {count} of {count}\n"):
                 yield f"station {it.own}: status {status}, {out[-300:]!r}, {err[-300:]!r}"
-            if "dropped: a frame was damaged on the way" not in err:
+            if "dropped: the frame was damaged on the way" not in err:
                 yield f"station {it.own} tells of no damage, but {err[-300:]!r}"
         for own in (1, 2):
             if stations.files_at(link.folder, own) != files[3 - own]:
@@ -87,14 +87,27 @@ def damage_mistakes(program, rate, zone, count):
 
 
 def misfit_mistakes(program):
-    """What is wrong where only one end has error control: nothing that comes is taken."""
+    """What is wrong where only one end has error control: nothing that comes is taken, and both
+    ends say so."""
+    length = "a frame has 264 octets, and here 266, as the zone is 256 and fields take 2"
+    differs = ("the error control {} the peer is 0 at the peer, and 1 here",
+               "the error control {} the peer is 1 at the peer, and 0 here")
+    yield from untaken_mistakes(program, (0, 0, 0), (0, 0, 1), length, differs)
+    # Frames of one length: the last two octets of the zone aren't its check.
+    yield from untaken_mistakes(program, (2, 0, 0), (0, 0, 1), "the frame was damaged", ())
+
+
+def untaken_mistakes(program, sent, taken, why, differs):
+    """What is wrong where station 1 sends frames with other fields than station 2 takes."""
+    none = (0, 0, 0)
     with links.Link(program, links.Relay()) as link:
-        plain = {1: (0, 0, 0), 2: (0, 0, 0)}
-        fields = {1: (0, 0, 1), 2: (0, 0, 0)}
-        receiver = link.starts(2, ["--inbox", "to"], settings_of(2, fields))
-        link.starts(1, link.puts(1, {"a": b"hello"}), settings_of(1, plain))
+        sets = {1: settings_of(1, {1: sent, 2: none}), 2: settings_of(2, {1: taken, 2: none})}
+        receiver = link.starts(2, ["--inbox", "to"], {**sets[2], "zone": 256})
+        sender = link.starts(1, link.puts(1, {"a": b"hello"}), {**sets[1], "zone": 256})
         since = time.time()
-        yield from links.note_mistakes(receiver, r"\d+ dropped: a frame was damaged", since, 5)
+        yield from links.note_mistakes(receiver, rf"\d+ dropped: {why}", since, 5)
+        for it, way, told in zip((receiver, sender), ("from", "to"), differs):
+            yield from links.note_mistakes(it, told.format(way), since, 10)
         if stations.files_at(link.folder, 2):
             yield "a file came"
 

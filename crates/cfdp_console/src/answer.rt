@@ -5,7 +5,9 @@ ghost use Rattle.serde_json.specs.Read.{max_depth, read};
 ghost use Rattle.serde_json.specs.View.{view};
 
 use crate::denial::Denial;
-use crate::documents::{history_value, log_value, open_value, status_value, transactions_value};
+use crate::documents::{
+    closed_value, history_value, id_text, log_value, open_value, status_value, transactions_value,
+};
 use crate::look::Look;
 use crate::metrics::write_metrics;
 use crate::page::{PAGE, POLICY};
@@ -140,11 +142,21 @@ fn token(alloc: Global, shown: Shown<'_>) -> Result<Answer, AllocError> {
     }
 }
 
-/// One transaction that is open.
+/// One transaction that is open, or one of the last that were closed.
 fn transaction(alloc: Global, id: &[u8], shown: Shown<'_>) -> Result<Answer, AllocError> {
     for open in shown.open {
         if open.id.as_bytes() == id {
             return json_answer(alloc, StatusCode::OK, &open_value(alloc, open)?);
+        }
+    }
+    closed_transaction(alloc, id, shown)
+}
+
+/// One of the last transactions that were closed.
+fn closed_transaction(alloc: Global, id: &[u8], shown: Shown<'_>) -> Result<Answer, AllocError> {
+    for closed in shown.ledger.closed().iter() {
+        if id_text(alloc, closed.id)?.as_bytes() == id {
+            return json_answer(alloc, StatusCode::OK, &closed_value(alloc, closed)?);
         }
     }
     Answer::denied(alloc, Denial::NotFound)

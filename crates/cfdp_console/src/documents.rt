@@ -8,6 +8,7 @@ use crate::ledger::{Closed, Way};
 use crate::log_lines::LogLine;
 use crate::samples::Samples;
 use crate::shown::{Counters, Dropped, LinkStatus, Open, Shown, Status};
+use cfdp_header::TransactionId;
 use serde_json::{Value, json};
 use std::alloc::{AllocError, Global};
 
@@ -81,10 +82,14 @@ pub fn open_value(alloc: Global, it: &Open) -> Result<Value, AllocError>
 pub fn link_value(alloc: Global, link: &LinkStatus) -> Result<Value, AllocError>
     ensures { IfOk result (λ it. view it ≡ link_data link.now) }
 {
-    let silent = number(link.silent);
+    let (silent, control) = (
+        number(link.silent),
+        number(link.control_field.map(u64::from)),
+    );
     let state = if link.is_frozen { "frozen" } else { "up" };
     json!(in alloc; {
         "carrier": link.carrier,
+        "control_field": control,
         "missing": link.frames.missing,
         "received": link.frames.received,
         "sent": link.frames.sent,
@@ -150,7 +155,7 @@ pub fn closed_value(alloc: Global, closed: &Closed) -> Result<Value, AllocError>
     };
     let (source, destination) = (str_value(alloc, source)?, str_value(alloc, destination)?);
     let size = number(known.size);
-    let id = format!(in alloc; "{}:{}", closed.id.source, closed.id.number)?;
+    let id = id_text(alloc, closed.id)?;
     json!(in alloc; {
         "complete": closed.is_complete,
         "destination": destination,
@@ -162,6 +167,15 @@ pub fn closed_value(alloc: Global, closed: &Closed) -> Result<Value, AllocError>
         "way": way_word(known.way),
         "why": closed.why,
     })
+}
+
+/// The two numbers of a transaction, as in `1:7`.
+///
+/// # Errors
+///
+/// `AllocError` where there is no memory for it.
+pub fn id_text(alloc: Global, id: TransactionId) -> Result<String, AllocError> {
+    format!(in alloc; "{}:{}", id.source, id.number)
 }
 
 /// A text, or null where it isn't known.

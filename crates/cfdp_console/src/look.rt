@@ -15,7 +15,7 @@ pub enum Look {
     /// The open transactions, and some that were closed, `/transactions?after=N`: these from the
     /// next one behind number N on.
     Transactions(u64),
-    /// A transaction, `/transactions/ID`.
+    /// A transaction that is open or is one of the last closed ones, `/transactions/ID`.
     Transaction(Vec<u8>),
     /// Some lines of the log, `/log?after=N`: from the next one behind number N on.
     Log(u64),

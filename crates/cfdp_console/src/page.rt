@@ -3,8 +3,8 @@
 /// What the page may do, as `Content-Security-Policy`: its own style and script run, by their
 /// checksums (SHA-256 of what stands between their tags), and it asks nobody but the console.
 pub const POLICY: &str = "default-src 'none'; connect-src 'self'; img-src data:; \
-    style-src 'sha256-dCZun2PjeXbzz5zZhlfkNUDNf9TcQwHaqJk9NifswJg='; \
-    script-src 'sha256-5purwbC1LpD+ahFz6guairgRpnuY02fMx+txozyL6ks='; \
+    style-src 'sha256-ciEet665SB6eacwrvNPd1VaughUFKYuos5DUVB1DfVI='; \
+    script-src 'sha256-/9mRKaYzkEA1UzADlOPnOzwzRmCjxoui0buLW5ugkR8='; \
     base-uri 'none'; form-action 'none'; frame-ancestors 'none'";
 
 /// The page, in HTML.
@@ -94,13 +94,14 @@ input[type="text"], input[type="password"], input[type="search"] {
   background: var(--back); border: 1px solid var(--dim); border-radius: 7px;
   min-height: 2.1rem; padding: 0.2rem 0.6rem; width: 100%; min-width: 0;
 }
-.figures { display: grid; grid-template-columns: repeat(4, minmax(0, 1fr)); gap: 1px;
+.figures { display: grid; grid-template-columns: repeat(5, minmax(0, 1fr)); gap: 1px;
   background: var(--line); border-top: 1px solid var(--line); border-radius: 0 0 10px 10px;
   overflow: hidden; }
-.figures > div { background: var(--card); padding: 0.55rem 1rem 0.65rem; }
+.figures > div { background: var(--card); padding: 0.55rem 0.9rem 0.65rem; }
 .figures dt { color: var(--dim); font-size: 0.82rem; }
 .figures dd { font-size: 1.3rem; font-weight: 600; font-variant-numeric: tabular-nums; }
 .figures dd.bad { color: var(--red); }
+.figures dd.rate { color: var(--dim); font-size: 0.82rem; font-weight: 400; }
 figure { padding: 0 1rem 0.6rem; }
 canvas { display: block; width: 100%; height: 11.5rem; }
 figcaption { display: flex; flex-wrap: wrap; gap: 0.2rem 1.1rem; font-size: 0.86rem;
@@ -162,8 +163,13 @@ td.time { white-space: nowrap; font-variant-numeric: tabular-nums; }
   th, td { padding: 0.32rem 0.7rem; }
   .acts { margin-left: 0; width: 100%; }
   .acts button { flex: 1; min-height: 2.4rem; }
-  td.why, th.why, td.many, th.many { display: none; }
+  .many { display: none; }
   .figures { grid-template-columns: repeat(2, minmax(0, 1fr)); }
+  #closed-box thead { position: absolute; left: -9999px; }
+  #closed-box tr { display: flex; flex-wrap: wrap; gap: 0 0.8rem; padding: 0.4rem 0.9rem;
+    border-bottom: 1px solid var(--line); }
+  #closed-box td { border: 0; padding: 0; }
+  #closed-box td.file { flex: 1 0 100%; order: -1; font-weight: 600; }
   .bar { flex-wrap: wrap; gap: 0.15rem 0.7rem; }
   progress { flex: 1 0 100%; }
   .size { flex: 1; }
@@ -202,14 +208,16 @@ td.time { white-space: nowrap; font-variant-numeric: tabular-nums; }
       </figcaption>
     </figure>
     <dl class="figures">
-      <div><dt>sent</dt><dd id="f-sent">-</dd></div>
-      <div><dt>received</dt><dd id="f-came">-</dd></div>
-      <div><dt>lost on the way</dt><dd id="f-lost">-</dd></div>
+      <div><dt>sent</dt><dd id="f-sent">-</dd><dd id="r-sent" class="rate"></dd></div>
+      <div><dt>received</dt><dd id="f-came">-</dd><dd id="r-came" class="rate"></dd></div>
+      <div><dt>lost on the way</dt><dd id="f-lost">-</dd><dd id="r-lost" class="rate"></dd></div>
       <div><dt>dropped here</dt><dd id="f-dropped">-</dd></div>
-      <div><dt>PDUs sent again</dt><dd id="f-again">-</dd></div>
+      <div><dt>file data sent again</dt><dd id="f-again">-</dd></div>
       <div><dt>files sent</dt><dd id="f-files-sent">-</dd></div>
       <div><dt>files received</dt><dd id="f-files-came">-</dd></div>
       <div><dt>files failed</dt><dd id="f-failed">-</dd></div>
+      <div><dt>puts refused</dt><dd id="f-refused">-</dd></div>
+      <div><dt>control field</dt><dd id="f-control">-</dd></div>
     </dl>
   </section>
   <section aria-labelledby="put-title">
@@ -268,8 +276,11 @@ td.time { white-space: nowrap; font-variant-numeric: tabular-nums; }
 // Names and lines of the log come from outside: they are put in as text, and never as markup.
 const at = (id) => document.getElementById(id);
 const SPAN = 600, CLOSED = 200, LINES = 1000;
+// What in a line tells of a fault, an incomplete file or a put that was refused.
+const BAD = new RegExp("(^| )(fault|abandoned|incomplete|failed:|change|line [0-9]+) "
+  + '|"event":"(fault|abandoned|put|change)"|:"(failed|incomplete)"');
 let token = null, status = null, before = null, samples = [], shownClosed = 0, shownLine = 0;
-let isAsking = false, drawn = 0, quiet = 0;
+let isAsking = false, isRenewing = false, isWanted = false, quiet = 0;
 
 function made(tag, text, className) {
   const it = document.createElement(tag);
@@ -288,14 +299,26 @@ function says(text) {
 }
 function clock(time) { return time ? new Date(time).toISOString().slice(11, 19) : "-"; }
 
-async function asks(path, method, body) {
+async function sends(path, method, body) {
   const headers = {};
   if (token) headers.authorization = "Bearer " + token;
   if (body) headers["content-type"] = "application/json";
-  const answer = await fetch(path, { method: method || "GET", headers, cache: "no-store",
+  return fetch(path, { method: method || "GET", headers, cache: "no-store",
     body: body && JSON.stringify(body), signal: AbortSignal.timeout(8000) });
-  if (answer.status === 401) shows_token(true);
+}
+async function asks(path, method, body) {
+  const answer = await sends(path, method, body);
+  if (answer.status !== 401) return answer;
+  // A station that was started anew tells its page another token, or its user has to show one.
+  if (await takes_token()) return sends(path, method, body);
+  shows_token(true);
   return answer;
+}
+async function takes_token() {
+  const answer = await fetch("/token", { cache: "no-store" });
+  if (!answer.ok) return false;
+  token = (await answer.json()).token;
+  return true;
 }
 async function does(path, what, body) {
   try {
@@ -330,14 +353,28 @@ function shows_status() {
   const counters = status.counters;
   const figures = { "f-sent": link.sent, "f-came": link.received, "f-lost": link.missing,
     "f-again": counters.file_data_sent_again, "f-files-sent": counters.files_sent,
-    "f-files-came": counters.files_received, "f-failed": counters.files_failed };
+    "f-files-came": counters.files_received, "f-failed": counters.files_failed,
+    "f-refused": counters.puts_refused };
   for (const [id, number] of Object.entries(figures)) writes(at(id), grouped(number));
   let dropped = 0;
   for (const it of status.dropped) dropped += it.count;
   writes(at("f-dropped"), grouped(dropped));
   at("f-lost").className = link.missing ? "bad" : "";
   at("f-failed").className = counters.files_failed ? "bad" : "";
+  at("f-refused").className = counters.puts_refused ? "bad" : "";
+  writes(at("f-control"), link.control_field === null ? "none"
+    : link.control_field.toString(16).toUpperCase().padStart(8, "0"));
+  shows_rates();
   shows_drops();
+}
+function shows_rates() {
+  const last = samples[samples.length - 1] || { sent: 0, came: 0, lost: 0 };
+  for (const what of ["sent", "came", "lost"]) {
+    writes(at("r-" + what), grouped(Math.round(last[what])) + " a second");
+  }
+  at("plot").setAttribute("aria-label", "Frames a second in the last ten minutes; now "
+    + Math.round(last.sent) + " sent, " + Math.round(last.came) + " received, "
+    + Math.round(last.lost) + " lost");
 }
 function shows_drops() {
   const body = at("drops").tBodies[0], all = status.dropped;
@@ -365,12 +402,18 @@ function notes_sample() {
     }
     while (samples.length > SPAN) samples.shift();
   }
-  if (before && now < before.seconds) { samples = []; starts_anew(); }
   if (!before || now !== before.seconds) before = status;
 }
-function starts_anew() {
+// Whether another run of the station answers than before: it began at another time.
+function is_anew() {
+  const began = (it) => it.time - it.seconds * 1000;
+  return before !== null && (status.seconds < before.seconds
+    || Math.abs(began(status) - began(before)) > 5000);
+}
+async function starts_anew() {
   shownClosed = 0; shownLine = 0; before = null;
   at("closed").replaceChildren(); at("lines").replaceChildren();
+  await takes_history();
 }
 function draws() {
   const canvas = at("plot"), scale = window.devicePixelRatio || 1;
@@ -459,8 +502,9 @@ function shows_open(all) {
   for (const row of rows.values()) row.remove();
   list.hidden = all.length === 0;
   at("no-open").hidden = all.length > 0;
-  writes(at("open-count"), status ? grouped(status.open) + " open, " + grouped(status.waiting)
-    + " files wait" : "");
+  const shown = all.length < status.open ? ", of which " + all.length + " are shown" : "";
+  writes(at("open-count"), grouped(status.open) + " open" + shown + "; "
+    + grouped(status.waiting) + " more files wait");
 }
 function fills_row(row, it) {
   const to = it.destination && it.destination !== it.source ? " \u2192 " + it.destination : "";
@@ -512,7 +556,7 @@ function adds_lines(all) {
   for (const it of all) {
     if (it.number <= shownLine) continue;
     shownLine = it.number;
-    const is_bad = / fault | abandoned | failed|incomplete/.test(it.text);
+    const is_bad = BAD.test(it.text);
     const line = made("li", it.text, is_bad ? "bad" : "");
     line.hidden = !fits(it.text);
     list.append(line);
@@ -523,11 +567,19 @@ function adds_lines(all) {
 
 // ---- each second
 async function renews() {
+  isWanted = true;
+  if (isRenewing) return;
+  isRenewing = true;
+  while (isWanted) { isWanted = false; await takes_all(); }
+  isRenewing = false;
+}
+async function takes_all() {
   try {
     const answer = await asks("/status");
     if (!answer.ok) throw new Error("status " + answer.status);
     status = await answer.json();
     shows_token(false);
+    if (is_anew()) await starts_anew();
     notes_sample();
     shows_status();
     const both = await Promise.all([asks("/transactions?after=" + shownClosed),
@@ -545,12 +597,11 @@ async function renews() {
   draws();
 }
 async function begins() {
-  try {
-    const own = await fetch("/token", { cache: "no-store" });
-    if (own.ok) token = (await own.json()).token;
-  } catch (error) { says("The station doesn't answer: " + error.message); }
+  try { await takes_token(); }
+  catch (error) { says("The station doesn't answer: " + error.message); }
   await takes_history();
   await renews();
+  setInterval(renews, 1000);
 }
 async function takes_history() {
   try {
@@ -590,8 +641,15 @@ at("form").addEventListener("click", () => {
   const root = document.documentElement, dark = matchMedia("(prefers-color-scheme: dark)").matches;
   const is_dark = root.dataset.form ? root.dataset.form === "dark" : dark;
   root.dataset.form = is_dark ? "light" : "dark";
+  try { localStorage.setItem("form", root.dataset.form); } catch { /* it isn't kept then */ }
   draws();
 });
+function takes_form() {
+  try {
+    const kept = localStorage.getItem("form");
+    if (kept === "light" || kept === "dark") document.documentElement.dataset.form = kept;
+  } catch { /* none is kept */ }
+}
 at("filter").addEventListener("input", () => {
   for (const line of at("lines").children) line.hidden = !fits(line.textContent);
 });
@@ -605,8 +663,8 @@ document.addEventListener("keydown", (event) => {
   if (doings[event.key]) { event.preventDefault(); doings[event.key](); }
 });
 addEventListener("resize", draws);
+takes_form();
 begins();
-setInterval(renews, 1000);
 </script>
 </body>
 </html>

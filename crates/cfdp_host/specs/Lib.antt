@@ -3,4 +3,3 @@ pub mod Lines
 pub mod Journal
 pub mod Carrier
 pub mod CarrierWire
-pub mod SealedWire

@@ -8,7 +8,7 @@ use cfdp_directives::{Condition, Delivery, FileStatus, Indication};
 use cfdp_header::TransactionId;
 use cfdp_report::Name;
 use cfdp_service::PutNames;
-use cfdp_station::{EntityDrop, LinkDrop, Station};
+use cfdp_station::{EntityDrop, Lane, LinkDrop, Station};
 use cfdp_store::{Inbox, Outbox};
 use jiff::Timestamp;
 use std::alloc::{AllocError, Global};
@@ -163,7 +163,7 @@ impl<'a> Board<'a> {
             peer: setup.peer,
             time: unix_time(setup.rt),
             seconds: moment.now / SECOND,
-            link: self.link(moment)?,
+            link: self.link(station, moment)?,
             open: open_count(station),
             waiting: moment.waiting as u64,
             timeout: timeout.map(|deadline| deadline.saturating_sub(moment.told)),
@@ -173,7 +173,11 @@ impl<'a> Board<'a> {
     }
 
     /// The link now.
-    fn link(&self, moment: Moment) -> Result<LinkStatus, AllocError> {
+    fn link<O: Outbox, I: Inbox>(
+        &self,
+        station: &Station<O, I>,
+        moment: Moment,
+    ) -> Result<LinkStatus, AllocError> {
         let setup = self.setup;
         let second = moment.now / SECOND;
         Ok(LinkStatus {
@@ -183,7 +187,17 @@ impl<'a> Board<'a> {
             silent: self.came_second.map(|came| second.saturating_sub(came)),
             frames: self.frames(),
             thrown_away: setup.gaps.thrown_away(),
+            control_field: control_field(station),
         })
+    }
+}
+
+/// The operational control field of the last frame of directives that came, or of the last one of
+/// file data where none of those did.
+fn control_field<O: Outbox, I: Inbox>(station: &Station<O, I>) -> Option<u32> {
+    match station.control_field(Lane::Directives) {
+        Some(control) => Some(control),
+        None => station.control_field(Lane::Data),
     }
 }
 

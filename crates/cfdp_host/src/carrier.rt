@@ -4,19 +4,16 @@
 //! between the station's port and the wire of datagrams: of the frames that leave it takes the PDUs,
 //! and each of them leaves in a datagram of its own; of the datagrams that come it makes the frames
 //! in which the peer's PDUs would have come. So the station, and all that is proved of it, stay as
-//! they are. Where frames have an insert zone, an operational control field or error control, a
-//! [`SealedWire`] lies there.
+//! they are.
 ghost use Rattle.std.specs.Prelude.{◌≡◌};
 ghost use Rattle.cfdp_host.specs.CarrierWire.{pdu_carrier};
 
 pub mod datagram;
 pub mod drops;
-pub mod sealed;
 pub mod wire;
 
 pub use datagram::{PacketForm, PduCarrier};
 pub use drops::{CarrierDrop, CarrierTally};
-pub use sealed::{LinkFields, SealedWire};
 pub use wire::CarrierWire;
 
 /// What a datagram is.

@@ -130,8 +130,8 @@ impl<'a> LineSources<'a> {
         self.door.as_ref()
     }
 
-    /// What the console is asked next, and by whom: it is to be answered. After one it is `None`
-    /// once, so that whoever asks does something else between.
+    /// What the console is asked next, and by whom: it is to be answered. Behind one it is `None`
+    /// for two milliseconds, so that whoever asks does something else between.
     pub fn next_ask(&mut self) -> Option<(Speaker, Ask)> {
         let now = self.now();
         let (number, ask) = self.door.as_mut()?.next_ask(now)?;

@@ -6,14 +6,15 @@ use std::os::fd::RawFd;
 const PLACES: usize = 32;
 
 /// The descriptors of which something may come while one waits for something else, and whether
-/// something lies there already. No one of them stays ready: what they have is taken, or they are
-/// left out.
+/// something lies there already, or is looked for again soon. No one of them stays ready: what they
+/// have is taken, or they are left out.
 #[derive(Clone, Copy)]
 pub struct Watched {
     // The first place is for the descriptor of whoever waits.
     places: [pollfd; 32],
     count: usize,
     is_due: bool,
+    is_soon: bool,
 }
 
 /// A place with no descriptor, at which the system doesn't look.
@@ -30,6 +31,7 @@ impl Watched {
             places: [FREE; 32],
             count: 1,
             is_due: false,
+            is_soon: false,
         }
     }
 
@@ -53,6 +55,17 @@ impl Watched {
     /// Notes whether something lies there already.
     pub fn set_due(&mut self, is_due: bool) {
         self.is_due = is_due;
+    }
+
+    /// Something is left out that is to be looked at again within a millisecond or two, so that
+    /// nobody is to wait longer.
+    pub fn is_soon(&self) -> bool {
+        self.is_soon
+    }
+
+    /// Notes that something is to be looked at again soon.
+    pub fn set_soon(&mut self) {
+        self.is_soon = true;
     }
 
     /// What `poll` is asked by one who waits for these events of this descriptor, which stands in

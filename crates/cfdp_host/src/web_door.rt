@@ -19,6 +19,11 @@ use std::{fmt, io};
 /// For so many milliseconds no connection is taken after the system refused one.
 const AFTER_FAILURE: u64 = 1_000;
 
+/// For so many milliseconds nothing more is done for the console behind something that was done. So
+/// those who ask without a pause take a small part of the processor's time alone, and the system
+/// doesn't let the station wait for its turn.
+const PAUSE: u64 = 2;
+
 /// After so many milliseconds it is looked which connections are too slow, also where nothing came.
 const BETWEEN_LOOKS: u64 = 100;
 
@@ -94,8 +99,8 @@ pub struct WebDoor<'a> {
     visitors: Visitors<WebSocket>,
     deaf_until: u64,
     looked_at: u64,
-    // Whether something was asked since it was last found that nothing is.
-    has_asked: bool,
+    // Until when nothing more is done.
+    rests_until: u64,
 }
 
 impl<'a> WebDoor<'a> {
@@ -129,7 +134,7 @@ impl<'a> WebDoor<'a> {
             visitors: Visitors::new(rt.alloc()),
             deaf_until: 0,
             looked_at: 0,
-            has_asked: false,
+            rests_until: 0,
         })
     }
 
@@ -146,20 +151,19 @@ impl<'a> WebDoor<'a> {
         }
     }
 
-    /// What a connection asks, and the number of that, which is to be answered. After one it is
-    /// `None` once, so that whoever asks does something else between.
+    /// What a connection asks, and the number of that, which is to be answered. Behind a call that
+    /// did something it is `None` for two milliseconds, so that whoever asks does something else
+    /// between.
     pub fn next_ask(&mut self, now: u64) -> Option<(u64, Ask)>
         ensures { IfSome result (λ asked. MayBeAsked self.old.guard asked.1) }
     {
-        if self.has_asked || !self.is_stirred(now) {
-            self.has_asked = false;
+        if now < self.rests_until || !self.is_stirred(now) {
             return None;
         }
         self.looked_at = now;
+        self.rests_until = now.saturating_add(PAUSE);
         self.accepts(now);
-        let asked = self.visitors.next_ask(&self.guard, now);
-        self.has_asked = asked.is_some();
-        asked
+        self.visitors.next_ask(&self.guard, now)
     }
 
     /// Answers a command that was asked: that it was done, or why it wasn't.
@@ -175,6 +179,10 @@ impl<'a> WebDoor<'a> {
 
     /// Adds what a wait is to look at, so that it ends once something may have come.
     pub fn watches(&self, watched: &mut Watched, now: u64) {
+        if now < self.rests_until {
+            watched.set_soon();
+            return;
+        }
         if self.hears(now) {
             watched.watch(self.listener.as_raw_fd(), POLLIN);
         }

@@ -23,7 +23,7 @@ use crate::station::request::{CarrierKind, StationNumbers, StationRequest, TimeU
 use crate::station::setup::{StationSetup, key_hint};
 use crate::station::state_file::{Reservation, StateError};
 use crate::wire::peer_socket::{Pace, PeerSocket, Unit, Unusable};
-use cfdp_host::carrier::{Carrier, LinkFields};
+use cfdp_host::carrier::Carrier;
 use cfdp_host::{
     FolderSpool, HeldFolder, LineSources, StandardErrorTeller, address_cause, try_folder,
 };
@@ -76,7 +76,7 @@ fn started_status(rt: &HostRuntime, request: &StationRequest) -> Result<u8, u8> 
     let sources = sources(rt, request)?;
     check_addresses(rt, request)?;
     let setup = set_up(rt, request)?;
-    let fields = link_fields(rt, request, &setup)?;
+    check_fields(rt, request, &setup)?;
     let Prepared {
         config,
         carrier,
@@ -88,15 +88,13 @@ fn started_status(rt: &HostRuntime, request: &StationRequest) -> Result<u8, u8> 
     exchange.numbers_left.set(reservation.numbers_left());
     let frame_count = reservation.frame_count();
     let own = WorldConfig::station(config, side_of(request)).get();
-    let extra = (fields.sends.get().extra(), fields.receives.get().extra());
-    let pace = pace_of(request, &own, carrier, extra);
+    let pace = pace_of(request, &own, carrier);
     let parts = StationParts {
         socket: socket(rt, request, pace, reservation, &exchange)?,
         frame_count,
         sources,
         config,
         carrier,
-        fields,
     };
     Ok(ran_status(rt, request, parts, spool, &exchange))
 }
@@ -231,31 +229,23 @@ fn configuration(
     }
 }
 
-/// Which fields the frames of both directions have.
+/// Looks whether frames leave, where fields of frames are set.
 ///
 /// # Errors
 ///
-/// The exit status, where they can't have these, or no frames leave, which was told on standard
-/// error.
-fn link_fields(
+/// The exit status, where none do, which was told on standard error.
+fn check_fields(
     rt: &HostRuntime,
     request: &StationRequest,
     setup: &StationSetup,
-) -> Result<LinkFields, u8> {
-    let StationNumbers { id, peer, .. } = request.numbers;
-    let Some(fields) = setup.fields() else {
-        tell_bad(rt, setup, id, peer);
-        return Err(MISTAKE);
-    };
-    let (sends, receives) = (fields.sends.get(), fields.receives.get());
-    if (sends.extra() > 0 || receives.extra() > 0) && request.carrier != CarrierKind::Frames {
-        let _ = eprintln!(rt;
-            "error: an insert zone, a control field and error control are of frames: --carrier \
-             frames"
-        );
-        return Err(MISTAKE);
+) -> Result<(), u8> {
+    if setup.has_bare_frames() || request.carrier == CarrierKind::Frames {
+        return Ok(());
     }
-    Ok(fields)
+    let _ = eprintln!(rt;
+        "error: an insert zone, a control field and error control are of frames: --carrier frames"
+    );
+    Err(MISTAKE)
 }
 
 /// Says why a station can't be set up so.
@@ -477,21 +467,13 @@ fn check_files(rt: &HostRuntime, path: &str, words: &[String]) -> Result<(), u8>
     Ok(())
 }
 
-/// How a station that is set up so uses its socket, and what a datagram is, given by how many octets
-/// the frames that leave and those that come are longer than bare ones.
-fn pace_of(
-    request: &StationRequest,
-    config: &StationConfig,
-    carrier: Carrier,
-    extra: (usize, usize),
-) -> Pace {
-    let (sends_extra, receives_extra) = extra;
+/// How a station that is set up so uses its socket, and what a datagram is.
+fn pace_of(request: &StationRequest, config: &StationConfig, carrier: Carrier) -> Pace {
     Pace {
         rate: request.numbers.rate,
         idle: request.numbers.idle,
+        sends: config.sends,
         receives: config.receives,
-        sends_extra,
-        receives_extra,
         carrier,
         beacon: Beacon::of(config),
         unit: unit_of(request),

@@ -29,17 +29,11 @@ pub enum CarrierDrop {
     /// The PDU is longer than any packet that the station's link has room for.
     #[error("a PDU is too long")]
     NoRoom,
-    /// The frame is too short for a header and its fields.
-    #[error("a frame is too short for its fields")]
-    ShortFrame,
-    /// The frame's check differs from its frame error control field.
-    #[error("a frame was damaged on the way")]
-    Damaged,
 }
 
 impl CarrierDrop {
     /// All causes.
-    pub const ALL: [CarrierDrop; 10] = [
+    pub const ALL: [CarrierDrop; 8] = [
         CarrierDrop::Empty,
         CarrierDrop::Short,
         CarrierDrop::Long,
@@ -48,8 +42,6 @@ impl CarrierDrop {
         CarrierDrop::Segmented,
         CarrierDrop::SecondaryHeader,
         CarrierDrop::NoRoom,
-        CarrierDrop::ShortFrame,
-        CarrierDrop::Damaged,
     ];
 
     /// The name of the cause, in one word.
@@ -63,8 +55,6 @@ impl CarrierDrop {
             CarrierDrop::Segmented => "Segmented",
             CarrierDrop::SecondaryHeader => "SecondaryHeader",
             CarrierDrop::NoRoom => "NoRoom",
-            CarrierDrop::ShortFrame => "ShortFrame",
-            CarrierDrop::Damaged => "Damaged",
         }
     }
 }
@@ -74,7 +64,7 @@ impl CarrierDrop {
 #[derive(Drop)]
 pub struct CarrierTally {
     // in the order of `CarrierDrop::ALL`
-    counts: [Cell<u64>; 10],
+    counts: [Cell<u64>; 8],
 }
 
 impl CarrierTally {
@@ -82,8 +72,6 @@ impl CarrierTally {
     pub fn new() -> CarrierTally {
         CarrierTally {
             counts: [
-                Cell::new(0),
-                Cell::new(0),
                 Cell::new(0),
                 Cell::new(0),
                 Cell::new(0),

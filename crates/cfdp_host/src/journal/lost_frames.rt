@@ -6,8 +6,8 @@ use std::cell::Cell;
 const LATE: u32 = 8_388_608;
 
 /// How many datagrams left a station and came to it; how often frames were missing between those
-/// that came, and how many; how many were damaged; and how many datagrams were thrown away: shared
-/// by who counts them and who tells it.
+/// that came, and how many; and how many datagrams were thrown away: shared by who counts them and
+/// who tells it.
 /// Each count stays at the greatest `u64`.
 #[derive(Drop)]
 pub struct FrameGaps {
@@ -15,7 +15,6 @@ pub struct FrameGaps {
     came: Cell<u64>,
     gaps: Cell<u64>,
     missing: Cell<u64>,
-    damaged: Cell<u64>,
     thrown_away: Cell<u64>,
 }
 
@@ -27,7 +26,6 @@ impl FrameGaps {
             came: Cell::new(0),
             gaps: Cell::new(0),
             missing: Cell::new(0),
-            damaged: Cell::new(0),
             thrown_away: Cell::new(0),
         }
     }
@@ -60,16 +58,6 @@ impl FrameGaps {
     /// How many were missing in all.
     pub fn missing(&self) -> u64 {
         self.missing.get()
-    }
-
-    /// How many were damaged on the way, and dropped.
-    pub fn damaged(&self) -> u64 {
-        self.damaged.get()
-    }
-
-    /// Counts one more of these.
-    pub fn adds_damaged(&self) {
-        self.damaged.set(self.damaged.get().saturating_add(1));
     }
 
     /// How many datagrams were thrown away while the link was down by plan.

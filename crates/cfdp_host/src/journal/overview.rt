@@ -7,7 +7,7 @@ use crate::journal::totals::Totals;
 use cfdp_console::Way;
 use cfdp_header::TransactionId;
 use cfdp_report::Name;
-use cfdp_station::{EntityDrop, LinkDrop, Phase, SentPdus, Station, Timer};
+use cfdp_station::{EntityDrop, FrameError, LinkDrop, Phase, Station, Timer};
 use cfdp_store::{Inbox, Outbox};
 use std::alloc::{AllocError, Global};
 use std::fmt;
@@ -379,7 +379,7 @@ pub fn write_counters<O: Outbox, I: Inbox, W: fmt::Write>(
 ) -> fmt::Result {
     match form {
         Form::Text => {
-            for (name, count) in figures(totals, gaps, station.counters().sent) {
+            for (name, count) in figures(totals, gaps, station) {
                 writeln!(out, "{name} {count}")?;
             }
             write_dropped_lines(out, station)
@@ -403,13 +403,18 @@ pub fn write_counter_members<O: Outbox, I: Inbox, W: fmt::Write>(
     gaps: &FrameGaps,
     station: &Station<O, I>,
 ) -> fmt::Result {
-    let figures = figures(totals, gaps, station.counters().sent);
+    let figures = figures(totals, gaps, station);
     write_members(out, &figures)?;
     write_dropped_members(out, station)
 }
 
 /// The counters but for what was dropped, by their names.
-fn figures(totals: &Totals, gaps: &FrameGaps, sent: SentPdus) -> [(&'static str, u64); 15] {
+fn figures<O: Outbox, I: Inbox>(
+    totals: &Totals,
+    gaps: &FrameGaps,
+    station: &Station<O, I>,
+) -> [(&'static str, u64); 15] {
+    let sent = station.counters().sent;
     let pdus = sent
         .file_data
         .saturating_add(sent.file_data_again)
@@ -429,7 +434,10 @@ fn figures(totals: &Totals, gaps: &FrameGaps, sent: SentPdus) -> [(&'static str,
         ("naks_sent", sent.naks),
         ("frame_gaps", gaps.gaps()),
         ("frames_missing", gaps.missing()),
-        ("frames_damaged", gaps.damaged()),
+        (
+            "frames_damaged",
+            station.link_drops(LinkDrop::Frame(FrameError::Damaged)),
+        ),
         ("datagrams_thrown_away", gaps.thrown_away()),
     ]
 }

@@ -7,11 +7,16 @@ ghost use Rattle.std.specs.Prelude.{◌+◌, ◌≤◌, length};
 use cfdp_station::{FrameFields, LinkConfig, StationConfig};
 
 /// Octets of a beacon; more may stand behind them, which mean nothing.
-pub const BEACON_LEN: usize = 40;
+pub const BEACON_LEN: usize = 44;
 
 /// The octets behind the header of a beacon's frame, by which it is known: the first header pointer
 /// that tells of idle data only, and a word.
 const MARK: [u8; 8] = [0x07, 0xfe, b'C', b'F', b'D', b'P', b'b', 1];
+
+/// Bits of the octet that tells which fields of two there are.
+const CONTROL: u8 = 2;
+/// See [`CONTROL`].
+const ERROR: u8 = 1;
 
 /// How a station is set up: who it is, and the frames that it sends and takes.
 #[derive(Clone, Copy)]
@@ -36,7 +41,7 @@ impl Beacon {
     }
 
     /// What there is to agree on, in words, with this beacon's value and that of the other station.
-    pub fn beside(&self, other: &Beacon) -> [(&'static str, u64, u64); 10] {
+    pub fn beside(&self, other: &Beacon) -> [(&'static str, u64, u64); 16] {
         let (from, here) = (numbers(&self.sends), numbers(&other.receives));
         let (to, there) = (numbers(&other.sends), numbers(&self.receives));
         [
@@ -48,6 +53,12 @@ impl Beacon {
             ("the channel of directives to the peer", there[2], to[2]),
             ("the channel of file data to the peer", there[3], to[3]),
             ("the APID to the peer", there[4], to[4]),
+            ("the insert zone from the peer", from[5], here[5]),
+            ("the control field from the peer", from[6], here[6]),
+            ("the error control from the peer", from[7], here[7]),
+            ("the insert zone to the peer", there[5], to[5]),
+            ("the control field to the peer", there[6], to[6]),
+            ("the error control to the peer", there[7], to[7]),
             ("the peer's id", self.id, other.peer),
             ("this station's id", self.peer, other.id),
         ]
@@ -75,6 +86,8 @@ impl Beacon {
         octets[36] = self.receives.virtual_channel;
         octets[37] = self.receives.data_virtual_channel;
         octets[38..40].copy_from_slice(&self.receives.apid.to_be_bytes());
+        octets[40..42].copy_from_slice(&field_octets(self.sends.fields));
+        octets[42..44].copy_from_slice(&field_octets(self.receives.fields));
         octets
     }
 
@@ -92,12 +105,13 @@ impl Beacon {
             data_virtual_channel: datagram[33],
             zone: short(datagram, 30),
             apid: short(datagram, 34),
-            fields: FrameFields::NONE,
+            fields: fields(datagram, 40),
         };
         let receives = LinkConfig {
             virtual_channel: datagram[36],
             data_virtual_channel: datagram[37],
             apid: short(datagram, 38),
+            fields: fields(datagram, 42),
             ..sends
         };
         Some(Beacon {
@@ -109,16 +123,37 @@ impl Beacon {
     }
 }
 
-/// The numbers of a direction: its zone, spacecraft, channels of directives and of file data, and
-/// APID.
-fn numbers(link: &LinkConfig) -> [u64; 5] {
+/// The numbers of a direction: its zone, spacecraft, channels of directives and of file data, APID,
+/// and the fields of its frames.
+fn numbers(link: &LinkConfig) -> [u64; 8] {
     [
         u64::from(link.zone),
         u64::from(link.spacecraft),
         u64::from(link.virtual_channel),
         u64::from(link.data_virtual_channel),
         u64::from(link.apid),
+        u64::from(link.fields.insert_zone),
+        u64::from(link.fields.control_field),
+        u64::from(link.fields.error_control),
     ]
+}
+
+/// The octets of an insert zone, and which of both other fields there are.
+fn field_octets(fields: FrameFields) -> [u8; 2] {
+    let control = if fields.control_field { CONTROL } else { 0 };
+    let error = if fields.error_control { ERROR } else { 0 };
+    [fields.insert_zone, control | error]
+}
+
+/// The fields of two octets at this place.
+fn fields(octets: &[u8], place: usize) -> FrameFields
+    requires { place + 2 ≤ length octets.now }
+{
+    FrameFields {
+        insert_zone: octets[place],
+        control_field: octets[place + 1] & CONTROL != 0,
+        error_control: octets[place + 1] & ERROR != 0,
+    }
 }
 
 /// The number of two octets at this place.

@@ -12,6 +12,7 @@ use cfdp_report::cause_text;
 use cfdp_station::{EntityDrop, FrameError, LinkDrop, Station, StationConfig};
 use cfdp_store::{Inbox, Outbox};
 use link_sim::Side;
+use std::fmt;
 use std::io::ErrorKind;
 use std::time::Instant;
 
@@ -84,6 +85,20 @@ struct Foreign {
     virtual_channel: u8,
 }
 
+/// The octets that frames have by their fields.
+#[derive(Clone, Copy)]
+struct MoreOctets(usize);
+
+/// What goes on from the octets of a zone; nothing where there are no such fields.
+impl fmt::Display for MoreOctets {
+    fn fmt<W: fmt::Write>(&self, f: &mut fmt::Formatter<W>) -> fmt::Result {
+        match self.0 {
+            0 => Ok(()),
+            count => write!(f, " and fields take {count}"),
+        }
+    }
+}
+
 /// One who looks on at a station, and tells its operator on standard error what is wrong with the
 /// link: each thing at once, and then once a minute at most.
 #[derive(Drop)]
@@ -97,7 +112,7 @@ pub struct Notices<'a> {
     foreign: Foreign,
     link: [Tally; 12],
     pdus: [Tally; 17],
-    datagrams: [Tally; 10],
+    datagrams: [Tally; 8],
     // When something of the link came last, when it was looked what is waited for, and when what
     // was told last.
     heard: u64,
@@ -135,7 +150,7 @@ impl<'a> Notices<'a> {
             },
             link: [Tally::NONE; 12],
             pdus: [Tally::NONE; 17],
-            datagrams: [Tally::NONE; 10],
+            datagrams: [Tally::NONE; 8],
             heard: 0,
             looked: 0,
             beacon_at: None,
@@ -225,10 +240,11 @@ impl<'a> Notices<'a> {
         self.lookout.progress.yields();
         let _ = match by {
             LinkDrop::Frame(FrameError::Length) => eprintln!(self.rt;
-                "note: {count} dropped: a frame has {} octets, and here {}, as the zone is {}",
+                "note: {count} dropped: a frame has {} octets, and here {}, as the zone is {}{}",
                 foreign.len,
                 frame_len(&up),
-                up.zone
+                up.zone,
+                MoreOctets(up.fields.extra())
             ),
             LinkDrop::Frame(FrameError::OtherSpacecraft) => eprintln!(self.rt;
                 "note: {count} dropped: a frame is of spacecraft {}, and here they are of {}",

@@ -8,7 +8,7 @@ use crate::station::request::{CarrierKind, StationRequest};
 use crate::station::{outbox_of, side_of};
 use crate::wire::peer_socket::PeerSocket;
 use cfdp_console::LogLines;
-use cfdp_host::carrier::{Carrier, CarrierWire, LinkFields, SealedWire};
+use cfdp_host::carrier::{Carrier, CarrierWire};
 use cfdp_host::{
     Board, BoardSetup, FolderSpool, Form, Journal, JournalSetup, KeptLog, LineSources, Log,
     StandardErrorTeller, Style,
@@ -41,8 +41,6 @@ pub struct StationParts<'a> {
     pub config: Valid<WorldConfig>,
     /// What a datagram between them is.
     pub carrier: Carrier,
-    /// Which fields the frames of both directions have.
-    pub fields: LinkFields,
 }
 
 /// What a run is shown by, and what was asked for.
@@ -137,8 +135,7 @@ fn ran_over<'a, O: SeekingOutbox, I: Inbox, S: Spool>(
     }
 }
 
-/// Runs the station over its socket, which loses some of its datagrams if that is asked for, and
-/// whose frames have the fields of the link.
+/// Runs the station over its socket, which loses some of its datagrams if that is asked for.
 fn wired<'a, O: SeekingOutbox, I: Inbox, S: Spool, L: Lookout>(
     context: Context<'a>,
     parts: StationParts<'a>,
@@ -158,7 +155,6 @@ fn wired<'a, O: SeekingOutbox, I: Inbox, S: Spool, L: Lookout>(
         sources,
         config,
         carrier,
-        fields,
     } = parts;
     let side = side_of(request);
     let options = ServiceOptions {
@@ -166,13 +162,9 @@ fn wired<'a, O: SeekingOutbox, I: Inbox, S: Spool, L: Lookout>(
         frame_count,
         side,
     };
-    let lossy = LossyWire::new(socket, request.numbers.drop_every);
-    let (tally, gaps) = (&exchange.dropped, &exchange.gaps);
-    let wire = match SealedWire::new(rt.alloc(), fields, lossy, tally, gaps) {
-        Ok(wire) => CarrierWire::new(rt.alloc(), carrier, options.config, wire, tally),
-        Err(AllocError) => Err(AllocError),
-    };
-    match wire {
+    let wire = LossyWire::new(socket, request.numbers.drop_every);
+    let (own, tally) = (options.config, &exchange.dropped);
+    match CarrierWire::new(rt.alloc(), carrier, own, wire, tally) {
         Ok(wire) => {
             let (outbox, inbox) = stores;
             let ends = ServiceEnds {

@@ -2,7 +2,7 @@
 ghost use Rattle.std.specs.Prelude.{IfSome};
 
 use crate::station::request::CarrierKind;
-use cfdp_host::carrier::{Carrier, LinkFields, PacketForm};
+use cfdp_host::carrier::{Carrier, PacketForm};
 use cfdp_report::{Keys, Nearest, Setting, Settings, consider_keys, parse_setting};
 use cfdp_station::LinkConfig;
 use frame_fields::FrameFields;
@@ -10,7 +10,7 @@ use link_sim::WorldConfig;
 use space_packet::PacketType;
 use std::alloc::{AllocError, Global};
 use std::fmt;
-use valid_config::{Config, Valid};
+use valid_config::Valid;
 
 /// The frames of one direction, as numbers that may fit no frame.
 #[derive(Clone, Copy)]
@@ -36,14 +36,18 @@ impl FieldNumbers {
         error_control: 0,
     };
 
-    /// The fields, where each value fits.
-    fn fields(self) -> Option<Valid<FrameFields>> {
-        let fields = FrameFields {
+    /// The fields, where each value fits its own.
+    fn fields(self) -> Option<FrameFields> {
+        Some(FrameFields {
             insert_zone: u8::try_from(self.insert_zone).ok()?,
             control_field: flag(self.control_field)?,
             error_control: flag(self.error_control)?,
-        };
-        fields.validate().ok()
+        })
+    }
+
+    /// Whether frames have none of them.
+    fn are_none(self) -> bool {
+        self.insert_zone == 0 && self.control_field == 0 && self.error_control == 0
     }
 }
 
@@ -380,19 +384,17 @@ impl StationSetup {
         None
     }
 
-    /// Which fields the frames of both directions have; `None` where a value doesn't fit.
-    pub fn fields(&self) -> Option<LinkFields> {
-        Some(LinkFields {
-            sends: self.own_fields.fields()?,
-            receives: self.peer_fields.fields()?,
-        })
+    /// Whether the frames of both directions are bare: they have a header and an M_PDU alone.
+    pub fn has_bare_frames(&self) -> bool {
+        self.own_fields.are_none() && self.peer_fields.are_none()
     }
 
     /// The configuration of this station and its peer, of which that with the lesser id is the
     /// first; `None` where they can't be set up so.
     pub fn config(&self, id: u64, peer: u64) -> Option<Valid<WorldConfig>> {
         let _form = self.packet_form()?;
-        let (sends, receives) = (self.link(self.own)?, self.link(self.peer)?);
+        let sends = self.link(self.own, self.own_fields)?;
+        let receives = self.link(self.peer, self.peer_fields)?;
         if id < peer {
             self.settings.pair(id, peer, sends, receives)
         } else {
@@ -429,15 +431,15 @@ impl StationSetup {
         })
     }
 
-    /// A direction of the link, where each value fits its field.
-    fn link(&self, direction: Direction) -> Option<LinkConfig> {
+    /// A direction of the link, whose frames have these fields, where each value fits its own.
+    fn link(&self, direction: Direction, fields: FieldNumbers) -> Option<LinkConfig> {
         Some(LinkConfig {
             spacecraft: u8::try_from(self.spacecraft).ok()?,
             virtual_channel: u8::try_from(direction.virtual_channel).ok()?,
             data_virtual_channel: u8::try_from(direction.data_virtual_channel).ok()?,
             zone: u16::try_from(self.settings.zone).ok()?,
             apid: u16::try_from(direction.apid).ok()?,
-            fields: FrameFields::NONE,
+            fields: fields.fields()?,
         })
     }
 }

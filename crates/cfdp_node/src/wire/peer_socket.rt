@@ -8,7 +8,7 @@ use crate::wire::link_clock::LinkClock;
 use crate::wire::pacer::{Pacer, SECOND};
 use cfdp_host::carrier::Carrier;
 use cfdp_port::{PeerWire, Wire, WireFault};
-use cfdp_station::LinkConfig;
+use cfdp_station::{Lane, LinkConfig};
 use libc::net::{self, POLLIN, POLLOUT, SO_RCVBUF, SO_SNDBUF, SOL_SOCKET};
 use std::alloc::AllocError;
 use std::io::ErrorKind;
@@ -71,21 +71,19 @@ impl Unit {
     }
 }
 /// The octets of the longest packet that leaves: 6 of its primary header, up to 63 of a secondary
-/// one, and a PDU of at most 4,132.
-const MOST_PACKET: usize = 4201;
+/// one, and a PDU of at most 4,134, with a CRC.
+const MOST_PACKET: usize = 4203;
 
-/// How long a socket waits for its peer, how fast it sends, and the link whose frames it takes.
+/// How long a socket waits for its peer, how fast it sends, and the link.
 #[derive(Clone, Copy)]
 pub struct Pace {
     /// The most frames in a second; 0 for any number.
     pub rate: u64,
     /// After so many seconds in which nothing came and nothing was open it is silent; with 0 never.
     pub idle: u64,
-    /// The frames that it takes.
+    /// The frames that it sends, and those that it takes.
+    pub sends: LinkConfig,
     pub receives: LinkConfig,
-    /// By how many octets the frames that leave, and those that come, are longer than bare ones.
-    pub sends_extra: usize,
-    pub receives_extra: usize,
     /// What a datagram is.
     pub carrier: Carrier,
     /// What it tells its peer of how it is set up.
@@ -176,8 +174,7 @@ impl<'a> PeerSocket<'a> {
         let start = Instant::now(rt).map_err(Unusable::Own)?;
         let kept = vec![in rt.alloc(); 0u8; most_octets(&pace)]?;
         let mut beacon = Vec::from_slice(rt.alloc(), &pace.beacon.octets())?;
-        let len = frame_len(&pace.receives).saturating_add(pace.sends_extra);
-        beacon.resize(len.max(BEACON_LEN), 0)?;
+        beacon.resize(frame_len(&pace.sends).max(BEACON_LEN), 0)?;
         Ok(PeerSocket {
             rt,
             socket,
@@ -344,6 +341,8 @@ impl<'a> PeerSocket<'a> {
         let is_stirred = self.exchange.is_stirred.take() || self.exchange.wants_numbers.get();
         let milliseconds = if watched.is_due() || is_stirred {
             0
+        } else if watched.is_soon() {
+            1
         } else {
             i32::try_from(wait.div_ceil(MILLISECOND)).unwrap_or(1)
         };
@@ -452,17 +451,15 @@ fn nanoseconds(rt: &HostRuntime, start: Instant, last: u64) -> u64 {
     }
 }
 
-/// The octets of each bare frame of a link.
+/// The octets of each frame of a link, with its fields.
 pub fn frame_len(link: &LinkConfig) -> usize {
-    8 + usize::from(link.zone)
+    link.lane(Lane::Directives).frame_len()
 }
 
 /// The octets of the longest datagram that leaves.
 fn most_octets(pace: &Pace) -> usize {
     match pace.carrier {
-        Carrier::Frames => frame_len(&pace.receives).saturating_add(
-            pace.sends_extra.max(pace.receives_extra),
-        ),
+        Carrier::Frames => frame_len(&pace.sends).max(frame_len(&pace.receives)),
         Carrier::Packets(_) | Carrier::Pdus => MOST_PACKET,
     }
 }
@@ -477,7 +474,7 @@ fn is_of_link(datagram: &[u8], pace: &Pace) -> bool {
     match datagram.get(1) {
         Some(octet) => {
             let virtual_channel = octet & 63;
-            datagram.len() == frame_len(link).saturating_add(pace.receives_extra)
+            datagram.len() == frame_len(link)
                 && (virtual_channel == link.virtual_channel
                     || virtual_channel == link.data_virtual_channel)
         }
