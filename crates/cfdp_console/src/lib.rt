@@ -28,7 +28,7 @@ pub use answer::{Answer, Kind};
 pub use asking::{Ask, judge};
 pub use caller::Caller;
 pub use denial::Denial;
-pub use guard::Guard;
+pub use guard::{Guard, is_own};
 pub use ledger::{Closed, Known, Ledger, Names, Way};
 pub use log_lines::{LogLine, LogLines};
 pub use look::Look;
