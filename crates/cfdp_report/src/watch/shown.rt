@@ -18,10 +18,6 @@ pub struct Shown {
 impl Shown {
     /// Whether something is asked for that is seen only by one who looks on.
     pub fn is_watched(&self) -> bool {
-        self.explain
-            || self.trace
-            || self.keeps
-            || self.pcap.is_some()
-            || self.chart.is_some()
+        self.explain || self.trace || self.keeps || self.pcap.is_some() || self.chart.is_some()
     }
 }

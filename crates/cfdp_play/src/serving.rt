@@ -1,0 +1,31 @@
+//! What answers the requests of all connections.
+ghost use Rattle.std.specs.Prelude.{◌≡◌};
+ghost use Rattle.cfdp_play.specs.Asking.{Answers};
+
+use crate::answer::{answer, deny};
+use crate::asking::asked;
+use bytes::Bytes;
+use http::Request;
+use http_server::{Response, Service};
+use std::alloc::AllocError;
+
+/// What answers the requests of all connections, each by itself alone.
+#[derive(Drop)]
+pub struct Serving<'a> {
+    pub rt: &'a HostRuntime,
+}
+
+impl Service for Serving<'_> {
+    ghost answers = { λ old request response new. (new ≡ old) × Answers request response };
+
+    fn call(
+        &mut self,
+        request: &Request<Bytes>,
+        response: &mut Response,
+    ) -> Result<(), AllocError> {
+        match asked(request) {
+            Ok(asked) => answer(self.rt, asked, request.body().as_slice(), response),
+            Err(denial) => deny(denial, response),
+        }
+    }
+}
