@@ -10,6 +10,7 @@ import os
 import select
 import shutil
 import subprocess
+import sys
 import tempfile
 import time
 
@@ -18,6 +19,16 @@ BROWSERS = ("chromium", "chromium-browser", "google-chrome", "google-chrome-stab
 
 # For how many seconds an answer of the browser is waited for.
 PATIENCE = 30
+
+# Starts the words behind two descriptors with these as 3 and 4: a browser reads the one and writes
+# the other.
+STARTED = """
+import fcntl, os, sys
+ends = [fcntl.fcntl(int(it), fcntl.F_DUPFD, 10) for it in sys.argv[1:3]]
+os.dup2(ends[0], 3)
+os.dup2(ends[1], 4)
+os.execv(sys.argv[3], sys.argv[3:])
+"""
 
 
 def path_of_browser():
@@ -45,8 +56,7 @@ class Browser:
         words = [path_of_browser(), "--headless=new", "--no-sandbox", "--disable-gpu",
                  "--no-first-run", "--disable-dev-shm-usage", "--remote-debugging-pipe",
                  "--hide-scrollbars", f"--user-data-dir={self.room}", "about:blank"]
-        # The browser reads its descriptor 3 and writes 4, which a shell makes of those given.
-        call = ["sh", "-c", f'exec 3<&{given} 4>&{taken}; exec "$@"', "sh", *words]
+        call = [sys.executable, "-c", STARTED, str(given), str(taken), *words]
         self.process = subprocess.Popen(call, pass_fds=(given, taken), stdin=subprocess.DEVNULL,
                                         stdout=subprocess.DEVNULL, stderr=subprocess.DEVNULL)
         os.close(given)

@@ -8,7 +8,9 @@
 Its page is tried in a browser (`console_page.py`), Debian's chromium; where there is none that is
 said, and not tried. Where it lacks, --tools has it installed, if it may and can.
 """
+import base64
 import contextlib
+import hashlib
 import html.parser
 import http.client
 import json
@@ -207,8 +209,14 @@ def page_mistakes(it):
     for word in ("innerHTML", "outerHTML", "insertAdjacentHTML", "document.write", "eval("):
         if word in body:
             yield f"the page has {word}"
-    if "default-src 'none'" not in headers["Content-Security-Policy"]:
+    policy = headers["Content-Security-Policy"]
+    if "default-src 'none'" not in policy:
         yield f"GET /: {headers}"
+    for tag in ("style", "script"):
+        text = re.search(rf"<{tag}>(.*?)</{tag}>", body, re.DOTALL)[1]
+        checksum = base64.b64encode(hashlib.sha256(text.encode()).digest()).decode()
+        if f"{tag}-src 'sha256-{checksum}'" not in policy:
+            yield f"GET /: the checksum of its {tag} is {checksum}, and not as in {policy}"
 
 
 def metrics_mistakes(it):
@@ -246,7 +254,10 @@ def deed_mistakes(program):
         wanted = {"x.bin": (True, "a.bin"), "b.bin": (False, "b.bin"), "d.bin": (True, "c.bin")}
         if ends != wanted:
             yield f"closed: {found}"
-        after = it.gets(f"/transactions?after={found['closed'][-1]['number']}")
+        last = found["closed"][-1]
+        if it.gets(f"/transactions/{last['id']}") != last:
+            yield f"/transactions/{last['id']}: another one"
+        after = it.gets(f"/transactions?after={last['number']}")
         if after["closed"]:
             yield f"closed behind the last one: {after}"
         lines = it.gets("/log")["lines"]
@@ -332,6 +343,7 @@ def guard_mistakes(program):
         if it.gets("/status")["link"]["state"] != "up":
             yield "one who may not ask took the link down"
     yield from token_mistakes(program)
+    yield from address_mistakes(program)
 
 
 def row_mistakes(it, rows):
@@ -370,6 +382,15 @@ def token_mistakes(program):
             it = link.starts(2, ["--inbox", "to", *words], waits=False)
             status, out, err = it.ended(10)
         if status not in (2, 3) or out or not err.startswith("error: --console"):
+            yield f"{words}: status {status}, {out!r}, {err!r}"
+
+
+def address_mistakes(program):
+    """What is wrong where the console's address is in use."""
+    with Link(program) as link, socket.create_server(("127.0.0.1", 0)) as taken:
+        words = ["--inbox", "to", "--console", f"127.0.0.1:{taken.getsockname()[1]}"]
+        status, out, err = link.starts(2, words, waits=False).ended(10)
+        if status != 3 or out or not re.fullmatch("error: --console [0-9.:]+: .* in use.*\n", err):
             yield f"{words}: status {status}, {out!r}, {err!r}"
 
 
@@ -477,6 +498,24 @@ def slow_mistakes(program):
             yield f"the seventeenth was answered {beside}"
 
 
+# ---- the link
+
+
+def control_mistakes(program):
+    """What is wrong with what is shown of the control field of frames that come."""
+    for has_one, wanted in ((1, 0), (0, None)):
+        with Link(program) as link:
+            sets = {**PATIENT, "peer_control_field": has_one}
+            it = Console(link, 2, ["--inbox", "to"], sets)
+            if it.gets("/status")["link"]["control_field"] is not None:
+                yield "a control field is shown before one came"
+            link.starts(1, link.puts(1, {"a": b"x"}), {**PATIENT, "control_field": has_one})
+            it.awaits("/status", lambda status: status["counters"]["files_received"] == 1)
+            found = it.gets("/status")["link"]
+            if found["control_field"] != wanted:
+                yield f"a control field: {found}"
+
+
 # ---- the station's own work
 
 
@@ -484,7 +523,11 @@ def late_mistakes(program):
     """What is wrong with the times at which frames leave a station while 16 clients ask its console
     all that they can, beside those where they ask its peer's."""
     for how in ("over new connections", "over one connection each"):
-        beside, own = (lateness(program, end, how) for end in (2, 1))
+        try:
+            beside, own = (lateness(program, end, how) for end in (2, 1))
+        except OSError as error:
+            yield f"{how}: {error}"
+            continue
         if own - beside > LATE:
             yield (f"{how}: frames are {own * 1e3:.2f} ms apart, and {beside * 1e3:.2f} ms where "
                    "the peer is asked")
@@ -523,6 +566,7 @@ def all_mistakes(program):
     yield "the console: who may ask", guard_mistakes(program)
     yield "the console: what is no request", request_mistakes(program)
     yield "the console: connections that are kept", kept_mistakes(program)
+    yield "the console: the control field of frames", control_mistakes(program)
     yield "the console: slow clients and a seventeenth", slow_mistakes(program)
     yield from console_page.all_mistakes(program, Console)
 

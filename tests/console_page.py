@@ -5,7 +5,7 @@ Where there is no Chromium nothing of it is tried, which is said.
 """
 import contextlib
 import json
-import re
+import threading
 import time
 
 import links
@@ -70,11 +70,15 @@ def text_has(ident, text):
     return f"{TEXT_OF.format(ident)}.includes({json.dumps(text)})"
 
 
+# One browser runs at a time: each takes the processors of a small machine.
+ALONE = threading.Lock()
+
+
 @contextlib.contextmanager
 def opened(program, make, words=(), token=None, files=None):
     """A station with a console, whose page a browser shows, and the link to its peer."""
     files = {"long.bin": bytes(400_000), "short.bin": b"short"} if files is None else files
-    with links.Link(program, links.Relay()) as link, Browser() as page:
+    with ALONE, links.Link(program, links.Relay()) as link, Browser() as page:
         link.puts(1, files)
         link.starts(2, ["--inbox", "to"], PATIENT)
         every = ["--outbox", "from", "--inbox", "to", "--rate", "100", *words]
@@ -310,21 +314,22 @@ def key_mistakes(page):
 
 
 def picture(program, make, path):
-    """Draws the page of a station at work, as the documents show it."""
-    names = {"telemetry-0041.bin": 800_000, "image-0107.fits": 500_000, "schedule.csv": 9_000}
+    """Draws the page of a station that is at work for two minutes, as the documents show it."""
+    names = {"schedule.csv": 400_000, "telemetry-0041.bin": 2_400_000, "image-0107.fits": 1_200_000}
     lost = iter(range(10**9))
     with links.Link(program, links.Relay(lambda own, frame: next(lost) % 37 != 0)) as link, \
             Browser() as page:
         link.puts(1, {name: bytes(size) for name, size in names.items()})
-        link.puts(2, {"commands.txt": bytes(60_000)})
+        link.puts(2, {"commands.txt": bytes(1_000_000)})
         it = make(link, 1, ["--outbox", "from", "--inbox", "to", "--rate", "120"], PATIENT)
-        link.starts(2, ["--inbox", "to", "--outbox", "from", "--rate", "30", "--put",
-                        "commands.txt", "commands.txt"], PATIENT)
-        page.has_size(1080, 900)
+        page.has_size(1080, 980)
         page.shows(f"http://127.0.0.1:{it.port}/")
-        for name in ("schedule.csv", "telemetry-0041.bin", "image-0107.fits"):
+        for name in names:
             it.does("/puts", {"source": name})
-        time.sleep(9)
+            if name == "schedule.csv":
+                words = ["--put", "commands.txt", "commands.txt", "--rate", "30"]
+                link.starts(2, ["--inbox", "to", "--outbox", "from", *words], PATIENT)
+            time.sleep(40)
         page.draws(path)
 
 

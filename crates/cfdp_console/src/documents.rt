@@ -12,9 +12,9 @@ use cfdp_header::TransactionId;
 use serde_json::{Value, json};
 use std::alloc::{AllocError, Global};
 
-/// The most closed transactions, and the most lines of the log, that an answer has, and after so many
-/// octets of these it has no more of them: so it is made within a millisecond. Who asks for all goes
-/// on behind the last one.
+/// The most closed transactions, and the most lines of the log, that an answer has, and after so
+/// many octets of these it has no more of them: so it is made within a millisecond. Who asks for all
+/// goes on behind the last one.
 const MOST_CLOSED: usize = 50;
 
 const MOST_LINES: usize = 200;
@@ -82,10 +82,7 @@ pub fn open_value(alloc: Global, it: &Open) -> Result<Value, AllocError>
 pub fn link_value(alloc: Global, link: &LinkStatus) -> Result<Value, AllocError>
     ensures { IfOk result (λ it. view it ≡ link_data link.now) }
 {
-    let (silent, control) = (
-        number(link.silent),
-        number(link.control_field.map(u64::from)),
-    );
+    let (silent, control) = (number(link.silent), number(link.control_field));
     let state = if link.is_frozen { "frozen" } else { "up" };
     json!(in alloc; {
         "carrier": link.carrier,

@@ -4,7 +4,7 @@
 /// checksums (SHA-256 of what stands between their tags), and it asks nobody but the console.
 pub const POLICY: &str = "default-src 'none'; connect-src 'self'; img-src data:; \
     style-src 'sha256-ciEet665SB6eacwrvNPd1VaughUFKYuos5DUVB1DfVI='; \
-    script-src 'sha256-/9mRKaYzkEA1UzADlOPnOzwzRmCjxoui0buLW5ugkR8='; \
+    script-src 'sha256-Ik/ybTS4O9twO1yiiiZpEbKtqAT6rJ2CTVegRQYdMgA='; \
     base-uri 'none'; form-action 'none'; frame-ancestors 'none'";
 
 /// The page, in HTML.
@@ -210,9 +210,9 @@ td.time { white-space: nowrap; font-variant-numeric: tabular-nums; }
     <dl class="figures">
       <div><dt>sent</dt><dd id="f-sent">-</dd><dd id="r-sent" class="rate"></dd></div>
       <div><dt>received</dt><dd id="f-came">-</dd><dd id="r-came" class="rate"></dd></div>
-      <div><dt>lost on the way</dt><dd id="f-lost">-</dd><dd id="r-lost" class="rate"></dd></div>
+      <div><dt>lost</dt><dd id="f-lost">-</dd><dd id="r-lost" class="rate"></dd></div>
       <div><dt>dropped here</dt><dd id="f-dropped">-</dd></div>
-      <div><dt>file data sent again</dt><dd id="f-again">-</dd></div>
+      <div><dt>sent again</dt><dd id="f-again">-</dd></div>
       <div><dt>files sent</dt><dd id="f-files-sent">-</dd></div>
       <div><dt>files received</dt><dd id="f-files-came">-</dd></div>
       <div><dt>files failed</dt><dd id="f-failed">-</dd></div>
@@ -345,7 +345,7 @@ function shows_status() {
   const state = link.state === "frozen" ? "frozen" : is_silent ? "silent" : "up";
   at("state").className = "pill is-" + state;
   writes(at("state"), state === "frozen" ? "frozen by plan" : state === "silent"
-    ? "nothing is heard" : "link up");
+    ? "link up, peer silent" : "link up");
   writes(at("heard"), link.silent === null ? "" : "heard " + link.silent + " s ago");
   writes(at("clock"), clock(status.time) + " UTC");
   writes(at("route"), link.carrier + " to " + link.to);

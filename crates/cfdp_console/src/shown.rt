@@ -39,7 +39,7 @@ pub struct LinkStatus {
     /// Datagrams that came while the link was down by plan.
     pub thrown_away: u64,
     /// The operational control field of the last frame that came, where frames have one.
-    pub control_field: Option<u32>,
+    pub control_field: Option<u64>,
 }
 
 /// What a station counted, as the command `counters` of its control address tells it.

@@ -194,11 +194,12 @@ impl<'a> Board<'a> {
 
 /// The operational control field of the last frame of directives that came, or of the last one of
 /// file data where none of those did.
-fn control_field<O: Outbox, I: Inbox>(station: &Station<O, I>) -> Option<u32> {
-    match station.control_field(Lane::Directives) {
+fn control_field<O: Outbox, I: Inbox>(station: &Station<O, I>) -> Option<u64> {
+    let control = match station.control_field(Lane::Directives) {
         Some(control) => Some(control),
         None => station.control_field(Lane::Data),
-    }
+    };
+    control.map(u64::from)
 }
 
 /// The milliseconds since 1970; 0 where the clock can't be read.

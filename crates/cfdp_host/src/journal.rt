@@ -11,7 +11,9 @@ pub mod totals;
 
 use crate::journal::line::LINE_ROOM;
 use crate::journal::lost_frames::FrameGaps;
-use crate::journal::overview::{Form, Waiting, shown_open, write_counters, write_list};
+use crate::journal::overview::{
+    Form, Waiting, shown_alone, shown_open, write_counters, write_list,
+};
 use crate::journal::register::{Register, copied, is_one_of, told_id};
 use crate::journal::style::{Log, Style};
 use crate::journal::telling::{
@@ -298,6 +300,22 @@ impl<'a, V: Write + Drop> Journal<'a, V> {
     ) -> Result<Vec<Open>, AllocError> {
         let log = self.setup.log;
         shown_open(log.rt.alloc(), &self.register, station, now, log.own)
+    }
+
+    /// The transaction of this id, which is a word as `1:7`, as the console shows it; nothing where
+    /// none is open.
+    ///
+    /// # Errors
+    ///
+    /// `AllocError` where there is no memory for it.
+    pub fn shown_alone<O: Outbox, I: Inbox>(
+        &self,
+        station: &Station<O, I>,
+        now: u64,
+        word: &[u8],
+    ) -> Result<Vec<Open>, AllocError> {
+        let log = self.setup.log;
+        shown_alone(log.rt.alloc(), &self.register, station, now, log.own, word)
     }
 
     /// How many octets the file of a transaction has, where that is known.

@@ -1,5 +1,5 @@
 //! The console's address: connections of browsers, served in the station's own turn.
-ghost use Rattle.std.specs.Prelude.{IfSome};
+ghost use Rattle.std.specs.Prelude.{◌≡◌, IfSome};
 ghost use Rattle.cfdp_web.specs.Serving.{MayBeAsked};
 
 use crate::cause::address_cause;
@@ -211,7 +211,9 @@ impl<'a> WebDoor<'a> {
     }
 
     /// Takes a connection, if one waits for that. Those that find no room wait until one has gone.
-    fn accepts(&mut self, now: u64) {
+    fn accepts(&mut self, now: u64)
+        ensures { self.new.guard ≡ self.old.guard }
+    {
         if !self.hears(now) {
             return;
         }
@@ -226,7 +228,9 @@ impl<'a> WebDoor<'a> {
     }
 
     /// Has one more connection.
-    fn takes_in(&mut self, stream: TcpStream, now: u64) {
+    fn takes_in(&mut self, stream: TcpStream, now: u64)
+        ensures { self.new.guard ≡ self.old.guard }
+    {
         let Ok(keys) = RandomState::new(self.rt) else {
             return;
         };

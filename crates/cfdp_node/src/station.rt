@@ -58,8 +58,9 @@ struct Prepared<'a> {
 /// Runs the station that is asked for, writes the report to standard output, and says on standard
 /// error what went wrong. Answers the exit status.
 ///
-/// What may be wrong is looked for in this order: the control address, what is set, the names of
-/// files that are to be sent, the folders, those files, the file of reserved numbers, the addresses.
+/// What may be wrong is looked for in this order: the console, the control address, what is set, the
+/// names of files that are to be sent, the folders, those files, the file of reserved numbers, the
+/// addresses.
 pub fn station_status(rt: &HostRuntime, request: &StationRequest) -> u8 {
     match started_status(rt, request) {
         Ok(status) | Err(status) => status,
@@ -119,7 +120,8 @@ fn check_addresses(rt: &HostRuntime, request: &StationRequest) -> Result<(), u8>
 ///
 /// # Errors
 ///
-/// The exit status, where the control address or that of the console can't be had, which was told on standard error.
+/// The exit status, where the control address or the console can't be had, which was told on
+/// standard error.
 fn sources<'a>(rt: &'a HostRuntime, request: &StationRequest) -> Result<LineSources<'a>, u8> {
     let control = match &request.control {
         Some(address) => Some(address.as_str()),

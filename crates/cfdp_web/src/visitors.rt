@@ -65,12 +65,11 @@ impl<S: WebStream> Visitors<S> {
 
     /// Answers the connection of this number. One that has gone is said nothing.
     pub fn answers(&mut self, number: u64, answer: Result<Answer, AllocError>, now: u64) {
-        let found = self
-            .all
-            .iter_mut()
-            .find(|visitor| visitor.number() == number);
-        if let Some(visitor) = found {
-            visitor.answers(answer, now);
+        for visitor in self.all.iter_mut() {
+            if visitor.number() == number {
+                visitor.answers(answer, now);
+                return;
+            }
         }
     }
 }

@@ -7,6 +7,7 @@ use crate::journal::totals::Totals;
 use cfdp_console::Way;
 use cfdp_header::TransactionId;
 use cfdp_report::Name;
+use cfdp_script::parse_id;
 use cfdp_station::{EntityDrop, FrameError, LinkDrop, Phase, Station, Timer};
 use cfdp_store::{Inbox, Outbox};
 use std::alloc::{AllocError, Global};
@@ -148,6 +149,31 @@ pub fn shown_open<O: Outbox, I: Inbox>(
     for (id, phase) in open_ids(alloc, station)?.iter().take(MOST_SHOWN) {
         let open = open_at(station, *id, *phase, now);
         shown.push(shown_one(alloc, own, open, register.get(*id))?)?;
+    }
+    Ok(shown)
+}
+
+/// The transaction of this id, which is a word as `1:7`, as the console of the entity `own` shows
+/// it; nothing where none is open.
+///
+/// # Errors
+///
+/// `AllocError` where there is no memory for it.
+pub fn shown_alone<O: Outbox, I: Inbox>(
+    alloc: Global,
+    register: &Register,
+    station: &Station<O, I>,
+    now: u64,
+    own: u64,
+    word: &[u8],
+) -> Result<Vec<cfdp_console::Open>, AllocError> {
+    let mut shown = Vec::new(alloc);
+    if let Ok(id) = parse_id(word)
+        && let Some(phase) = station.phase(id)
+        && phase != Phase::Closed
+    {
+        let open = open_at(station, id, phase, now);
+        shown.push(shown_one(alloc, own, open, register.get(id))?)?;
     }
     Ok(shown)
 }

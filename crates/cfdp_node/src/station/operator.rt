@@ -147,10 +147,10 @@ impl<'a, V: Write + Drop> OperatorConsole<'a, V> {
             return Err(AllocError);
         };
         let status = board.status(station, self.moment(waiting))?;
+        let (journal, told) = (&self.post.journal, self.exchange.told.get());
         let open = match look {
-            Look::Transactions(_) | Look::Transaction(_) => {
-                self.post.journal.shown(station, self.exchange.told.get())?
-            }
+            Look::Transactions(_) => journal.shown(station, told)?,
+            Look::Transaction(id) => journal.shown_alone(station, told, id.as_slice())?,
             _ => Vec::new(alloc),
         };
         let shown = Shown {
