@@ -1,5 +1,5 @@
 -- Exported: a record that is as it was is one that found no memory.
-use Rattle.std.proofs.Common.{◌≡◌, ℕ, zero, suc, List, [], ◌∷◌, slice_get, Option, Some, None, Result, Ok, Err, OnErr, refl, sym, ap, subst, true}
+use Rattle.std.proofs.Common.{◌≡◌, ℕ, zero, suc, List, [], ◌∷◌, slice_get, Option, Some, None, Result, Ok, Err, OnErr, refl, sym, ap, subst, true, false}
 use Rattle.std.specs.FinMap as map
 use Rattle.std.specs.FinSet as set
 use Rattle.indexmap.specs.IndexMap.{set_value_at}
@@ -19,7 +19,7 @@ use Rattle.cfdp_entity.specs.Table.{Entry, TableState, SpoiledAt}
 -- a record of which nothing is due
 abbrev pub nobody : Transfer
 nobody = record {
-  addressing = record { id = own_id 0 0; destination = 0; id_width = 0; number_width = 0 };
+  addressing = record { id = own_id 0 0; destination = 0; id_width = 0; number_width = 0; crc = false };
   checksum_kind = 0;
   segment = 0;
   source = [];

@@ -1,5 +1,5 @@
 -- What is due is spelled by its octets.
-use Rattle.std.proofs.Common.{◌≡◌, ℕ, ◌≤◌, Bool, List, slice_get, Option, Some, None, IfSome, lit<, sym, subst, arith}
+use Rattle.std.proofs.Common.{◌≡◌, ℕ, ◌≤◌, Bool, List, slice_get, Option, Some, None, IfSome, sym, subst, arith}
 use Rattle.cfdp_header.specs.declared.value.TransactionId.{TransactionId}
 use Rattle.cfdp_header.specs.Files.{FileMap}
 use Rattle.cfdp_directives.specs.declared.pdu.addressing.Addressing.{Addressing}
@@ -7,7 +7,7 @@ use Rattle.cfdp_directives.specs.Pdu.Addressing.{header_of, FitsAddressing}
 use Rattle.cfdp_directives.specs.Pdu.Codes.{IsCondition, is_large}
 use Rattle.cfdp_directives.specs.Pdu.Content.{Content}
 use Rattle.cfdp_directives.specs.Pdu.Written.{CanWrite}
-use Rattle.cfdp_directives.proofs.Addressed.{can_write}
+use Rattle.cfdp_directives.proofs.Addressed.{can_write, crc_short}
 use Rattle.cfdp_directives.proofs.Spelling.{spelled}
 use Rattle.cfdp_store.specs.Staged.{OctetMap}
 use Rattle.cfdp_store.specs.Files.{octets_in}
@@ -56,7 +56,7 @@ pub entry-spelled : (staged : Staged) (sources : FileMap) (es : List (Transactio
 entry-spelled staged sources es i k r is all = subst (EntryIsSpelled sources) (sym (seen_by_entry staged es i k r is)) (all (staged k) sources)
 
 pub stray-spelled : (s : StrayAck) → FitsAddressing s.addressing → IsCondition s.condition → StrayIsSpelled s
-stray-spelled s fits condition = spelled _ _ (can_write s.addressing s.large (stray_says s) fits condition (lit< tt))
+stray-spelled s fits condition = spelled _ _ (can_write s.addressing s.large (stray_says s) fits condition (omega (arith, crc_short s.addressing.crc)))
 
 -- ---- whose turn it is
 due-spells : (large : Bool) (a : Addressing) (o : Option Content) → IsSpelled large a o → 1 ≤ len_of large a o → SpellsDue large o a (octets_of large a o)

@@ -25,6 +25,7 @@ next_addressing e = record {
   destination = e.config.peer;
   id_width = e.config.id_width;
   number_width = e.config.number_width;
+  crc = e.config.pdu_crc;
 }
 
 -- what it sends, by the names of the file here and at the peer, and the file's octets

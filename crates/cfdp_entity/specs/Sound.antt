@@ -93,7 +93,7 @@ SpellsTurn Rests e = ⊥
 
 -- the octets of the longest PDU
 abbrev pub longest_pdu : ℕ
-longest_pdu = 4132
+longest_pdu = 4134
 
 -- ---- what stays
 -- What was indicated stays, none of it is let go, and more is added behind; the files to send, and

@@ -1,4 +1,4 @@
-ghost use Rattle.std.specs.Prelude.{◌≡◌, ◌≢◌};
+ghost use Rattle.std.specs.Prelude.{◌≡◌, ◌≢◌, false};
 ghost use Rattle.cfdp_header.specs.Header.{FitsWidth};
 ghost use Rattle.cfdp_directives.specs.Pdu.Codes.{modular};
 ghost use Rattle.cfdp_directives.specs.User.Policy.{default_policy};
@@ -30,6 +30,9 @@ pub struct EntityConfig {
     pub segment: u16,
     /// How checksums of the files that it sends are made.
     pub checksum_kind: ChecksumKind,
+    /// Whether the PDUs of its own transactions end in a CRC, and so the answers to them. Those of
+    /// the peer's transactions have one where the peer's have.
+    pub pdu_crc: bool,
     /// How long it waits, how often it sends something again, and what it does after that.
     pub policy: Policy,
 }
@@ -37,7 +40,7 @@ pub struct EntityConfig {
 impl EntityConfig {
     /// An entity with these two ids, which have to differ. Ids have the least of 1, 2, 4 and 8
     /// octets that both fit, sequence numbers 4, the first of them 1; a PDU carries 1,024 octets of
-    /// the file at most, and checksums are modular. The policy is the default one.
+    /// the file at most, checksums are modular, and PDUs have no CRC. The policy is the default one.
     #[tactic(auto, unfolding(cfdp_directives::specs::Pdu::Codes::is_known))]
     pub fn new(entity: u64, peer: u64) -> EntityConfig
         ensures valid { entity ≢ peer → IsConfig result }
@@ -49,6 +52,7 @@ impl EntityConfig {
           first_number = 1;
           segment = 1024;
           checksum_kind = modular;
+          pdu_crc = false;
           policy = default_policy;
         } }
     {
@@ -60,6 +64,7 @@ impl EntityConfig {
             first_number: 1,
             segment: 1024,
             checksum_kind: ChecksumKind::MODULAR,
+            pdu_crc: false,
             policy: Policy::default(),
         }
     }

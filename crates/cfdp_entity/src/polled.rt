@@ -61,7 +61,7 @@ impl<O: Outbox, I: Inbox> Entity<O, I> {
     /// Takes the PDU that is due next: stray acknowledgements come first, then the records in order
     /// of opening, round robin from behind the one served last. It is written over the first octets
     /// of `out`, where it has at most as many octets as there is room for its type. No PDU is
-    /// longer than 4,132 octets.
+    /// longer than 4,134 octets.
     ///
     /// Whose turn it is doesn't depend on the rooms: `Full` is told of file data that don't fit,
     /// also where another record has a directive due that would.

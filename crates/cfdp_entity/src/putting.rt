@@ -175,6 +175,7 @@ impl<O: Outbox, I: Inbox> Entity<O, I> {
             destination: self.config.peer,
             id_width: self.config.id_width,
             number_width: self.config.number_width,
+            crc: self.config.pdu_crc,
         };
         Ok(Transfer {
             addressing,

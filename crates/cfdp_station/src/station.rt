@@ -298,7 +298,7 @@ impl<O: Outbox, I: Inbox> Station<O, I> {
 
     /// Moves the PDU whose turn it is down its lane, in a packet of its own, where one is due and
     /// there is room for it: file data go on their own lane, directives on the other. One that
-    /// doesn't fit stays due. A PDU has 4,132 octets at the most.
+    /// doesn't fit stays due. A PDU has 4,134 octets at the most.
     ///
     /// # Errors
     ///

@@ -25,6 +25,7 @@ const PUT: Addressing = Addressing {
     destination: 2,
     id_width: 2,
     number_width: 4,
+    crc: false,
 };
 
 /// Plays a transcript.

@@ -50,25 +50,26 @@ fn tell_new(words: &str, out: &mut String) -> Result<(), AllocError> {
 }
 
 /// The keys, in the order of their numbers. `octets` says how much of `hello` is in `a.txt`. From
-/// the calls with the last two numbers on, the outbox and the inbox of an entity fail.
+/// the calls `outbox_call` and `inbox_call` on, the outbox and the inbox of an entity fail. PDUs have
+/// a CRC where `pdu_crc` is 1.
 const KEYS: &str = "entity peer id_width number_width first_number segment checksum eof_time \
     nak_time finished_time inactivity_time sends_channel sends_zone sends_apid receives_channel \
     receives_zone receives_apid capacity eof_limit nak_limit finished_limit ack_handler octets \
-    outbox_call inbox_call sends_data_channel receives_data_channel";
+    outbox_call inbox_call sends_data_channel receives_data_channel pdu_crc";
 
 /// A number for each key.
-type Setup = [u64; 27];
+type Setup = [u64; 28];
 
 /// The first entity or station, with zones of 32 octets.
 const ONE: Setup = [
     1, 2, 2, 4, 1, 1024, 0, 10, 10, 10, 100, 5, 32, 100, 6, 32, 101, 16_384, 3, 3, 3, 0, 5,
-    1_000_000, 1_000_000, 7, 8,
+    1_000_000, 1_000_000, 7, 8, 0,
 ];
 
 /// The second one.
 const TWO: Setup = [
     2, 1, 2, 4, 1, 1024, 0, 10, 10, 10, 100, 6, 32, 101, 5, 32, 100, 16_384, 3, 3, 3, 0, 5,
-    1_000_000, 1_000_000, 8, 7,
+    1_000_000, 1_000_000, 8, 7, 0,
 ];
 
 /// A setup with other numbers: pairs of a key and its number, all of them words.
@@ -135,6 +136,7 @@ fn entity(setup: &Setup) -> EntityConfig {
         first_number: setup[4],
         segment: half_word(setup[5]),
         checksum_kind: ChecksumKind::from_code(octet(setup[6])).unwrap_or(ChecksumKind::NULL),
+        pdu_crc: setup[27] == 1,
         policy: policy(setup),
     }
 }
