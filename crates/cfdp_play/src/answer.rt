@@ -79,7 +79,10 @@ fn status_of(denial: Denial) -> StatusCode
 fn answer_run(rt: &HostRuntime, script: &[u8], response: &mut Response) -> Result<(), AllocError> {
     let alloc = rt.alloc();
     let value = match excess_of(script) {
-        Some(excess) => refusal_value(alloc, format!(in alloc; "{excess}")?.as_str())?,
+        Some(excess) => {
+            let why = format!(in alloc; "{excess}")?;
+            refusal_value(alloc, why.as_str())?
+        }
         None => run_value(alloc, &ended(rt, script)?)?,
     };
     let text = value.to_string(alloc)?;

@@ -5,6 +5,7 @@ use http1::Limits;
 use libc::net::{POLLIN, POLLOUT};
 use std::alloc::Global;
 use std::hash::RandomState;
+use std::io;
 use std::io::ErrorKind;
 use std::net::TcpStream;
 use std::os::fd::{AsRawFd, RawFd};
@@ -83,7 +84,7 @@ impl Client {
     }
 
     /// Notes how reading or sending went.
-    fn stirs(&mut self, moved: std::io::Result<usize>, now: u64) {
+    fn stirs(&mut self, moved: io::Result<usize>, now: u64) {
         match moved {
             Ok(_) => self.stirred_at = now,
             Err(error) => {

@@ -1,4 +1,7 @@
 //! The fields of frames and of PDUs.
+ghost use Rattle.std.specs.Prelude.{IfSome};
+ghost use Rattle.cfdp_report.specs.Dump.Shape.{IsShape};
+
 use aos_frame::FrameFields;
 use cfdp_report::{DumpForm, FrameShape, parse_number};
 use cfdp_script::{DumpKind, DumpRequest, Words, cut_at_first, run_dump};
@@ -25,11 +28,13 @@ pub fn fields(alloc: Global, text: &[u8]) -> Result<Option<Vec<u8>>, AllocError>
     let Some((kind, shape)) = kind_and_shape(first) else {
         return Ok(None);
     };
-    Ok(Some(told(alloc, kind, shape, behind.unwrap_or(b""))?))
+    Ok(Some(told(alloc, kind, shape, behind.unwrap_or(b"".as_slice()))?))
 }
 
 /// What lines are, and what the frames are made of that they are.
-fn kind_and_shape(line: &[u8]) -> Option<(DumpKind, FrameShape)> {
+fn kind_and_shape(line: &[u8]) -> Option<(DumpKind, FrameShape)>
+    ensures { IfSome result (λ found. IsShape found.1) }
+{
     let mut words = Words::of(line);
     let kind = words.next_word().ok()?;
     if kind == b"pdus".as_slice() && words.is_empty() {
@@ -49,7 +54,9 @@ fn kind_and_shape(line: &[u8]) -> Option<(DumpKind, FrameShape)> {
 }
 
 /// What frames are made of, by these numbers; `None` where one is out of its range.
-fn shape(zone: u64, insert: u64, control: u64, check: u64) -> Option<FrameShape> {
+fn shape(zone: u64, insert: u64, control: u64, check: u64) -> Option<FrameShape>
+    ensures { IfSome result IsShape }
+{
     if !(LEAST_ZONE..=MOST_ZONE).contains(&zone) || insert > MOST_INSERT {
         return None;
     }
@@ -72,7 +79,9 @@ fn told(
     kind: DumpKind,
     shape: FrameShape,
     lines: &[u8],
-) -> Result<Vec<u8>, AllocError> {
+) -> Result<Vec<u8>, AllocError>
+    requires { IsShape shape }
+{
     let Ok(mut out) = BufWriter::new(alloc, Vec::new(alloc)) else {
         return Err(AllocError);
     };

@@ -57,11 +57,15 @@ impl Load {
     fn add(&mut self, line: &[u8]) {
         self.lines = self.lines.saturating_add(1);
         let mut words = Words::of(line);
-        match words.next_word() {
-            Ok(b"put") => self.puts = self.puts.saturating_add(1),
-            Ok(b"fill") => self.octets = self.octets.saturating_add(filled(words)),
-            Ok(b"file") => self.octets = self.octets.saturating_add(line.len() as u64),
-            Ok(_) | Err(_) => {}
+        let Ok(verb) = words.next_word() else {
+            return;
+        };
+        if verb == b"put".as_slice() {
+            self.puts = self.puts.saturating_add(1);
+        } else if verb == b"fill".as_slice() {
+            self.octets = self.octets.saturating_add(filled(words));
+        } else if verb == b"file".as_slice() {
+            self.octets = self.octets.saturating_add(line.len() as u64);
         }
     }
 

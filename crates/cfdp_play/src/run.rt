@@ -7,15 +7,6 @@ use cfdp_script::run_sim;
 use std::alloc::AllocError;
 use std::io::{BufWriter, Write};
 
-/// What is shown of a run here: nothing but what is kept.
-const KEPT: Shown = Shown {
-    explain: false,
-    trace: false,
-    pcap: None,
-    chart: None,
-    keeps: true,
-};
-
 /// A run that is over.
 #[derive(Drop)]
 pub struct Ended {
@@ -46,5 +37,17 @@ fn run_into<W: Write + Drop>(rt: &HostRuntime, text: &[u8], out: &mut BufWriter<
     ensures { EndsScript result.exit text.now
         (writer_contents W.contents out.old) (writer_contents W.contents out.new) }
 {
-    run_sim(rt, &KEPT, text, out)
+    let shown = kept_alone();
+    run_sim(rt, &shown, text, out)
+}
+
+/// What is shown of a run here: nothing but what is kept.
+fn kept_alone() -> Shown {
+    Shown {
+        explain: false,
+        trace: false,
+        pcap: None,
+        chart: None,
+        keeps: true,
+    }
 }

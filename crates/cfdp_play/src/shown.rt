@@ -20,7 +20,7 @@ pub fn run_value(alloc: Global, ended: &Ended) -> Result<Value, AllocError> {
         "error": error,
         "report": text_of(ended.report.as_slice()),
         "seen": seen,
-        "status": exit.status(),
+        "status": u64::from(exit.status()),
     })
 }
 
@@ -133,8 +133,8 @@ fn shape_value(alloc: Global, shape: FrameShape) -> Result<Value, AllocError> {
     json!(in alloc; {
         "check": shape.fields.error_control,
         "control": shape.fields.control_field,
-        "insert": shape.fields.insert_zone,
-        "zone": shape.zone,
+        "insert": u64::from(shape.fields.insert_zone),
+        "zone": u64::from(shape.zone),
     })
 }
 

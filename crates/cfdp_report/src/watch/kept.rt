@@ -27,7 +27,7 @@ pub struct Kept {
 
 impl Kept {
     /// Before anything is seen, of frames that are made so.
-    pub fn new(alloc: Global, shapes: FrameShapes) -> Kept {
+    pub(crate) fn new(alloc: Global, shapes: FrameShapes) -> Kept {
         Kept {
             alloc,
             shapes,
@@ -59,7 +59,7 @@ impl Kept {
     }
 
     /// Keeps what a log has, and how both stations are behind that.
-    pub fn keep<O: Outbox, I: Inbox>(
+    pub(crate) fn keep<O: Outbox, I: Inbox>(
         &mut self,
         log: &Log,
         stations: (&Station<O, I>, &Station<O, I>),
