@@ -66,10 +66,6 @@ impl Client {
 
     /// Does what can be done now: sends a piece, takes a piece, and answers.
     pub fn attend(&mut self, serving: &mut Serving<'_>, now: u64) {
-        if now.saturating_sub(self.stirred_at) >= PATIENCE {
-            self.is_over = true;
-            return;
-        }
         if self.connection.wants_write() {
             let sent = self.connection.write_to(&mut self.stream);
             self.stirs(sent, now);
@@ -78,7 +74,8 @@ impl Client {
             self.stirs(read, now);
         }
         self.connection.advance(serving);
-        if self.connection.is_done() {
+        let is_late = now.saturating_sub(self.stirred_at) >= PATIENCE;
+        if is_late || self.connection.is_done() {
             self.is_over = true;
         }
     }

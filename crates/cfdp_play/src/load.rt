@@ -100,11 +100,14 @@ pub fn excess_of(text: &[u8]) -> Option<TooMuch> {
         octets: 0,
         puts: 0,
     };
-    let mut rest = Some(text);
-    while let Some(lines) = rest {
-        let (line, behind) = cut_at_first(lines, b'\n');
+    let mut rest = text;
+    for _line in 0..=text.len() {
+        let (line, behind) = cut_at_first(rest, b'\n');
         load.add(line);
-        rest = behind;
+        match behind {
+            Some(behind) => rest = behind,
+            None => break,
+        }
     }
     load.excess()
 }

@@ -13,7 +13,7 @@ const MOST_KEPT: usize = 20_000;
 const MOST_OCTETS: usize = 4 * 1_048_576;
 
 /// What was seen of a run from its beginning on, up to 20,000 things and 4 MiB of octets, and how
-/// far the transactions of both stations were when something was seen last.
+/// far the transactions of both stations are, where nothing more was seen.
 #[derive(Drop)]
 pub struct Kept {
     alloc: Global,
@@ -48,7 +48,8 @@ impl Kept {
         self.sightings.as_slice()
     }
 
-    /// How far the transactions are that have a record at a station, those of station 1 first.
+    /// How far the transactions are that have a record at a station, those of station 1 first; none
+    /// where more was seen than is kept.
     pub fn standings(&self) -> &[Standing] {
         self.standings.as_slice()
     }
@@ -64,23 +65,32 @@ impl Kept {
         log: &Log,
         stations: (&Station<O, I>, &Station<O, I>),
     ) {
-        let kept = match log.sightings() {
-            Ok(seen) => self.keep_all(seen),
-            Err(AllocError) => Err(AllocError),
-        };
-        if kept.is_err() {
+        if self.is_cut {
+            return;
+        }
+        if self.try_keep(log, stations).is_err() {
             self.is_cut = true;
         }
-        match standings(self.alloc, stations) {
-            Ok(standings) => self.standings = standings,
-            Err(AllocError) => self.is_cut = true,
+        if self.is_cut {
+            self.standings.clear();
         }
+    }
+
+    /// Keeps the same, as far as there is memory.
+    fn try_keep<O: Outbox, I: Inbox>(
+        &mut self,
+        log: &Log,
+        stations: (&Station<O, I>, &Station<O, I>),
+    ) -> Result<(), AllocError> {
+        self.keep_all(log.sightings()?)?;
+        self.standings = standings(self.alloc, stations)?;
+        Ok(())
     }
 
     /// Keeps these, up to the first one for which there is no room.
     fn keep_all(&mut self, seen: &[Sighting]) -> Result<(), AllocError> {
         for it in seen {
-            if self.is_cut || self.sightings.len() >= MOST_KEPT || it.octets.len() > self.room {
+            if self.sightings.len() >= MOST_KEPT || it.octets.len() > self.room {
                 self.is_cut = true;
                 return Ok(());
             }
