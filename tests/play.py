@@ -413,6 +413,24 @@ def dropped_mistakes(program):
         yield from loaded_mistakes(it, page)
 
 
+def damage_mistakes(program):
+    """What is wrong where a frame is damaged, by a program whose scripts know that."""
+    if simulated(program, "damage 1 dir 20 FF\n")[0] == 2:
+        print("skipped: damage in the page, which scripts of this program don't know", flush=True)
+        return
+    with opened(program, PUT + "spread 1\n") as (it, page):
+        page.awaits(f"{FRAMES} === 3 && knowsDamage", SOON)
+        page.finds("document.querySelector('.frame.data').focus()")
+        page.presses("x", "KeyX", "x")
+        if not page.awaits(f"{TEXT_OF.format('chart')}.includes('Damaged')", SOON):
+            yield f"the key x: {page.finds(TEXT_OF.format('chart'))} {page.finds(SCRIPT)}"
+        page.clicks("document.getElementById('recover')")
+        if not status_is(page, "complete 1 of 1"):
+            yield f"recovered: {page.finds(TEXT_OF.format('report'))}"
+        yield from shown_is_simulated(program, page)
+        yield from loaded_mistakes(it, page)
+
+
 def key_mistakes(program):
     """What is wrong where all is done by keys, and nothing moves."""
     with opened(program) as (it, page):
@@ -480,8 +498,8 @@ def picture(program, path):
               "spread 2\n")
     with opened(program, script) as (_, page):
         page.has_size(1180, 860)
-        page.awaits(f"{FRAMES} === 3", SOON)
-        time.sleep(1)
+        page.awaits(f"{TEXT_OF.format('chart')}.includes('eof-recv') && {FRAMES} === 3", SOON)
+        time.sleep(2)
         page.clicks("document.querySelectorAll('.frame.dir')[1]")
         page.awaits(f"{TEXT_OF.format('opened-body')}.includes('AOS')", SOON)
         page.finds("document.activeElement.blur()")
@@ -501,6 +519,7 @@ def all_mistakes(program):
                    transfer_mistakes),
                   ("frames travel in the page; a cancel; a name of markup", travel_mistakes),
                   ("files that are dropped on a station of the page", dropped_mistakes),
+                  ("a frame that is damaged in the page", damage_mistakes),
                   ("the page by keys alone, without motion", key_mistakes),
                   ("the page's names, contrast and width", form_mistakes)]
     if path_of_browser():

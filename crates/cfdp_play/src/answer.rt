@@ -5,7 +5,7 @@ use crate::asking::Asked;
 use crate::fields::fields;
 use crate::load::excess_of;
 use crate::page::{PAGE, POLICY};
-use crate::run::ended;
+use crate::run::run_script;
 use crate::shown::{refusal_value, run_value};
 use bytes::BufMut;
 use cfdp_console::Denial;
@@ -83,7 +83,7 @@ fn answer_run(rt: &HostRuntime, script: &[u8], response: &mut Response) -> Resul
             let why = format!(in alloc; "{excess}")?;
             refusal_value(alloc, why.as_str())?
         }
-        None => run_value(alloc, &ended(rt, script)?)?,
+        None => run_value(alloc, &run_script(rt, script)?)?,
     };
     let text = value.to_string(alloc)?;
     fill(response, StatusCode::OK, Kind::Json, text.as_bytes())

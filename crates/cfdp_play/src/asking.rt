@@ -23,7 +23,7 @@ pub enum Asked {
 /// # Errors
 ///
 /// The `Denial`.
-pub fn asked(request: &Request<Bytes>) -> Result<Asked, Denial>
+pub fn what_is_asked(request: &Request<Bytes>) -> Result<Asked, Denial>
     ensures { IfOk result (MayAsk request.now) }
 {
     if !is_own(request) {

@@ -3,8 +3,8 @@
 /// What the page may do, as `Content-Security-Policy`: its own style and script run, by their
 /// checksums (SHA-256 of what stands between their tags), and it asks nobody but this program.
 pub const POLICY: &str = "default-src 'none'; connect-src 'self'; img-src data:; \
-    style-src 'sha256-2RWLYyrsUGaLySf+s3IaEUlRP474Keuzrvgk+EshMKw='; \
-    script-src 'sha256-XpB/OCv0L4oI8Bl/gutPsfoypmJKXTgOstAkZLw6JzU='; \
+    style-src 'sha256-+t6+9It8260xPVjhdkulNufddajRKC76iCfVUQ3J9sM='; \
+    script-src 'sha256-QUA/CiiU/TJ6XfxBVUXeIjdEA+Mk8StocA7d6d65xOI='; \
     base-uri 'none'; form-action 'none'; frame-ancestors 'none'";
 
 /// The page, in HTML.
@@ -181,6 +181,11 @@ textarea { width: 100%; height: 13rem; resize: vertical; white-space: pre; }
   #chart li { grid-template-columns: 2.4rem minmax(0, 1fr); }
   #chart-box, #opened-body { height: auto; max-height: 34rem; }
   #chart-box { max-height: 22rem; }
+  #open-box thead { position: absolute; left: -9999px; }
+  #open tr { display: flex; flex-wrap: wrap; gap: 0 0.8rem; padding: 0.45rem 0.6rem;
+    border-bottom: 1px solid var(--line); }
+  #open td { border: 0; padding: 0.1rem 0; }
+  #open td:nth-child(n + 5) { flex: 1 0 100%; }
   header .fill { display: none; }
   .many { display: none; }
 }
@@ -725,11 +730,12 @@ const strike = (frame) => happens(
 
 // Damages a frame: its frames have a check then, by which that is seen.
 async function damage(frame) {
-  const wanted = [...clears(frame), `damage ${frame.station} ${frame.lane} 20 FF`];
+  const octet = 255 - parseInt(frame.octets.slice(40, 42), 16);
+  const hex = octet.toString(16).toUpperCase().padStart(2, "0");
+  const wanted = [...clears(frame), `damage ${frame.station} ${frame.lane} 20 ${hex}`];
   const eager = clears(frame).length ? spreads(3 - frame.station) : [];
   if (!lines.slice(0, at).includes("set error_control 1")) {
-    const ended = lines.slice(0, at);
-    lines = ended;
+    lines = lines.slice(0, at);
     givesFirst("set error_control 1");
     say("Frames have an error control field now, by which damage is seen.");
   }

@@ -21,7 +21,7 @@ pub struct Ended {
 /// # Errors
 ///
 /// `AllocError` where there is no memory for the report's buffer.
-pub fn ended(rt: &HostRuntime, text: &[u8]) -> Result<Ended, AllocError> {
+pub fn run_script(rt: &HostRuntime, text: &[u8]) -> Result<Ended, AllocError> {
     let alloc = rt.alloc();
     let Ok(mut out) = BufWriter::new(alloc, Vec::new(alloc)) else {
         return Err(AllocError);

@@ -3,7 +3,7 @@ ghost use Rattle.std.specs.Prelude.{◌≡◌};
 ghost use Rattle.cfdp_play.specs.Asking.{Answers};
 
 use crate::answer::{answer, deny};
-use crate::asking::asked;
+use crate::asking::what_is_asked;
 use bytes::Bytes;
 use http::Request;
 use http_server::{Response, Service};
@@ -23,7 +23,7 @@ impl Service for Serving<'_> {
         request: &Request<Bytes>,
         response: &mut Response,
     ) -> Result<(), AllocError> {
-        match asked(request) {
+        match what_is_asked(request) {
             Ok(asked) => answer(self.rt, asked, request.body().as_slice(), response),
             Err(denial) => deny(denial, response),
         }

@@ -210,6 +210,7 @@ impl Settings {
             segment: u16::try_from(self.segment).ok()?,
             checksum_kind: ChecksumKind::from_code(octet(self.checksum)?)?,
             policy: self.policy()?,
+            pdu_crc: false,
         })
     }
 
