@@ -209,6 +209,7 @@ impl Settings {
             first_number: self.first_number,
             segment: u16::try_from(self.segment).ok()?,
             checksum_kind: ChecksumKind::from_code(octet(self.checksum)?)?,
+            pdu_crc: flag(self.pdu_crc)?,
             policy: self.policy()?,
             pdu_crc: false,
         })

@@ -196,7 +196,6 @@ pub struct StationSetup {
     own: Direction,
     peer: Direction,
     packets: PacketNumbers,
-    own_fields: FieldNumbers,
     peer_fields: FieldNumbers,
 }
 
@@ -228,7 +227,6 @@ impl StationSetup {
                 secondary_header: 0,
                 peer_secondary_header: 0,
             },
-            own_fields: FieldNumbers::NONE,
             peer_fields: FieldNumbers::NONE,
         }
     }
@@ -255,12 +253,6 @@ impl StationSetup {
             self.packets.secondary_header = value;
         } else if key == "peer_secondary_header" {
             self.packets.peer_secondary_header = value;
-        } else if key == "insert_zone" {
-            self.own_fields.insert_zone = value;
-        } else if key == "control_field" {
-            self.own_fields.control_field = value;
-        } else if key == "error_control" {
-            self.own_fields.error_control = value;
         } else if key == "peer_insert_zone" {
             self.peer_fields.insert_zone = value;
         } else if key == "peer_control_field" {
@@ -365,13 +357,10 @@ impl StationSetup {
         }
     }
 
-    /// The first field of frames whose value is out of its range.
+    /// The first field of the frames that come whose value is out of its range.
     fn field_misfit(&self) -> Option<Misfit> {
-        let (own, peer) = (self.own_fields, self.peer_fields);
+        let peer = self.peer_fields;
         let ranges = [
-            ("insert_zone", own.insert_zone, MOST_INSERT_ZONE),
-            ("control_field", own.control_field, MOST_FLAG),
-            ("error_control", own.error_control, MOST_FLAG),
             ("peer_insert_zone", peer.insert_zone, MOST_INSERT_ZONE),
             ("peer_control_field", peer.control_field, MOST_FLAG),
             ("peer_error_control", peer.error_control, MOST_FLAG),
@@ -386,14 +375,24 @@ impl StationSetup {
 
     /// Whether the frames of both directions are bare: they have a header and an M_PDU alone.
     pub fn has_bare_frames(&self) -> bool {
-        self.own_fields.are_none() && self.peer_fields.are_none()
+        self.own_fields().are_none() && self.peer_fields.are_none()
+    }
+
+    /// Which fields the frames have that leave.
+    fn own_fields(&self) -> FieldNumbers {
+        let settings = self.settings;
+        FieldNumbers {
+            insert_zone: settings.insert_zone,
+            control_field: settings.control_field,
+            error_control: settings.error_control,
+        }
     }
 
     /// The configuration of this station and its peer, of which that with the lesser id is the
     /// first; `None` where they can't be set up so.
     pub fn config(&self, id: u64, peer: u64) -> Option<Valid<WorldConfig>> {
         let _form = self.packet_form()?;
-        let sends = self.link(self.own, self.own_fields)?;
+        let sends = self.link(self.own, self.own_fields())?;
         let receives = self.link(self.peer, self.peer_fields)?;
         if id < peer {
             self.settings.pair(id, peer, sends, receives)
