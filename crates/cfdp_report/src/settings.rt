@@ -211,7 +211,6 @@ impl Settings {
             checksum_kind: ChecksumKind::from_code(octet(self.checksum)?)?,
             pdu_crc: flag(self.pdu_crc)?,
             policy: self.policy()?,
-            pdu_crc: false,
         })
     }
 
