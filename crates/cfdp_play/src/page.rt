@@ -4,7 +4,7 @@
 /// checksums (SHA-256 of what stands between their tags), and it asks nobody but this program.
 pub const POLICY: &str = "default-src 'none'; connect-src 'self'; img-src data:; \
     style-src 'sha256-+t6+9It8260xPVjhdkulNufddajRKC76iCfVUQ3J9sM='; \
-    script-src 'sha256-QUA/CiiU/TJ6XfxBVUXeIjdEA+Mk8StocA7d6d65xOI='; \
+    script-src 'sha256-T9ZqnruTW2fvOPhMEsHE25dnlyMZDEARCw9inxu6YTg='; \
     base-uri 'none'; form-action 'none'; frame-ancestors 'none'";
 
 /// The page, in HTML.
@@ -753,7 +753,10 @@ async function go() {
   showGo();
   while (going) {
     const next = oldest();
-    if (!next) break;
+    if (!next) {
+      say("No frame waits in the link.");
+      break;
+    }
     await deliver(next);
     if (ran?.error) break;
     await pause(speed() ? 120 / speed() : 0);
