@@ -7,8 +7,8 @@
 
 Compiler and emulator are Debian's gcc-aarch64-linux-gnu and qemu-user. Where they lack, --tools
 asks apt-get for them, if it is there and may install. Where they can't be had a line says so. What
-a program prints is compared with what it prints here, over the archive of x86-64. The last line is
-'N passed, M failed'.
+a program prints is compared with what it prints here, over the archive of x86-64, but for what
+stack.c measures. The last line is 'N passed, M failed'.
 """
 import os
 import re
@@ -27,11 +27,13 @@ TOOLS = ("aarch64-linux-gnu-gcc", "qemu-aarch64")
 PACKAGES = ("gcc-aarch64-linux-gnu", "libc6-dev-arm64-cross", "qemu-user")
 STRICT = ["-std=c99", "-O2", "-Wall", "-Wextra", "-Wpedantic", "-Werror", f"-I{C}"]
 
-# What is built of which sources, and run with which words.
+# What is built of which sources, and run with which words, of which FOLDER is an empty folder.
+FOLDER = "an empty folder"
 TRANSFER = [f"{C}/examples/transfer.c", f"{C}/heap.c"]
 PROGRAMS = [(TRANSFER, [octets]) for octets in ("0", "1", "100000")]
 PROGRAMS += [([f"{HERE}/calls.c"], []), ([f"{C}/tests/forgetting.c"], ["20"])]
 PROGRAMS += [([f"{C}/tests/in_a_pool.c", f"{C}/pool.c"], ["1000"])]
+PROGRAMS += [([f"{C}/tests/{it}.c", f"{C}/heap.c"], [FOLDER]) for it in ("folders", "stack")]
 
 
 def has_tools():
@@ -56,21 +58,23 @@ def told_by(words):
     return ran.returncode, ran.stdout + ran.stderr
 
 
-def run(compiler, archive, sources, made, front, words):
+def run(compiler, archive, sources, room, front, words):
     """How a program ended that is built so, and what it printed."""
+    made = f"{room}/made"
     built = told_by([*compiler, *STRICT, *sources, f"{C}/errno.c", archive, "-o", made])
+    words = [tempfile.mkdtemp(dir=room) if it == FOLDER else it for it in words]
     return built if built[0] else told_by([*front, made, *words])
 
 
 def mistakes_of(sources, words, room):
     """Where a program fails there, or prints something else than here."""
-    made = f"{room}/made"
     compiler, archive = [TOOLS[0], "-static"], f"{OUT}/{TARGET}/libcfdp_c.a"
-    there = run(compiler, archive, sources, made, TOOLS[1:], words)
+    there = run(compiler, archive, sources, room, TOOLS[1:], words)
     if there[0]:
         yield f"status {there[0]}, {there[1][-2000:]}"
-    if shutil.which("cc") and os.path.isfile(f"{OUT}/libcfdp_c.a"):
-        here = run(["cc"], f"{OUT}/libcfdp_c.a", sources, made, [], words)
+    measures = sources[0].endswith("stack.c")
+    if not measures and shutil.which("cc") and os.path.isfile(f"{OUT}/libcfdp_c.a"):
+        here = run(["cc"], f"{OUT}/libcfdp_c.a", sources, room, [], words)
         if here != there:
             yield f"there {there}, here {here}"
 

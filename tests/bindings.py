@@ -5,7 +5,7 @@
     tests/bindings.py --archive PATH ..     over another archive
     tests/bindings.py --program PATH ..     with another cfdp_node for the transfer over UDP
     tests/bindings.py --after 'A passed, B failed'    counts these in the last line
-    tests/bindings.py --figures             tells what the archive takes (docs/SPEED.md), and no more
+    tests/bindings.py --figures             tells what the archive takes (docs/SPEED.md), no more
 
 Compares cfdp.h and ffi.rs with the crate's sources, and the archive's names with them; compiles the
 header, the examples, calls.c and what stands in bindings/*/tests without warnings; runs them, also
@@ -290,6 +290,20 @@ class Bindings:
             if it.read() != octets:
                 yield "the file differs"
 
+    def pool_mistakes(self):
+        """What is wrong where two stations with folders have an array by the sum of pool.h: a file
+        of 30 MB, of which a first pass leaves some 6,000 gaps."""
+        outbox, inbox = self.empty_folder(), self.empty_folder()
+        with open(f"{outbox}/a.bin", "wb") as it:
+            it.truncate(30_000_000)
+        station = "CFDP_POOL_STATION(16384) + CFDP_POOL_RECORDS(1)"
+        each = f"{station} + CFDP_POOL_IN_FOLDER + CFDP_POOL_GAPS(7500)"
+        flags = [f"-DCFDP_POOL=CFDP_POOL_FOR(2 * ({each}))"]
+        example = [f"{C}/examples/folders.c", f"{C}/pool.c"]
+        yield from self.c_mistakes(C99, example, flags, [], [outbox, inbox, "a.bin"])
+        if not os.path.isfile(f"{inbox}/a.bin") or os.path.getsize(f"{inbox}/a.bin") != 30_000_000:
+            yield f"the inbox has {os.listdir(inbox)}"
+
     def c_runs(self):
         """Each program in C, by each compiler and checker."""
         example = [f"{C}/examples/transfer.c", f"{C}/heap.c"]
@@ -308,7 +322,9 @@ class Bindings:
             words = [self.empty_folder()]
             yield f"folders.c{name}", self.c_mistakes(C99, folders, flags, front, words)
         yield "the example folders.c", self.folders_mistakes()
-        yield "stack.c", self.c_mistakes(C99, [f"{C}/tests/stack.c", f"{C}/heap.c"], [], [], [])
+        yield "folders.c in a pool", self.pool_mistakes()
+        stack = [f"{C}/tests/stack.c", f"{C}/heap.c"]
+        yield "stack.c", self.c_mistakes(C99, stack, [], [], [self.empty_folder()])
         yield "a file of 1 MiB", self.c_mistakes(C99, example, [], [], ["1048576"])
         if shutil.which("c++"):
             yield "transfer.c as C++", self.c_mistakes(CPP, example, [], [], [])
@@ -344,7 +360,7 @@ class Bindings:
         if not shutil.which("rustc"):
             print("no rustc: the wrapper, its tests and its example aren't compiled")
             return
-        for name in ("folders", "forgetting", "lists", "threads"):
+        for name in ("fields", "folders", "forgetting", "lists", "threads"):
             builds, made = self.rust_program(f"tests/{name}.rs", f"{name}_rs", "--test")
             yield f"{name}.rs", run_mistakes(*builds, [made])
             if name == "threads" and shutil.which("valgrind"):
@@ -444,9 +460,10 @@ def tell_figures(archive, room):
     subprocess.run([*C99, *files, "-s", "-Wl,--gc-sections", "-o", made], check=True)
     print(f"archive {os.path.getsize(archive)} octets, stripped transfer {os.path.getsize(made)}")
     stack, pool = [f"{C}/tests/stack.c", f"{C}/heap.c"], [f"{C}/tests/in_a_pool.c", f"{C}/pool.c"]
-    for sources in ([f"{HERE}/figures.c", f"{C}/heap.c"], stack, pool):
+    figures = [f"{HERE}/figures.c", f"{C}/heap.c"]
+    for sources, words in ((figures, []), (stack, [tempfile.mkdtemp(dir=room)]), (pool, [])):
         subprocess.run([*C99, *sources, f"{C}/errno.c", archive, "-o", made], check=True)
-        subprocess.run([made], check=True)
+        subprocess.run([made, *words], check=True)
 
 
 def taken(words, name):

@@ -97,6 +97,8 @@ static void defaults(void)
     IS(c.entity, 0xA5A5A5A5A5A5A5A5);
     cfdp_defaults(&c);
     IS(c.size, sizeof c);
+    /* Another than that of any version before: 88. */
+    IS(sizeof c, 96);
     IS(c.entity, 1);
     IS(c.peer, 2);
     IS(c.first_number, 1);
@@ -115,6 +117,9 @@ static void defaults(void)
     IS(c.receives.spacecraft, 42);
     IS(c.receives.virtual_channel, 6);
     IS(c.receives.data_virtual_channel, 8);
+    IS(c.sends.insert_zone + c.sends.control_field + c.sends.error_control, 0);
+    IS(c.receives.insert_zone + c.receives.control_field + c.receives.error_control, 0);
+    IS(c.pdu_crc, 0);
     IS(c.segment, 1024);
     IS(c.id_width, 2);
     IS(c.number_width, 4);
@@ -136,6 +141,7 @@ static void on_a_closed_handle(void)
     cfdp_transaction listed = {{7, 8}, 9};
     cfdp_counts counts;
     uint64_t deadline = 9;
+    uint32_t control = 9;
     size_t cursor = 0;
     uint8_t room[16] = {1};
 
@@ -155,6 +161,8 @@ static void on_a_closed_handle(void)
     IS(cfdp_frames_ahead(&s), 0);
     IS(cfdp_next_frame(&s, room, sizeof room), CFDP_CLOSED);
     IS(cfdp_receive(&s, room, sizeof room), CFDP_CLOSED);
+    IS(cfdp_set_control_field(&s, 7), CFDP_CLOSED);
+    IS(cfdp_control_field(&s, true, &control), CFDP_CLOSED);
     counts.pdus.unknown = 4;
     IS(cfdp_counters(&s, &counts), CFDP_CLOSED);
     IS(counts.pdus.unknown, 4);
@@ -172,6 +180,7 @@ static void on_a_closed_handle(void)
     IS(cursor, 0);
     IS(info.size, 8);
     IS(deadline, 9);
+    IS(control, 9);
     IS(told.kind, 0x5A);
     IS(room[0], 1);
     IS(live, 0);
@@ -190,6 +199,7 @@ static void opened_so(void)
     cfdp_config c = config_of(1);
 
     REFUSES(c.size = 0, SIZE);
+    REFUSES(c.size = 88, SIZE);
     REFUSES(c.size++, SIZE);
     REFUSES((c.size--, c.id_width = 0), SIZE);
     REFUSES(c.peer = 1, PEER);
@@ -225,6 +235,14 @@ static void opened_so(void)
     REFUSES(c.receives.data_virtual_channel = 255, RECEIVES_DATA_VIRTUAL_CHANNEL);
     REFUSES(c.receives.virtual_channel = c.receives.data_virtual_channel,
             RECEIVES_DATA_VIRTUAL_CHANNEL);
+    REFUSES(c.sends.insert_zone = 65, SENDS_INSERT_ZONE);
+    REFUSES(c.sends.control_field = 2, SENDS_CONTROL_FIELD);
+    REFUSES(c.sends.error_control = 255, SENDS_ERROR_CONTROL);
+    REFUSES(c.receives.insert_zone = 255, RECEIVES_INSERT_ZONE);
+    REFUSES(c.receives.control_field = 255, RECEIVES_CONTROL_FIELD);
+    REFUSES(c.receives.error_control = 2, RECEIVES_ERROR_CONTROL);
+    REFUSES(c.pdu_crc = 2, PDU_CRC);
+    REFUSES(c.pdu_crc = 255, PDU_CRC);
     IS(cfdp_open(&s, &c), CFDP_OK);
     IS(cfdp_open(&s, &c), CFDP_ALREADY_OPEN);
     IS(cfdp_frame_len(&s), 264);
@@ -493,7 +511,7 @@ static void put_into_words(void)
             IS(strcmp(cfdp_answer_text(one), cfdp_answer_text(two)) == 0,
                strcmp(cfdp_answer_text(one), cfdp_answer_text(255)) == 0
                    && strcmp(cfdp_answer_text(two), cfdp_answer_text(255)) == 0);
-    for (one = CFDP_BAD_SIZE; one <= CFDP_BAD_ON_INACTIVITY; one++)
+    for (one = CFDP_BAD_SIZE; one <= CFDP_BAD_RECEIVES_ERROR_CONTROL; one++)
         IS(strcmp(cfdp_answer_text(one), cfdp_answer_text(255)) != 0, 1);
     IS(strcmp(cfdp_answer_text(CFDP_BAD_PDU + 1), cfdp_answer_text(255)) != 0, 1);
 }
@@ -685,8 +703,168 @@ static void decodes(void)
     it = decoded("2000021300010000000100020980", CFDP_OK);
     IS(it.kind, 9);
     IS(it.keep_alive, 1);
+    IS(it.crc, 0);
+    /* with a CRC, and with a wrong one: binascii.crc_hqx(octets, 0xFFFF) */
+    it = decoded("3200071300010000000100020000000068D5A0", CFDP_OK);
+    IS(it.kind, 0);
+    IS(it.data_len, 1);
+    IS(it.crc, 1);
+    decoded("3200071300010000000100020000000068D4A0", CFDP_BAD_PDU + 3);
     it = decoded("2000", CFDP_BAD_PDU + 1);
     IS(it.kind, 0);
+}
+
+/* ---- frames with all fields, and PDUs with a CRC */
+
+enum { FIELDS = 3 + 4 + 2, GUARDED = 264 + FIELDS };
+
+static cfdp_config guarded_config(int number, uint8_t checksum)
+{
+    cfdp_config config = config_of(number);
+    cfdp_link *links[2];
+    int at;
+
+    links[0] = &config.sends;
+    links[1] = &config.receives;
+    for (at = 0; at < 2; at++) {
+        links[at]->insert_zone = 3;
+        links[at]->control_field = 1;
+        links[at]->error_control = 1;
+    }
+    /* Station 2 puts none, and answers with a CRC, as it is asked. */
+    config.pdu_crc = number == 1;
+    config.checksum = checksum;
+    return config;
+}
+
+/* The check of frames and of PDUs: by x^16 + x^12 + x^5 + 1, begun with ones. */
+static uint16_t check_of(const uint8_t *octets, size_t len)
+{
+    uint16_t check = 0xFFFF;
+    size_t at;
+    int bit;
+
+    for (at = 0; at < len; at++) {
+        check = (uint16_t)(check ^ (octets[at] << 8));
+        for (bit = 0; bit < 8; bit++)
+            check = (uint16_t)(check & 0x8000 ? check << 1 ^ 0x1021 : check << 1);
+    }
+    return check;
+}
+
+/* The first frame of directives: its fields, and the PDU of its first packet, which has a CRC. */
+static cfdp_pdu guarded_pdu(const uint8_t *frame, uint32_t control)
+{
+    static const uint8_t insert[] = {0, 0, 0};
+    const uint8_t *packet = frame + 6 + sizeof insert + 2, *behind = frame + GUARDED - 6;
+    const size_t len = (size_t)(packet[4] << 8 | packet[5]) + 1;
+    cfdp_pdu pdu;
+    int at;
+
+    memset(&pdu, 0, sizeof pdu);
+    IS(memcmp(frame + 6, insert, sizeof insert), 0);
+    for (at = 0; at < 4; at++)
+        IS(behind[at], control >> (24 - 8 * at) & 0xFF);
+    IS(behind[4] << 8 | behind[5], check_of(frame, GUARDED - 2));
+    IS(cfdp_decode(packet + 6, len, &pdu), CFDP_OK);
+    IS(pdu.crc, 1);
+    IS(packet[6 + len - 2] << 8 | packet[6 + len - 1], check_of(packet + 6, len - 2));
+    return pdu;
+}
+
+/* All that is due goes over. Where asked for, the first frame of file data is damaged. */
+static void pass_guarded(cfdp_station *from, cfdp_station *to, bool damages)
+{
+    uint8_t frame[GUARDED];
+
+    while (cfdp_transmit(from, frame, sizeof frame) == CFDP_OK) {
+        if (damages && (frame[1] & 63) == 7) {
+            frame[100] ^= 1;
+            damages = false;
+        }
+        IS(cfdp_receive(to, frame, sizeof frame), CFDP_OK);
+    }
+    IS(damages, false);
+}
+
+/* A damaged frame is refused, and what it had is asked for again. */
+static void guarded(uint8_t checksum)
+{
+    cfdp_station one = CFDP_STATION_INIT, two = CFDP_STATION_INIT;
+    const cfdp_config first = guarded_config(1, checksum), second = guarded_config(2, checksum);
+    static uint8_t octets[5000], came[sizeof octets];
+    uint8_t frame[GUARDED];
+    uint32_t control = 9;
+    cfdp_pdu pdu;
+    cfdp_id id;
+    size_t at;
+
+    for (at = 0; at < sizeof octets; at++)
+        octets[at] = (uint8_t)(at % 251);
+    IS(cfdp_open(&one, &first), CFDP_OK);
+    IS(cfdp_open(&two, &second), CFDP_OK);
+    IS(cfdp_frame_len(&one), sizeof frame);
+    IS(cfdp_set_control_field(&one, 0x01020304), CFDP_OK);
+    IS(cfdp_add(&one, NAME_A, 1, octets, sizeof octets), CFDP_OK);
+    IS(cfdp_put(&one, NAME_A, 1, NAME_B, 1, &id), CFDP_OK);
+    IS(cfdp_transmit(&one, frame, sizeof frame), CFDP_OK);
+    pdu = guarded_pdu(frame, 0x01020304);
+    IS(pdu.kind, 7);
+    IS(pdu.checksum_kind, checksum);
+    IS(cfdp_control_field(&two, false, &control), CFDP_NOTHING);
+    IS(control, 9);
+    IS(cfdp_receive(&two, frame, sizeof frame), CFDP_OK);
+    IS(cfdp_control_field(&two, false, &control), CFDP_OK);
+    IS(control, 0x01020304);
+    IS(cfdp_control_field(&two, true, &control), CFDP_NOTHING);
+    IS(cfdp_set_control_field(&one, 0xFFFFFFFF), CFDP_OK);
+    pass_guarded(&one, &two, true);
+    IS(counted(&two).frames.damaged, 1);
+    IS(cfdp_control_field(&two, true, &control), CFDP_OK);
+    IS(control, 0xFFFFFFFF);
+    IS(cfdp_file_count(&two), 0);
+    IS(cfdp_transmit(&two, frame, sizeof frame), CFDP_OK);
+    pdu = guarded_pdu(frame, 0);
+    IS(pdu.kind, 6);
+    IS(cfdp_receive(&one, frame, sizeof frame), CFDP_OK);
+    pass_guarded(&two, &one, false);
+    IS(counted(&two).sent.naks, 1);
+    pass_guarded(&one, &two, false);
+    IS(counted(&one).sent.file_data_again != 0, 1);
+    pass_guarded(&two, &one, false);
+    pass_guarded(&one, &two, false);
+    IS(counted(&two).frames.damaged, 1);
+    IS(counted(&two).pdus.bad_crc, 0);
+    IS(cfdp_cancel(&one, &id), CFDP_ALREADY_CLOSED);
+    IS(cfdp_file_count(&two), 1);
+    IS(cfdp_read_file(&two, 0, 0, came, sizeof came), CFDP_OK);
+    IS(memcmp(came, octets, sizeof came), 0);
+    cfdp_close(&one);
+    cfdp_close(&two);
+    IS(live, 0);
+}
+
+/* Frames without these fields say nothing, and what is set for them is sent in none. */
+static void unguarded(void)
+{
+    cfdp_station one = CFDP_STATION_INIT, two = CFDP_STATION_INIT;
+    const cfdp_config first = config_of(1), second = config_of(2);
+    uint32_t control = 9;
+    cfdp_id id;
+
+    IS(cfdp_open(&one, &first), CFDP_OK);
+    IS(cfdp_open(&two, &second), CFDP_OK);
+    IS(cfdp_set_control_field(&one, 7), CFDP_OK);
+    IS(cfdp_add(&one, NAME_A, 1, OCTETS, sizeof OCTETS), CFDP_OK);
+    IS(cfdp_put(&one, NAME_A, 1, NAME_B, 1, &id), CFDP_OK);
+    IS(passed(&one, &two), 2);
+    IS(cfdp_file_count(&two), 1);
+    IS(cfdp_control_field(&two, false, &control), CFDP_NOTHING);
+    IS(cfdp_control_field(&two, true, &control), CFDP_NOTHING);
+    IS(control, 9);
+    cfdp_close(&one);
+    cfdp_close(&two);
+    IS(live, 0);
 }
 
 /* ---- calls that take no memory */
@@ -837,6 +1015,9 @@ int main(void)
     overtaken();
     filled();
     decodes();
+    guarded(2);
+    guarded(3);
+    unguarded();
     sent_without_memory();
     asked = 0;
     short_of_memory();

@@ -7,8 +7,9 @@
 
 In each case all files lie where they belong, the program runs, and `cc $(pkg-config --cflags --libs
 cfdp) YOURS.c` builds a program that transfers a file, with memory from malloc, and with memory of
-its own. Where a machine hasn't cc, pkg-config, dpkg-deb or man, a line says so. The last line is 'N
-passed, M failed'.
+its own. THIRD-PARTY names all crates of the toolchain that program and library stand on. Where a
+machine hasn't cc, pkg-config, dpkg-deb or man, a line says so. The last line is 'N passed, M
+failed'.
 """
 import os
 import re
@@ -131,7 +132,43 @@ def packed(room, others):
     return Tree(f"{room}/unpacked", "/usr", [*WANTED, *OF_DEB])
 
 
+# ---- licences
+
+def used_by(name):
+    """The crates of a line of crates.txt."""
+    with open(f"{TOP}/crates.txt", encoding="utf-8") as it:
+        lines = [line.split("#")[0].partition(":") for line in it]
+    return {head.split()[0]: deps.split() for head, _, deps in lines if head.strip()}.get(name)
+
+
+def of_toolchain(name, libraries, found):
+    """The crates of the toolchain that a crate stands on."""
+    deps = used_by(name)
+    if deps is None and name not in found:
+        found.add(name)
+        with open(f"{libraries}/{name}.rlib/format", encoding="utf-8") as it:
+            deps = re.findall(r"^dep (\w+)$", it.read(), re.M)
+    for it in deps or []:
+        of_toolchain(it, libraries, found)
+    return found
+
+
+def licence_mistakes():
+    """The crates of the toolchain that THIRD-PARTY doesn't name."""
+    folder = os.path.dirname(os.path.dirname(os.path.realpath(shutil.which("rt"))))
+    found = of_toolchain("cfdp_node", f"{folder}/rlibs", set())
+    found |= of_toolchain("cfdp_c", f"{folder}/rlibs", set())
+    with open(f"{TOP}/THIRD-PARTY", encoding="utf-8") as it:
+        named = set(re.findall(r"\w+", it.read().split("\n----")[0]))
+    # parts of `std` and of `jiff`
+    lacks = [it for it in sorted(found - named) if not it.startswith(("std_", "jiff_"))]
+    if lacks:
+        yield f"THIRD-PARTY doesn't name {', '.join(lacks)}"
+
+
 def all_runs(room, others):
+    if has("rt"):
+        yield "the licences", licence_mistakes()
     yield from installed(room, others).runs("packaging/install", room)
     if has("dpkg-deb"):
         yield from packed(room, others).runs("packaging/deb", room)

@@ -36,7 +36,7 @@ extern "C" {
 #endif
 
 /* The number of this interface. It grows by one wherever a call, a struct or a number changes. */
-#define CFDP_VERSION 4
+#define CFDP_VERSION 5
 
 /* That of the library that the program was linked with. */
 uint32_t cfdp_version(void);
@@ -80,7 +80,7 @@ enum {
 
     CFDP_FULL = 41, /* cfdp_poll: the PDU doesn't fit until frames were taken off */
 
-    /* cfdp_open, cfdp_open_folders: the first field of the configuration that isn't in its range */
+    /* cfdp_open, cfdp_open_folders: a field of the configuration that isn't in its range */
     CFDP_BAD_SIZE = 70, /* the program was compiled with another cfdp.h than the library's */
     CFDP_BAD_ID_WIDTH = 71,
     CFDP_BAD_ENTITY = 72, /* it doesn't fit id_width */
@@ -104,6 +104,13 @@ enum {
     CFDP_BAD_ON_ACK_LIMIT = 90,
     CFDP_BAD_ON_NAK_LIMIT = 91,
     CFDP_BAD_ON_INACTIVITY = 92,
+    CFDP_BAD_SENDS_INSERT_ZONE = 93,
+    CFDP_BAD_SENDS_CONTROL_FIELD = 94,
+    CFDP_BAD_SENDS_ERROR_CONTROL = 95,
+    CFDP_BAD_PDU_CRC = 96,
+    CFDP_BAD_RECEIVES_INSERT_ZONE = 97,
+    CFDP_BAD_RECEIVES_CONTROL_FIELD = 98,
+    CFDP_BAD_RECEIVES_ERROR_CONTROL = 99,
 
     /* cfdp_decode: 50 and the number of the refusal (docs/FORMATS.md), 51 to 61 but 56 */
     CFDP_BAD_PDU = 50
@@ -112,13 +119,19 @@ enum {
 /* ---- How a station is set up. */
 
 /* One direction of a link. It has two lanes, a virtual channel each: file data go on one, and all
- * other PDUs, the directives, on the other, so that they overtake file data. */
+ * other PDUs, the directives, on the other, so that they overtake file data. A frame has 8 octets
+ * more than its packet zone, and those of the three fields that it may have beside it (CCSDS
+ * 732.0-B-4, 4.1.3, 4.1.5, 4.1.6; FORMATS.md), by the last three of this struct. */
 typedef struct cfdp_link {
-    uint16_t zone;        /* octets of the packet zone, 16 to 2040; a frame has 8 more */
+    uint16_t zone;        /* octets of the packet zone, 16 to 2040 */
     uint16_t apid;        /* application process of the packets, 0 to 2046 */
     uint8_t spacecraft;   /* spacecraft of the frames */
     uint8_t virtual_channel;      /* that of directives, 0 to 62 */
     uint8_t data_virtual_channel; /* that of file data, 0 to 62, another than virtual_channel */
+    uint8_t insert_zone;   /* octets of the insert zone, 0 to 64: sent as zeros, and passed over */
+    uint8_t control_field; /* 1: with an operational control field, of 4 octets; else 0 */
+    uint8_t error_control; /* 1: with a frame error control field, of 2 octets, the check of all
+                              before it; else 0 */
 } cfdp_link;
 
 typedef struct cfdp_config {
@@ -133,6 +146,8 @@ typedef struct cfdp_config {
     uint32_t inactivity_time; /* .. any PDU of a transaction */
     cfdp_link sends;          /* the frames that it sends */
     cfdp_link receives;       /* the frames that it receives: the peer's sends */
+    uint8_t pdu_crc;          /* 1: the PDUs of the files that it sends, and those that answer them,
+                                 end in a CRC, of 2 octets; else 0 */
     uint16_t segment;         /* most octets of a file in a PDU, 1 to 4096 */
     uint8_t id_width;         /* octets of an entity id, 1 to 8 */
     uint8_t number_width;     /* octets of a sequence number, 1 to 8 */
@@ -145,13 +160,15 @@ typedef struct cfdp_config {
     uint8_t on_inactivity;
 } cfdp_config;
 
-/* Fills in the defaults where size says that the struct is the library's, else nothing. */
+/* Fills in the defaults where size says that the struct is the library's, else nothing. No two
+ * versions of the struct have as many octets: that of a program which was compiled with an older
+ * cfdp.h, or a newer one, is left as it is, and cfdp_open answers CFDP_BAD_SIZE. */
 void cfdp_fill_defaults(cfdp_config *config);
 
 /* Fills in the size, and the defaults: those of station 1 of a script, with ids 1 and 2, zones of
  * 256 octets, spacecraft 42, channels 5 and 7 (file data) and APID 100 for what it sends, 6, 8 and
- * 101 for what it receives, times of 10 and of 100 for inactivity, limits of 3. Station 2 has the
- * ids, and the links, the other way round. */
+ * 101 for what it receives, frames without fields, PDUs without a CRC, times of 10 and of 100 for
+ * inactivity, limits of 3. Station 2 has the ids, and the links, the other way round. */
 static inline void cfdp_defaults(cfdp_config *config)
 {
     config->size = sizeof *config;
@@ -170,7 +187,7 @@ typedef struct cfdp_station {
 #define CFDP_STATION_INIT {NULL, false}
 
 /* Opens a closed handle on a station that has no transactions and no files. CFDP_OK,
- * CFDP_ALREADY_OPEN, CFDP_NO_MEMORY, or 70 to 92: that field of the configuration isn't in its
+ * CFDP_ALREADY_OPEN, CFDP_NO_MEMORY, or 70 to 99: that field of the configuration isn't in its
  * range. */
 cfdp_answer cfdp_open(cfdp_station *station, const cfdp_config *config);
 
@@ -181,7 +198,7 @@ cfdp_answer cfdp_open(cfdp_station *station, const cfdp_config *config);
  * device before it gets its name, in the place of a file that has it. Names of files have 1 to 64
  * of A-Z a-z 0-9 . _ - and don't begin with a point. A file mustn't change while it is sent: that
  * is noticed where its length does. No other station, of whichever process, can receive into the
- * inbox as long as the handle is open. CFDP_OK, CFDP_ALREADY_OPEN, 70 to 92 as cfdp_open,
+ * inbox as long as the handle is open. CFDP_OK, CFDP_ALREADY_OPEN, 70 to 99 as cfdp_open,
  * CFDP_NO_OUTBOX, CFDP_NO_INBOX, CFDP_INBOX_IN_USE or CFDP_NO_MEMORY. */
 cfdp_answer cfdp_open_folders(cfdp_station *station, const cfdp_config *config,
                               const uint8_t *outbox, size_t outbox_len, const uint8_t *inbox,
@@ -275,7 +292,8 @@ cfdp_answer cfdp_transmit(cfdp_station *station, uint8_t *frame, size_t room);
 
 /* Moves the PDU whose turn it is into the frames of its lane. CFDP_OK where one was moved: poll
  * again; CFDP_NOTHING where none is due: flush; CFDP_FULL, where its lane has no room for it: take
- * frames off first. CFDP_SOURCE_FAULT, CFDP_CLOSED, or CFDP_NO_MEMORY: nothing has changed then. */
+ * frames off first; CFDP_SOURCE_FAULT, where the outbox failed, for which the transaction is
+ * cancelled: poll again; CFDP_CLOSED; or CFDP_NO_MEMORY: nothing has changed then. */
 cfdp_answer cfdp_poll(cfdp_station *station);
 
 /* Fills the begun frame of each lane, so that all that was polled can leave. CFDP_OK or
@@ -294,11 +312,21 @@ size_t cfdp_frames_ahead(const cfdp_station *station);
  * or CFDP_NOTHING where no whole frame waits. */
 cfdp_answer cfdp_next_frame(cfdp_station *station, uint8_t *frame, size_t room);
 
+/* Has this in the operational control field of the frames that leave from now on, of both lanes, if
+ * those that it sends have one; at first it is 0. CFDP_OK or CFDP_CLOSED. */
+cfdp_answer cfdp_set_control_field(cfdp_station *station, uint32_t control);
+
 /* ---- Up. */
 
 /* Takes a frame of either lane, of any length and with any octets. What can't be used of it is
  * dropped and counted. CFDP_OK or CFDP_CLOSED. */
 cfdp_answer cfdp_receive(cfdp_station *station, const uint8_t *frame, size_t len);
+
+/* Tells what the operational control field says of the last frame that came and was one of a lane:
+ * of that of file data where true, else of that of directives. A damaged frame is one of neither.
+ * CFDP_OK, CFDP_CLOSED, or CFDP_NOTHING where none came, or the frames that it receives have no
+ * such field. */
+cfdp_answer cfdp_control_field(const cfdp_station *station, bool file_data, uint32_t *control);
 
 /* How often something of a frame of either lane was dropped, by the cause (docs/FORMATS.md). No
  * count goes beyond the greatest of 64 bits. */
@@ -314,6 +342,7 @@ typedef struct cfdp_frame_drops {
     uint64_t other_apid;       /* a packet is of another application process */
     uint64_t segmented;        /* a packet is a segment, or has a secondary header */
     uint64_t no_memory;        /* there was no memory for what the zone holds */
+    uint64_t damaged;          /* its check tells that it was damaged on the way */
 } cfdp_frame_drops;
 
 /* How often a PDU was dropped, by the cause. */
@@ -385,6 +414,7 @@ static inline const char *cfdp_drop_text(size_t drop)
         "the packet is of another application process",
         "the packet is a segment, or has a secondary header",
         "there was no memory for a packet",
+        "the frame was damaged on the way",
         "the PDU is shorter than a header",
         "the version of the PDU is another",
         "the CRC of the PDU is wrong",
@@ -487,7 +517,7 @@ typedef struct cfdp_pdu {
     uint64_t destination;  /* the entity that receives the file */
     uint64_t offset;       /* of file data; where a NAK's scope starts; progress of a Keep Alive */
     uint64_t size;         /* of the file; where a NAK's scope ends */
-    size_t data_len;       /* octets of file data: the last ones of the PDU */
+    size_t data_len;       /* octets of file data: the last ones of the PDU, but for its CRC */
     size_t pairs;          /* ranges that a NAK asks for */
     uint32_t checksum;     /* of an EOF */
     uint8_t kind;          /* 0 file data, 4 EOF, 5 Finished, 6 ACK, 7 Metadata, 8 NAK, 9 Prompt,
@@ -500,6 +530,7 @@ typedef struct cfdp_pdu {
     uint8_t checksum_kind; /* of Metadata */
     uint8_t keep_alive;    /* of a Prompt: 1 for a Keep Alive, 0 for a NAK */
     uint8_t large;         /* 1 where sizes and offsets have 8 octets, 0 where they have 4 */
+    uint8_t crc;           /* 1 where the PDU ends in a CRC, of 2 octets, else 0 */
 } cfdp_pdu;
 
 /* Reads a PDU. CFDP_OK, or CFDP_BAD_PDU and the number of the first thing that is wrong. */
@@ -561,6 +592,13 @@ static inline const char *cfdp_answer_text(cfdp_answer answer)
     case CFDP_BAD_ON_ACK_LIMIT: return "on_ack_limit is not 0 to 3";
     case CFDP_BAD_ON_NAK_LIMIT: return "on_nak_limit is not 0 to 3";
     case CFDP_BAD_ON_INACTIVITY: return "on_inactivity is not 0 to 3";
+    case CFDP_BAD_SENDS_INSERT_ZONE: return "sends.insert_zone is not 0 to 64";
+    case CFDP_BAD_SENDS_CONTROL_FIELD: return "sends.control_field is neither 0 nor 1";
+    case CFDP_BAD_SENDS_ERROR_CONTROL: return "sends.error_control is neither 0 nor 1";
+    case CFDP_BAD_PDU_CRC: return "pdu_crc is neither 0 nor 1";
+    case CFDP_BAD_RECEIVES_INSERT_ZONE: return "receives.insert_zone is not 0 to 64";
+    case CFDP_BAD_RECEIVES_CONTROL_FIELD: return "receives.control_field is neither 0 nor 1";
+    case CFDP_BAD_RECEIVES_ERROR_CONTROL: return "receives.error_control is neither 0 nor 1";
     default: break;
     }
     return answer > CFDP_BAD_PDU && answer < 70 ? "the octets are no PDU" : "no answer";

@@ -26,6 +26,14 @@ extern "C" {
 /* A file of so many octets that is being received, or was and isn't removed yet. */
 #define CFDP_POOL_RECEIVED(len) ((size_t)2 * (len) + 4096)
 
+/* A file that is sent from a folder, or comes into one, of whatever size. */
+#define CFDP_POOL_IN_FOLDER ((size_t)68 * 1024)
+
+/* So many gaps at a time in what came of a file, at the station that sends it and at that which
+ * receives it: what was lost between two pieces that came is one. A file of 3,000 octets needs none
+ * of these. */
+#define CFDP_POOL_GAPS(count) ((size_t)64 * (count))
+
 /* How much of the array is in use, in octets, with what each block has before it. */
 size_t cfdp_pool_used(void);
 

@@ -1,5 +1,5 @@
 /* A file from a folder into another one, by two stations in one process, over a link that loses
- * every seventh frame:
+ * one frame of seven:
  *
  *     folders OUTBOX INBOX NAME [DESTINATION]
  *
@@ -39,14 +39,24 @@ static cfdp_answer open_station(cfdp_station *station, int number, const char *o
                              (const uint8_t *)inbox, strlen(inbox));
 }
 
+/* Whether the link loses a frame: one of seven, by chance, and in each run the same. Were it each
+ * seventh, the same PDU might be lost for ever. */
+static bool is_lost(void)
+{
+    static uint32_t state = 1;
+
+    state = state * 1664525 + 1013904223;
+    return (state >> 16) % LOST == 0;
+}
+
 /* Takes what one station has to send to the other. */
-static void pass_frames(cfdp_station *from, cfdp_station *to, unsigned long *frames)
+static void pass_frames(cfdp_station *from, cfdp_station *to)
 {
     uint8_t frame[MOST_FRAME];
     size_t len = cfdp_frame_len(from);
 
     while (cfdp_transmit(from, frame, len) == CFDP_OK)
-        if (++*frames % LOST != 0)
+        if (!is_lost())
             cfdp_receive(to, frame, len);
 }
 
@@ -68,7 +78,6 @@ static bool is_over(cfdp_station *station, int *status)
 
 static int transfer(cfdp_station *one, cfdp_station *two, const char *name, const char *destination)
 {
-    unsigned long frames = 0;
     cfdp_answer answer;
     cfdp_id id;
     int status = 1;
@@ -79,8 +88,8 @@ static int transfer(cfdp_station *one, cfdp_station *two, const char *name, cons
     if (answer != CFDP_OK)
         return refused("cfdp_put", answer);
     for (turn = 0; turn < TURNS && !is_over(one, &status); turn++) {
-        pass_frames(one, two, &frames);
-        pass_frames(two, one, &frames);
+        pass_frames(one, two);
+        pass_frames(two, one);
         cfdp_tick(one, (uint64_t)turn);
         cfdp_tick(two, (uint64_t)turn);
     }

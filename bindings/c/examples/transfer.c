@@ -1,4 +1,4 @@
-/* A file by two stations in one process, over a link that loses every seventh frame:
+/* A file by two stations in one process, over a link that loses one frame of seven:
  *
  *     transfer [OCTETS]
  *
@@ -119,6 +119,16 @@ static void read_indications(struct end *end, int number)
 
 /* ---- Two stations in one process. */
 
+/* Whether the link loses a frame: one of seven, by chance, and in each run the same. Were it each
+ * seventh, the same PDU might be lost for ever. */
+static bool is_lost(void)
+{
+    static uint32_t state = 1;
+
+    state = state * 1664525 + 1013904223;
+    return (state >> 16) % LOST == 0;
+}
+
 struct link {
     unsigned long frames;
     unsigned long lost;
@@ -129,9 +139,11 @@ static void pass_frames(struct link *link, struct end *from, struct end *to)
     uint8_t frame[MOST_FRAME];
 
     while (cfdp_transmit(&from->station, frame, from->frame_len) == CFDP_OK) {
-        if (++link->frames % LOST == 0)
-            link->lost++;
-        else
+        const bool lost = is_lost();
+
+        link->frames++;
+        link->lost += lost;
+        if (!lost)
             cfdp_receive(&to->station, frame, from->frame_len);
     }
 }

@@ -1,4 +1,4 @@
-/* Stations with folders: files both ways, over a link that loses each seventh frame, and what is
+/* Stations with folders: files both ways, over a link that loses one frame of seven, and what is
  * refused.
  *
  *     folders FOLDER
@@ -113,7 +113,14 @@ static cfdp_answer put(cfdp_station *station, const char *source, const char *de
                     strlen(destination), &id);
 }
 
-static unsigned long frames;
+/* Whether a frame is lost: one of seven, by chance. */
+static bool is_lost(void)
+{
+    static uint32_t state = 1;
+
+    state = state * 1664525 + 1013904223;
+    return (state >> 16) % LOST == 0;
+}
 
 static void pass_frames(cfdp_station *from, cfdp_station *to)
 {
@@ -121,8 +128,30 @@ static void pass_frames(cfdp_station *from, cfdp_station *to)
     size_t len = cfdp_frame_len(from);
 
     while (cfdp_transmit(from, frame, len) == CFDP_OK)
-        if (++frames % LOST != 0)
+        if (!is_lost())
             cfdp_receive(to, frame, len);
+}
+
+/* All that is due goes over, step by step, by the loop of docs/EMBEDDING.md. How often the outbox
+ * failed. */
+static int passed_by_steps(cfdp_station *from, cfdp_station *to)
+{
+    const size_t len = cfdp_frame_len(from);
+    uint8_t frame[MOST_FRAME];
+    cfdp_answer answer;
+    int faults = 0;
+
+    do {
+        answer = cfdp_poll(from);
+        faults += answer == CFDP_SOURCE_FAULT;
+        if (answer == CFDP_NOTHING)
+            cfdp_flush(from);
+        if (answer != CFDP_OK && answer != CFDP_SOURCE_FAULT)
+            while (cfdp_next_frame(from, frame, len) == CFDP_OK)
+                cfdp_receive(to, frame, len);
+    } while (answer == CFDP_OK || answer == CFDP_FULL || answer == CFDP_SOURCE_FAULT);
+    IS(answer, CFDP_NOTHING);
+    return faults;
 }
 
 /* How many transactions a station said to be over, and the greatest condition of these. */
@@ -290,6 +319,27 @@ static void failures(cfdp_station *one, cfdp_station *two)
     IS(is_there("in2/again"), 0);
 }
 
+/* A file that gets shorter ends its transaction, and the one behind it goes on in the same loop. */
+static void goes_on(cfdp_station *one, cfdp_station *two)
+{
+    struct ended ended = {0, 0};
+
+    IS(cfdp_forget_closed(one), CFDP_OK);
+    IS(cfdp_forget_closed(two), CFDP_OK);
+    IS(put(one, "long", "again"), CFDP_OK);
+    IS(put(one, "one", "behind"), CFDP_OK);
+    IS(cfdp_poll(one), CFDP_OK);
+    IS(truncate("out1/long", LONG / 4), 0);
+    IS(passed_by_steps(one, two), 1);
+    IS(passed_by_steps(two, one), 0);
+    IS(passed_by_steps(one, two), 0);
+    read_indications(one, &ended);
+    IS(ended.count, 2);
+    IS(ended.condition, FILESTORE);
+    IS(is_there("in2/again"), 0);
+    IS(is_file("in2/behind", 1, 2), 1);
+}
+
 int main(int count, char **words)
 {
     cfdp_station one = CFDP_STATION_INIT, two = CFDP_STATION_INIT;
@@ -308,6 +358,7 @@ int main(int count, char **words)
     opening_refused(&one);
     parts_removed();
     failures(&one, &two);
+    goes_on(&one, &two);
     cfdp_close(&one);
     cfdp_close(&two);
     return mistakes != 0;

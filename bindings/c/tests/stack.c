@@ -1,13 +1,21 @@
-/* How much stack each call takes, in a transfer of a file that loses frames. Prints the most that
- * each call took, with its caller's frame, and ends with status 1 where one took more than cfdp.h
- * says. tests/bindings.py builds and runs it. */
+/* How much stack each call takes, in a transfer of a file that loses frames.
+ *
+ *     stack [FOLDER]
+ *
+ * FOLDER is empty; with it a second transfer goes from folder to folder. Prints the most that each
+ * call took, with its caller's frame, and ends with status 1 where one took more than cfdp.h says.
+ * tests/bindings.py builds and runs it. */
+#define _POSIX_C_SOURCE 200809L
 #include "cfdp.h"
 
 #include <stdio.h>
 #include <stdlib.h>
 #include <string.h>
+#include <sys/stat.h>
+#include <unistd.h>
 
-enum { SAID = 32 * 1024, PAINTED = 128 * 1024, FILE_LEN = 100 * 1000, LOST = 7, CALLS = 64 };
+enum { SAID = 32 * 1024, SAID_OF_FOLDERS = 64 * 1024, PAINTED = 128 * 1024 };
+enum { FILE_LEN = 100 * 1000, LOST = 7, CALLS = 64, MEASURED = 33 };
 
 /* ---- the stack below: filled, and looked at later. Both functions and the calls between them are
  * called from one place, so that they have the same octets of it. */
@@ -58,26 +66,44 @@ static void note(const char *name, size_t octets)
 
 /* ---- a transfer */
 
-static const uint8_t NAME[] = {'a'};
+static const uint8_t NAME[] = {'a'}, OUT[] = {'o'}, IN[] = {'i'}, BACK[] = {'b'};
 static uint8_t octets[FILE_LEN], copy[FILE_LEN], frame[2048], names[CFDP_NAMES];
+static bool in_folders;
+
+static void open_one(cfdp_station *station, const cfdp_config *config, const uint8_t *inbox)
+{
+    static const cfdp_station closed = CFDP_STATION_INIT;
+    cfdp_answer answer;
+
+    *station = closed;
+    if (in_folders)
+        TAKES(cfdp_open_folders, answer = cfdp_open_folders(station, config, OUT, 1, inbox, 1));
+    else
+        TAKES(cfdp_open, answer = cfdp_open(station, config));
+    if (answer != CFDP_OK)
+        exit(2);
+}
 
 static void open_both(cfdp_station *one, cfdp_station *two)
 {
-    static const cfdp_station closed = CFDP_STATION_INIT;
     cfdp_config config;
     cfdp_link sends;
 
-    cfdp_defaults(&config);
-    *one = *two = closed;
+    config.size = sizeof config;
+    TAKES(cfdp_fill_defaults, cfdp_fill_defaults(&config));
     config.segment = 4096;
+    config.pdu_crc = 1;
+    config.checksum = 3;
+    config.sends.control_field = config.sends.error_control = 1;
+    config.receives.control_field = config.receives.error_control = 1;
     config.eof_limit = config.nak_limit = config.finished_limit = 255;
     config.on_inactivity = 2;
-    TAKES(cfdp_open, cfdp_open(one, &config));
+    open_one(one, &config, BACK);
     sends = config.sends;
     config.sends = config.receives;
     config.receives = sends;
     config.entity = 2, config.peer = 1;
-    TAKES(cfdp_open, cfdp_open(two, &config));
+    open_one(two, &config, IN);
 }
 
 /* Whether a frame is lost: one of seven, by chance. */
@@ -92,9 +118,10 @@ static bool is_lost(void)
 /* All that is due of a station, but what is lost. */
 static void pass(cfdp_station *from, cfdp_station *to)
 {
-    const size_t len = cfdp_frame_len(from);
     cfdp_answer answer = CFDP_OK;
+    size_t len;
 
+    TAKES(cfdp_frame_len, len = cfdp_frame_len(from));
     while (answer == CFDP_OK) {
         TAKES(cfdp_transmit, answer = cfdp_transmit(from, frame, len));
         if (answer == CFDP_OK && !is_lost())
@@ -109,8 +136,11 @@ static void look_at(cfdp_station *station, const cfdp_id *id)
 {
     cfdp_counts counts;
     cfdp_indication told;
+    cfdp_transaction it;
     cfdp_answer answer = CFDP_OK;
     uint64_t deadline;
+    uint32_t control;
+    size_t cursor = 0;
     uint8_t was;
 
     while (answer == CFDP_OK)
@@ -120,6 +150,22 @@ static void look_at(cfdp_station *station, const cfdp_id *id)
     TAKES(cfdp_next_timeout, cfdp_next_timeout(station, &deadline));
     TAKES(cfdp_was_forgotten, cfdp_was_forgotten(station, id, &was));
     TAKES(cfdp_frames_ahead, cfdp_frames_ahead(station));
+    TAKES(cfdp_transactions, cfdp_transactions(station, &cursor, &it));
+    TAKES(cfdp_records_left, cfdp_records_left(station));
+    TAKES(cfdp_control_field, cfdp_control_field(station, true, &control));
+}
+
+/* What no station has to do with. */
+static void look_at_none(void)
+{
+    static const uint8_t prompt[] = {0x20, 0, 2, 0x13, 0, 1, 0, 0, 0, 1, 0, 2, 9, 0x80};
+    cfdp_pdu pdu;
+    cfdp_answer answer;
+
+    TAKES(cfdp_decode, answer = cfdp_decode(prompt, sizeof prompt, &pdu));
+    TAKES(cfdp_version, cfdp_version());
+    if (answer != CFDP_OK)
+        exit(4);
 }
 
 static void read_file(cfdp_station *two)
@@ -129,9 +175,26 @@ static void read_file(cfdp_station *two)
     TAKES(cfdp_file_count, cfdp_file_count(two));
     TAKES(cfdp_file, cfdp_file(two, 0, &info, names, sizeof names));
     TAKES(cfdp_read_file, cfdp_read_file(two, 0, 0, copy, info.size));
-    if (info.size != FILE_LEN || memcmp(copy, octets, FILE_LEN) != 0)
+    if (!in_folders && (info.size != FILE_LEN || memcmp(copy, octets, FILE_LEN) != 0))
         exit(3);
     TAKES(cfdp_remove_file, cfdp_remove_file(two, NAME, sizeof NAME));
+}
+
+/* Whether two stations are done, each with all that it knows of. */
+static bool is_over(const cfdp_station *one, const cfdp_station *two)
+{
+    const cfdp_station *both[2];
+    cfdp_transaction it = {{0, 0}, 0};
+    size_t at;
+
+    both[0] = one, both[1] = two;
+    for (at = 0; at < 2; at++) {
+        size_t cursor = 0;
+
+        if (cfdp_transactions(both[at], &cursor, &it) != CFDP_OK || it.phase != CFDP_OVER)
+            return false;
+    }
+    return true;
 }
 
 static void transfer(void)
@@ -147,7 +210,8 @@ static void transfer(void)
     TAKES(cfdp_prompt, cfdp_prompt(&one, &id, true));
     TAKES(cfdp_suspend, cfdp_suspend(&one, &id));
     TAKES(cfdp_resume, cfdp_resume(&one, &id));
-    for (now = 1; cfdp_file_count(&two) == 0 && now < 1000; now++) {
+    TAKES(cfdp_set_control_field, cfdp_set_control_field(&one, 7));
+    for (now = 1; !is_over(&one, &two) && now < 100000; now++) {
         TAKES(cfdp_tick, cfdp_tick(&one, now));
         TAKES(cfdp_tick, cfdp_tick(&two, now));
         pass(&one, &two);
@@ -164,16 +228,58 @@ static void transfer(void)
     TAKES(cfdp_close, cfdp_close(&two));
 }
 
-int main(void)
+/* The transfer, and what it took; whether each call took at most what is said. */
+static bool is_measured(const char *where, size_t said)
 {
     size_t at, most = 0;
 
-    for (at = 0; at < FILE_LEN; at++)
-        octets[at] = (uint8_t)(at * 7 + at / 256);
+    memset(calls, 0, sizeof calls);
     transfer();
+    look_at_none();
+    printf("%s:\n", where);
     for (at = 0; calls[at].name != NULL; at++) {
         printf("%-22s %6lu octets of stack\n", calls[at].name, (unsigned long)calls[at].most);
         most = calls[at].most > most ? calls[at].most : most;
     }
-    return most <= SAID && at > 20 ? 0 : 1;
+    return most <= said && at == MEASURED;
+}
+
+/* Two folders to receive into, and one with the file. */
+static bool has_made_folders(const char *folder)
+{
+    FILE *file;
+    bool is_written;
+
+    if (chdir(folder) != 0 || mkdir("o", 0777) != 0 || mkdir("i", 0777) != 0
+        || mkdir("b", 0777) != 0)
+        return false;
+    file = fopen("o/a", "wb");
+    is_written = file != NULL && fwrite(octets, 1, FILE_LEN, file) == FILE_LEN;
+    return file != NULL && fclose(file) == 0 && is_written;
+}
+
+static bool is_in_the_inbox(void)
+{
+    FILE *file = fopen("i/a", "rb");
+    size_t len = file != NULL ? fread(copy, 1, FILE_LEN, file) : 0;
+
+    if (file != NULL)
+        fclose(file);
+    return len == FILE_LEN && memcmp(copy, octets, FILE_LEN) == 0;
+}
+
+int main(int count, char **words)
+{
+    bool is_good;
+    size_t at;
+
+    for (at = 0; at < FILE_LEN; at++)
+        octets[at] = (uint8_t)(at * 7 + at / 256);
+    is_good = is_measured("files in memory", SAID);
+    if (count > 1) {
+        in_folders = true;
+        is_good = has_made_folders(words[1]) && is_measured("files in folders", SAID_OF_FOLDERS)
+            && is_in_the_inbox() && is_good;
+    }
+    return is_good ? 0 : 1;
 }

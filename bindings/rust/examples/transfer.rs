@@ -1,4 +1,4 @@
-//! A file by two stations in one process, over a link that loses every seventh frame:
+//! A file by two stations in one process, over a link that loses one frame of seven:
 //!
 //!     transfer [OCTETS]
 //!
@@ -9,7 +9,7 @@ use cfdp::{Config, Error, Indication, Station};
 use std::net::UdpSocket;
 use std::time::{Duration, Instant};
 
-const LOST: u64 = 7;
+const LOST: u32 = 7;
 const SOURCE: &[u8] = b"image.raw";
 const DESTINATION: &[u8] = b"received.raw";
 
@@ -18,7 +18,13 @@ type Failure = Box<dyn std::error::Error>;
 /// Station 1 or 2. What isn't answered is sent again as often as it takes.
 fn config(number: u8, patience: u32) -> Config {
     let one = cfdp::defaults();
-    let two = Config { entity: one.peer, peer: one.entity, sends: one.receives, receives: one.sends, ..one };
+    let two = Config {
+        entity: one.peer,
+        peer: one.entity,
+        sends: one.receives,
+        receives: one.sends,
+        ..one
+    };
     Config {
         eof_time: patience,
         nak_time: patience,
@@ -60,33 +66,51 @@ fn ending(station: &mut Station, number: u8) -> Option<bool> {
     ending
 }
 
-/// Passes on all that is due but every seventh frame, counted over both directions.
-fn pass_frames(frames: &mut u64, from: &mut Station, to: &mut Station) -> Result<(), Error> {
-    while let Some(frame) = from.transmit()? {
-        *frames += 1;
-        if *frames % LOST != 0 {
-            to.receive(&frame);
-        }
+/// What became of frames.
+struct Link {
+    state: u32,
+    frames: u64,
+    lost: u64,
+}
+
+impl Link {
+    /// Whether it loses a frame: one of seven, by chance, and in each run the same. Were it each
+    /// seventh, the same PDU might be lost for ever.
+    fn loses(&mut self) -> bool {
+        self.state = self.state.wrapping_mul(1_664_525).wrapping_add(1_013_904_223);
+        (self.state >> 16) % LOST == 0
     }
-    Ok(())
+
+    /// Passes on all that is due but what is lost.
+    fn pass(&mut self, from: &mut Station, to: &mut Station) -> Result<(), Error> {
+        while let Some(frame) = from.transmit()? {
+            let is_lost = self.loses();
+            self.frames += 1;
+            self.lost += u64::from(is_lost);
+            if !is_lost {
+                to.receive(&frame);
+            }
+        }
+        Ok(())
+    }
 }
 
 fn transfer_here(octets: &[u8]) -> Result<bool, Failure> {
     let (mut one, mut two) = (Station::open(&config(1, 10))?, Station::open(&config(2, 10))?);
-    let (mut frames, mut endings) = (0, [None, None]);
+    let (mut link, mut endings) = (Link { state: 1, frames: 0, lost: 0 }, [None, None]);
     send_file(&mut one, octets)?;
     for now in 1..100_000 {
         one.tick(now)?;
         two.tick(now)?;
-        pass_frames(&mut frames, &mut one, &mut two)?;
-        pass_frames(&mut frames, &mut two, &mut one)?;
+        link.pass(&mut one, &mut two)?;
+        link.pass(&mut two, &mut one)?;
         endings[0] = endings[0].or(ending(&mut one, 1));
         endings[1] = endings[1].or(ending(&mut two, 2));
         if endings.iter().all(Option::is_some) {
             break;
         }
     }
-    println!("{frames} frames, {} lost", frames / LOST);
+    println!("{} frames, {} lost", link.frames, link.lost);
     let is_published = two.file(0).is_some_and(|it| it.name == DESTINATION && it.octets == octets);
     if is_published {
         println!("published as it was sent");

@@ -50,8 +50,8 @@ pub enum Error {
     Other(u32),
 }
 
-/// The fields of a configuration, by the numbers 70 to 92.
-const FIELDS: [&str; 23] = [
+/// The fields of a configuration, by the numbers 70 to 99.
+const FIELDS: [&str; 30] = [
     "size",
     "id_width",
     "entity",
@@ -75,6 +75,13 @@ const FIELDS: [&str; 23] = [
     "on_ack_limit",
     "on_nak_limit",
     "on_inactivity",
+    "sends.insert_zone",
+    "sends.control_field",
+    "sends.error_control",
+    "pdu_crc",
+    "receives.insert_zone",
+    "receives.control_field",
+    "receives.error_control",
 ];
 
 impl Error {
@@ -101,7 +108,7 @@ impl Error {
             35 => Error::StillOpen,
             36 => Error::AnswerDue,
             51..=61 => Error::BadPdu((answer - 50) as u8),
-            70..=92 => Error::BadField(FIELDS[(answer - 70) as usize]),
+            70..=99 => Error::BadField(FIELDS[(answer - 70) as usize]),
             other => Error::Other(other),
         }
     }

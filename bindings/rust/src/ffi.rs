@@ -9,7 +9,9 @@ pub const NOTHING: u32 = 6;
 pub const FULL: u32 = 41;
 
 /// One direction of a link. Directives go on `virtual_channel`, file data on
-/// `data_virtual_channel`.
+/// `data_virtual_channel`. Frames have an insert zone of so many octets; an operational control
+/// field where `control_field` is 1, else 0; and a frame error control field where `error_control`
+/// is 1, else 0.
 #[repr(C)]
 #[derive(Clone, Copy, Debug, Default, PartialEq, Eq)]
 pub struct Link {
@@ -18,6 +20,9 @@ pub struct Link {
     pub spacecraft: u8,
     pub virtual_channel: u8,
     pub data_virtual_channel: u8,
+    pub insert_zone: u8,
+    pub control_field: u8,
+    pub error_control: u8,
 }
 
 /// How a station is set up; `cfdp.h` has the ranges.
@@ -36,6 +41,9 @@ pub struct Config {
     pub inactivity_time: u32,
     pub sends: Link,
     pub receives: Link,
+    /// 1 where the PDUs of the files that it sends, and those that answer them, end in a CRC, else
+    /// 0.
+    pub pdu_crc: u8,
     pub segment: u16,
     pub id_width: u8,
     pub number_width: u8,
@@ -101,6 +109,7 @@ pub struct FrameDrops {
     pub other_apid: u64,
     pub segmented: u64,
     pub no_memory: u64,
+    pub damaged: u64,
 }
 
 /// How often a PDU was dropped, by the cause; `cfdp.h` explains each.
@@ -127,7 +136,7 @@ pub struct PduDrops {
 
 impl FrameDrops {
     /// Each cause, by its name, with how often it was one.
-    pub fn causes(&self) -> [(&'static str, u64); 11] {
+    pub fn causes(&self) -> [(&'static str, u64); 12] {
         [
             ("bad_length", self.bad_length),
             ("bad_version", self.bad_version),
@@ -140,6 +149,7 @@ impl FrameDrops {
             ("other_apid", self.other_apid),
             ("segmented", self.segmented),
             ("no_memory", self.no_memory),
+            ("damaged", self.damaged),
         ]
     }
 }
@@ -207,6 +217,7 @@ pub struct Pdu {
     pub checksum_kind: u8,
     pub keep_alive: u8,
     pub large: u8,
+    pub crc: u8,
 }
 
 /// A handle.
@@ -259,7 +270,9 @@ unsafe extern "C" {
     safe fn cfdp_frame_len(station: &mut Handle) -> usize;
     safe fn cfdp_frames_ahead(station: &mut Handle) -> usize;
     fn cfdp_next_frame(station: &mut Handle, frame: *mut u8, room: usize) -> u32;
+    safe fn cfdp_set_control_field(station: &mut Handle, control: u32) -> u32;
     fn cfdp_receive(station: &mut Handle, frame: *const u8, len: usize) -> u32;
+    safe fn cfdp_control_field(station: &mut Handle, file_data: bool, control: &mut u32) -> u32;
     safe fn cfdp_counters(station: &mut Handle, counts: &mut Counters) -> u32;
     safe fn cfdp_tick(station: &mut Handle, now: u64) -> u32;
     safe fn cfdp_next_timeout(station: &mut Handle, deadline: &mut u64) -> u32;
@@ -385,6 +398,14 @@ impl Handle {
     pub fn receive(&mut self, frame: &[u8]) -> u32 {
         // SAFETY: the slice is readable for its length.
         unsafe { cfdp_receive(self, frame.as_ptr(), frame.len()) }
+    }
+
+    pub fn set_control_field(&mut self, control: u32) -> u32 {
+        cfdp_set_control_field(self, control)
+    }
+
+    pub fn control_field(&mut self, file_data: bool, control: &mut u32) -> u32 {
+        cfdp_control_field(self, file_data, control)
     }
 
     pub fn counters(&mut self, counts: &mut Counters) -> u32 {

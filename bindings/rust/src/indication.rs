@@ -1,7 +1,7 @@
 use crate::ffi::{self, Handle, Id, Told};
 
-/// What a station reports to its user of a transaction (CCSDS 727.0-B-5, section 3). Conditions are the
-/// standard's codes, 0 where all went well.
+/// What a station reports to its user of a transaction (CCSDS 727.0-B-5, section 3). Conditions are
+/// the standard's codes, 0 where all went well.
 #[derive(Clone, Debug, PartialEq, Eq)]
 #[non_exhaustive]
 pub enum Indication {

@@ -61,6 +61,15 @@ pub enum Polled {
     SourceFailed,
 }
 
+/// One of the two lanes of a direction: virtual channels of their own.
+#[derive(Clone, Copy, Debug, PartialEq, Eq, Hash)]
+pub enum Lane {
+    /// That of directives: all PDUs but file data.
+    Directives,
+    /// That of file data.
+    FileData,
+}
+
 /// A published file.
 #[derive(Clone, Debug, PartialEq, Eq)]
 pub struct File {
@@ -230,6 +239,21 @@ impl Station {
     /// Takes a frame of either lane, whatever its octets are.
     pub fn receive(&mut self, frame: &[u8]) {
         self.handle.receive(frame);
+    }
+
+    /// Has this in the operational control field of the frames that leave from now on, of both
+    /// lanes, if [`Config::sends`] has such a field; at first it is 0.
+    pub fn set_control_field(&mut self, control: u32) {
+        self.handle.set_control_field(control);
+    }
+
+    /// The operational control field of the last frame that came and was one of a lane; `None`
+    /// where none came, or [`Config::receives`] has no such field. A damaged frame is one of
+    /// neither.
+    pub fn control_field(&mut self, lane: Lane) -> Option<u32> {
+        let mut control = 0;
+        let answer = self.handle.control_field(lane == Lane::FileData, &mut control);
+        (answer == ffi::OK).then_some(control)
     }
 
     /// What it counts: the PDUs that it sent, and how often something was dropped, by the cause.

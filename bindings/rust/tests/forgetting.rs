@@ -8,7 +8,13 @@ const NAME: &[u8] = b"a";
 /// transaction.
 fn config(number: u8) -> Config {
     let one = cfdp::defaults();
-    let two = Config { entity: one.peer, peer: one.entity, sends: one.receives, receives: one.sends, ..one };
+    let two = Config {
+        entity: one.peer,
+        peer: one.entity,
+        sends: one.receives,
+        receives: one.sends,
+        ..one
+    };
     Config {
         finished_time: 1,
         finished_limit: 1,

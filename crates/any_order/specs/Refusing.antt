@@ -60,7 +60,7 @@ IsOfNoPacket link octets = (lane : Lane) → IsStray (lane_channel lane link) oc
 -- They are a frame of this lane, of which the pointer doesn't say that it has idle data only.
 abbrev pub IsNoStray : ChannelConfig → List ℕ → Type 0
 IsNoStray channel octets = (frame_fault octets channel ≡ None)
-    × (pointer_of (mpdu_in octets) ≢ 2046)
+    × (pointer_of (mpdu_in channel octets) ≢ 2046)
 
 -- They are such a frame of one of both lanes.
 abbrev pub BringsPacket : LinkConfig → List ℕ → Type 0

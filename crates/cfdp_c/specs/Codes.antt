@@ -164,7 +164,12 @@ field_number fields.Checksum = 76
 field_number fields.OnAckLimit = 90
 field_number fields.OnNakLimit = 91
 field_number fields.OnInactivity = 92
+field_number fields.SendsControlField = 94
+field_number fields.SendsErrorControl = 95
+field_number fields.PduCrc = 96
+field_number fields.ReceivesControlField = 98
+field_number fields.ReceivesErrorControl = 99
 
 -- These numbers name one.
 abbrev pub NamesField : ℕ → Type 0
-NamesField number = (70 ≤ number) × (number ≤ 97)
+NamesField number = (70 ≤ number) × (number ≤ 99)

@@ -1,6 +1,6 @@
 -- How a caller says what a station is set up as.
-use Rattle.std.specs.Prelude.{ℕ, ◌≡◌, ◌<◌, ◌==◌, if◌then◌else◌}
-use Rattle.frame_fields.specs.Fields.{no_fields}
+use Rattle.std.specs.Prelude.{ℕ, ◌≡◌, ◌<◌, ◌==◌, Bool, if◌then◌else◌}
+use Rattle.frame_fields.specs.declared.config.FrameFields.{FrameFields}
 use Rattle.aos_frame.specs.declared.config.LinkConfig.{LinkConfig}
 use Rattle.cfdp_directives.specs.declared.user.handler.Handler.{Handler}
 use Rattle.cfdp_directives.specs.declared.user.handler.Handler.TheVariants as does
@@ -21,6 +21,10 @@ handler_of number =
     else if number == 1 then does.Suspend
     else if number == 2 then does.Ignore
     else does.Abandon
+
+-- whether something is so, by the number 0 or 1
+abbrev pub flag_of : ℕ → Bool
+flag_of number = number == 1
 
 abbrev pub policy_of : CfdpConfig → Policy
 policy_of c = record {
@@ -47,7 +51,15 @@ entity_of c = record {
   first_number = c.first_number;
   segment = c.segment;
   checksum_kind = c.checksum;
+  pdu_crc = flag_of c.pdu_crc;
   policy = policy_of c;
+}
+
+abbrev pub fields_of : CfdpLink → FrameFields
+fields_of l = record {
+  insert_zone = l.insert_zone;
+  control_field = flag_of l.control_field;
+  error_control = flag_of l.error_control;
 }
 
 abbrev pub link_of : CfdpLink → LinkConfig
@@ -57,7 +69,7 @@ link_of l = record {
   data_virtual_channel = l.data_virtual_channel;
   zone = l.zone;
   apid = l.apid;
-  fields = no_fields;
+  fields = fields_of l;
 }
 
 -- the same as the station's own configuration
@@ -71,14 +83,26 @@ config_of c = record {
 
 -- octets of a configuration: a program that was compiled with another header has others
 abbrev pub config_len : ℕ
-config_len = 88
+config_len = 96
 
--- The numbers that stand for something do.
-pub record HasNames (c : CfdpConfig) : Type 0 where
+-- The numbers of a link that stand for something do.
+pub record HasFlags (l : CfdpLink) : Type 0 where
+  pub control_field : l.control_field < 2
+  pub error_control : l.error_control < 2
+
+-- Those of the entity do.
+pub record NamesEntity (c : CfdpConfig) : Type 0 where
   pub checksum : c.checksum < 16
+  pub pdu_crc : c.pdu_crc < 2
   pub ack : c.on_ack_limit < 4
   pub nak : c.on_nak_limit < 4
   pub inactivity : c.on_inactivity < 4
+
+-- All of them do.
+pub record HasNames (c : CfdpConfig) : Type 0 where
+  pub entity : NamesEntity c
+  pub sends : HasFlags c.sends
+  pub receives : HasFlags c.receives
 
 -- A station can be set up so.
 pub record IsUsable (c : CfdpConfig) : Type 0 where
@@ -92,9 +116,14 @@ abbrev pub Suits : BadField → CfdpConfig → Type 0
 Suits (fields.Station field) c = Fits field (config_of c)
 Suits fields.Size c = c.size ≡ config_len
 Suits fields.Checksum c = c.checksum < 16
+Suits fields.PduCrc c = c.pdu_crc < 2
 Suits fields.OnAckLimit c = c.on_ack_limit < 4
 Suits fields.OnNakLimit c = c.on_nak_limit < 4
 Suits fields.OnInactivity c = c.on_inactivity < 4
+Suits fields.SendsControlField c = c.sends.control_field < 2
+Suits fields.SendsErrorControl c = c.sends.error_control < 2
+Suits fields.ReceivesControlField c = c.receives.control_field < 2
+Suits fields.ReceivesErrorControl c = c.receives.error_control < 2
 
 -- what a script's stations have before it sets anything, as station 1
 abbrev pub default_config : CfdpConfig
@@ -114,6 +143,9 @@ default_config = record {
     spacecraft = 42;
     virtual_channel = 5;
     data_virtual_channel = 7;
+    insert_zone = 0;
+    control_field = 0;
+    error_control = 0;
   };
   receives = record {
     zone = 256;
@@ -121,7 +153,11 @@ default_config = record {
     spacecraft = 42;
     virtual_channel = 6;
     data_virtual_channel = 8;
+    insert_zone = 0;
+    control_field = 0;
+    error_control = 0;
   };
+  pdu_crc = 0;
   segment = 1024;
   id_width = 2;
   number_width = 4;

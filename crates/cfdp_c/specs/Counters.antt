@@ -31,6 +31,7 @@ frames_told d = record {
   other_apid = d.other_apid;
   segmented = d.segmented;
   no_memory = d.no_memory;
+  damaged = d.damaged;
 }
 
 abbrev pub pdus_told : PduDrops → CfdpPduDrops

@@ -8,4 +8,5 @@ pub mod Frames
 pub mod Told
 pub mod Files
 pub mod Counters
+pub mod Control
 pub mod Looking

@@ -102,6 +102,7 @@ pdu_of_kind kind h = record {
   checksum_kind = 0;
   keep_alive = 0;
   large = bit h.large;
+  crc = bit h.crc;
 }
 
 abbrev pub said_by : Header → Content → CfdpPdu

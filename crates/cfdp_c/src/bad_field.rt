@@ -13,14 +13,26 @@ pub enum BadField {
     Size,
     /// A number that no checksum has.
     Checksum,
+    /// Neither 0 nor 1.
+    PduCrc,
     /// A number that no handler has.
     OnAckLimit,
+    /// See `OnAckLimit`.
     OnNakLimit,
+    /// See `OnAckLimit`.
     OnInactivity,
+    /// Neither 0 nor 1, of the frames that it sends.
+    SendsControlField,
+    /// See `SendsControlField`.
+    SendsErrorControl,
+    /// Neither 0 nor 1, of the frames that it receives.
+    ReceivesControlField,
+    /// See `ReceivesControlField`.
+    ReceivesErrorControl,
 }
 
 impl BadField {
-    /// The number that names it: 70 to 97.
+    /// The number that names it: 70 to 99.
     pub(crate) fn number(self) -> u32
         ensures number { result ≡ codes.field_number self }
         ensures names { codes.NamesField result }
@@ -32,6 +44,11 @@ impl BadField {
             BadField::OnAckLimit => 90,
             BadField::OnNakLimit => 91,
             BadField::OnInactivity => 92,
+            BadField::SendsControlField => 94,
+            BadField::SendsErrorControl => 95,
+            BadField::PduCrc => 96,
+            BadField::ReceivesControlField => 98,
+            BadField::ReceivesErrorControl => 99,
         }
     }
 }
@@ -76,7 +93,6 @@ fn link_number(field: LinkField) -> u32
         LinkField::DataVirtualChannel => 83,
         LinkField::Zone => 84,
         LinkField::Apid => 85,
-        // No configuration of a C program has one.
         LinkField::InsertZone => 93,
     }
 }

@@ -1,12 +1,14 @@
 //! How a caller says what a station is set up as.
 ghost use Rattle.std.specs.Prelude.{◌≡◌, ◌≢◌, ◌<◌, ◌↔◌, IsOk, IfOk, IfErr, IsSome, IfSome};
-ghost use Rattle.cfdp_c.specs.Config.{config_of, entity_of, handler_of, policy_of, link_of};
-ghost use Rattle.cfdp_c.specs.Config.{config_len, default_config, HasNames, IsUsable, Suits};
+ghost use Rattle.cfdp_c.specs.Config.{config_of, entity_of, fields_of, flag_of, handler_of};
+ghost use Rattle.cfdp_c.specs.Config.{link_of, policy_of, config_len, default_config, HasFlags};
+ghost use Rattle.cfdp_c.specs.Config.{HasNames, IsUsable, NamesEntity, Suits};
 
 use crate::bad_field::BadField;
 use cfdp_directives::{ChecksumKind, Handler, Handlers, Limits, Policy, Times};
-use cfdp_station::{Config, DEFAULT_CAPACITY, EntityConfig, FrameFields};
-use cfdp_station::{LinkConfig, StationConfig, Valid};
+use cfdp_station::{
+    Config, DEFAULT_CAPACITY, EntityConfig, FrameFields, LinkConfig, StationConfig, Valid,
+};
 use std::mem::size_of;
 
 /// Octets of a [`CfdpConfig`].
@@ -16,7 +18,7 @@ const CONFIG_LEN: usize = size_of::<CfdpConfig>();
 #[repr(C)]
 #[derive(Clone, Copy)]
 pub struct CfdpLink {
-    /// Octets of the packet zone: 16 to 2,040. A frame has 8 more.
+    /// Octets of the packet zone: 16 to 2,040. A frame has 8 more, and those of its fields.
     pub zone: u16,
     /// The application process of the packets: 0 to 2,046.
     pub apid: u16,
@@ -26,6 +28,12 @@ pub struct CfdpLink {
     pub virtual_channel: u8,
     /// That of the frames that carry file data: 0 to 62, another than `virtual_channel`.
     pub data_virtual_channel: u8,
+    /// Octets of the insert zone behind a frame's header: 0 to 64.
+    pub insert_zone: u8,
+    /// 1 where frames have an operational control field, of 4 octets, else 0.
+    pub control_field: u8,
+    /// 1 where frames have a frame error control field, of 2 octets, else 0.
+    pub error_control: u8,
 }
 
 /// A [`StationConfig`] as a plain struct.
@@ -54,6 +62,9 @@ pub struct CfdpConfig {
     pub sends: CfdpLink,
     /// The frames that it receives: the peer's `sends`.
     pub receives: CfdpLink,
+    /// 1 where the PDUs of the files that it sends, and those that answer them, end in a CRC, of 2
+    /// octets, else 0.
+    pub pdu_crc: u8,
     /// The most octets of a file in one PDU: 1 to 4,096.
     pub segment: u16,
     /// Octets of an entity id: 1 to 8.
@@ -78,17 +89,29 @@ pub struct CfdpConfig {
 }
 
 impl CfdpLink {
-    fn config(&self) -> LinkConfig
-        ensures { result ≡ link_of self.now }
+    fn config(&self) -> Option<LinkConfig>
+        ensures some { IsSome result ↔ HasFlags self.now }
+        ensures same { IfSome result (λ link. link ≡ link_of self.now) }
     {
-        LinkConfig {
+        Some(LinkConfig {
             spacecraft: self.spacecraft,
             virtual_channel: self.virtual_channel,
             data_virtual_channel: self.data_virtual_channel,
             zone: self.zone,
             apid: self.apid,
-            fields: FrameFields::NONE,
-        }
+            fields: self.fields()?,
+        })
+    }
+
+    fn fields(&self) -> Option<FrameFields>
+        ensures some { IsSome result ↔ HasFlags self.now }
+        ensures same { IfSome result (λ fields. fields ≡ fields_of self.now) }
+    {
+        Some(FrameFields {
+            insert_zone: self.insert_zone,
+            control_field: flag(self.control_field)?,
+            error_control: flag(self.error_control)?,
+        })
     }
 }
 
@@ -103,19 +126,26 @@ impl CfdpConfig {
         if self.size != CONFIG_LEN {
             return Err(BadField::Size);
         }
-        let Some(entity) = self.entity() else {
+        let Some(config) = self.named() else {
             return Err(self.unnamed());
-        };
-        let config = StationConfig {
-            entity,
-            sends: self.sends.config(),
-            receives: self.receives.config(),
-            capacity: self.capacity,
         };
         match config.validate() {
             Ok(config) => Ok(config),
             Err(field) => Err(BadField::Station(field)),
         }
+    }
+
+    // The same, of any numbers that stand for something.
+    fn named(&self) -> Option<StationConfig>
+        ensures some { IsSome result ↔ HasNames self.now }
+        ensures same { IfSome result (λ config. config ≡ config_of self.now) }
+    {
+        Some(StationConfig {
+            entity: self.entity()?,
+            sends: self.sends.config()?,
+            receives: self.receives.config()?,
+            capacity: self.capacity,
+        })
     }
 
     // The first number that stands for nothing.
@@ -125,17 +155,37 @@ impl CfdpConfig {
     {
         if 16 <= self.checksum {
             BadField::Checksum
+        } else if 2 <= self.pdu_crc {
+            BadField::PduCrc
         } else if 4 <= self.on_ack_limit {
             BadField::OnAckLimit
         } else if 4 <= self.on_nak_limit {
             BadField::OnNakLimit
-        } else {
+        } else if 4 <= self.on_inactivity {
             BadField::OnInactivity
+        } else {
+            self.unnamed_of_links()
+        }
+    }
+
+    // The first number of a link that stands for nothing.
+    fn unnamed_of_links(&self) -> BadField
+        requires { HasFlags self.now.sends → HasFlags self.now.receives → ⊥ }
+        ensures { Suits result self.now → ⊥ }
+    {
+        if 2 <= self.sends.control_field {
+            BadField::SendsControlField
+        } else if 2 <= self.sends.error_control {
+            BadField::SendsErrorControl
+        } else if 2 <= self.receives.control_field {
+            BadField::ReceivesControlField
+        } else {
+            BadField::ReceivesErrorControl
         }
     }
 
     fn entity(&self) -> Option<EntityConfig>
-        ensures some { IsSome result ↔ HasNames self.now }
+        ensures some { IsSome result ↔ NamesEntity self.now }
         ensures same { IfSome result (λ entity. entity ≡ entity_of self.now) }
     {
         Some(EntityConfig {
@@ -146,6 +196,7 @@ impl CfdpConfig {
             first_number: self.first_number,
             segment: self.segment,
             checksum_kind: ChecksumKind::from_code(self.checksum)?,
+            pdu_crc: flag(self.pdu_crc)?,
             policy: self.policy()?,
         })
     }
@@ -176,6 +227,18 @@ impl CfdpConfig {
     }
 }
 
+// Whether something is so: 0 or 1, and no other number.
+fn flag(number: u8) -> Option<bool>
+    ensures some { IsSome result ↔ (number < 2) }
+    ensures same { IfSome result (λ flag. flag ≡ flag_of number) }
+{
+    match number {
+        0 => Some(false),
+        1 => Some(true),
+        _ => None,
+    }
+}
+
 fn handler(number: u8) -> Option<Handler>
     ensures some { IsSome result ↔ (number < 4) }
     ensures same { IfSome result (λ handler. handler ≡ handler_of number) }
@@ -186,6 +249,7 @@ fn handler(number: u8) -> Option<Handler>
 /// Fills in the defaults: those of a script's station 1. Station 2 has both ids, and both links,
 /// the other way round. It reads `size` first: where that is another, the caller's header has
 /// another struct, and nothing is written.
+#[tactic(auto, unfolding(cfdp_directives::specs::Pdu::Codes::is_known))]
 #[unsafe(no_mangle)]
 pub extern "C" fn cfdp_fill_defaults(config: &mut CfdpConfig)
     ensures same { config.old.size ≡ config_len → config.new ≡ default_config }
@@ -211,6 +275,9 @@ pub extern "C" fn cfdp_fill_defaults(config: &mut CfdpConfig)
             spacecraft: 42,
             virtual_channel: 5,
             data_virtual_channel: 7,
+            insert_zone: 0,
+            control_field: 0,
+            error_control: 0,
         },
         receives: CfdpLink {
             zone: 256,
@@ -218,7 +285,11 @@ pub extern "C" fn cfdp_fill_defaults(config: &mut CfdpConfig)
             spacecraft: 42,
             virtual_channel: 6,
             data_virtual_channel: 8,
+            insert_zone: 0,
+            control_field: 0,
+            error_control: 0,
         },
+        pdu_crc: 0,
         segment: 1024,
         id_width: 2,
         number_width: 4,

@@ -52,6 +52,8 @@ pub struct CfdpFrameDrops {
     pub segmented: u64,
     /// There was no memory for what the zone holds.
     pub no_memory: u64,
+    /// Its check tells that it was damaged on the way.
+    pub damaged: u64,
 }
 
 /// How often a PDU was dropped, by the cause.
@@ -130,6 +132,7 @@ impl CfdpFrameDrops {
             other_apid: drops.other_apid,
             segmented: drops.segmented,
             no_memory: drops.no_memory,
+            damaged: drops.damaged,
         }
     }
 }

@@ -24,7 +24,7 @@ pub struct CfdpPdu {
     pub offset: u64,
     /// Octets of the file (4, 7), or where a NAK's scope ends (8).
     pub size: u64,
-    /// Octets of file data (0): the last ones of the PDU.
+    /// Octets of file data (0): the last ones of the PDU, but for its CRC.
     pub data_len: usize,
     /// How many ranges a NAK asks for (8).
     pub pairs: usize,
@@ -48,6 +48,8 @@ pub struct CfdpPdu {
     pub keep_alive: u8,
     /// 1 where sizes and offsets have 8 octets, 0 where they have 4.
     pub large: u8,
+    /// 1 where the PDU ends in a CRC, of 2 octets, else 0.
+    pub crc: u8,
 }
 
 impl CfdpPdu {
@@ -74,6 +76,7 @@ impl CfdpPdu {
             checksum_kind: 0,
             keep_alive: 0,
             large: u8::from(header.large),
+            crc: u8::from(header.crc),
         }
     }
 

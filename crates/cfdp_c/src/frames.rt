@@ -135,9 +135,9 @@ impl Held {
 }
 
 /// Writes the next frame that is to leave to room of exactly its octets: polls until a whole frame
-/// waits, or nothing is due or has room, and fills up what is begun. Directives go first. Answers 0,
-/// `CLOSED`, `NO_ROOM` where the room has another length, `NOTHING` where there is nothing to send,
-/// or `NO_MEMORY`: what was polled before stays.
+/// waits, or nothing is due or has room, and fills up what is begun. Directives go first. Answers
+/// 0, `CLOSED`, `NO_ROOM` where the room has another length, `NOTHING` where there is nothing to
+/// send, or `NO_MEMORY`: what was polled before stays.
 #[unsafe(no_mangle)]
 pub extern "C" fn cfdp_transmit(alloc: Global, station: &mut CfdpStation, frame: &mut [u8]) -> u32
     ensures sends { Answers result station.old station.new

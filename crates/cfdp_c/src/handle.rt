@@ -64,7 +64,7 @@ impl CfdpStation {
 /// are empty.
 ///
 /// Answers 0, `ALREADY_OPEN`, `NO_MEMORY`, or where no station can be set up so the number of a
-/// field that isn't as it has to be, 70 to 97. But for 0 the handle is as it was.
+/// field that isn't as it has to be, 70 to 99. But for 0 the handle is as it was.
 #[unsafe(no_mangle)]
 pub extern "C" fn cfdp_open(alloc: Global, station: &mut CfdpStation, config: &CfdpConfig) -> u32
     ensures answers { ((result ≡ codes.ok) ⊎ (result ≡ codes.already_open))

@@ -12,6 +12,7 @@ mod bad_field;
 mod calls;
 mod codes;
 mod config;
+mod control;
 mod counters;
 mod decoding;
 mod files;
@@ -29,6 +30,7 @@ mod version;
 
 pub use calls::{CfdpId, cfdp_add, cfdp_next_timeout, cfdp_put, cfdp_tick};
 pub use config::{CfdpConfig, CfdpLink, cfdp_fill_defaults};
+pub use control::{cfdp_control_field, cfdp_set_control_field};
 pub use counters::{CfdpCounters, CfdpFrameDrops, CfdpPduDrops, CfdpSentPdus, cfdp_counters};
 pub use decoding::{CfdpPdu, cfdp_decode};
 pub use files::{CfdpFile, cfdp_file, cfdp_file_count, cfdp_read_file, cfdp_remove_file};

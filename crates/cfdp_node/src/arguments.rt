@@ -104,6 +104,9 @@ Then, what happens:
   deliver S LANE [N], strike S LANE [N]
                         the same of a lane: data, whose frames carry file data,
                         or dir, whose frames carry all other PDUs
+  damage S [LANE] AT HH the oldest frame that S sent comes with the octet HH
+                        behind its first AT octets; the other station drops it,
+                        if error_control is set
   settle                both poll and flush and all arrives, until nothing is due
   recover               settle, then tick the station whose timer is next, again
                         and again, until no timer but for inactivity is left
@@ -119,6 +122,7 @@ puts were completed. A command that could not do its work is told as
   line N NoSuchFile     or Name, TooLarge, TableFull, NumbersSpent: a put refused
   line N Unknown        or WrongSide, AlreadyClosed, AlreadySo: a call refused
   line N LossRunTooLong too many frames lost in a row
+  line N NotDamaged     the other station would not see that it is damaged
   line N NoMemory       or StoreFailed, TableFull: it ended early
   line N StillArmed     after 24576 ticks of recover a timer is left
 Conditions, as in 'fault ID 7': 0 none, 1 no ACK came, 4 the store failed,

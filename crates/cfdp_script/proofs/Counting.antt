@@ -38,14 +38,15 @@ use Rattle.link_sim.specs.declared.side.Side.TheVariants.{One, Two}
 use Rattle.link_sim.proofs.Events.Leading.{GoesBy, IsNoPut, no-put-same, no-put-settles, row-burst-lacks, row-bursts, row-cause, row-ended, row-puts, row-recovers, row-spread-lacks, row-spreads, row-well}
 use Rattle.cfdp_report.specs.Report.Lines.{is_own_completion}
 use Rattle.cfdp_script.specs.Script.Report.{puts_asked, puts_completed}
-use Rattle.cfdp_script.specs.Script.Run.{AreAccepted, ForMemory, HappensOften, HappensOnce, HappensToFirst, HappensToFirsts, IsAccepted, IsDone, Performs, Runs, SettlingEnds, puts_by, puts_in, told}
+use Rattle.cfdp_script.specs.Script.Run.{AreAccepted, ForMemory, HappensDamaged, HappensOften, HappensOnce, HappensToFirst, HappensToFirsts, IsAccepted, IsDone, Performs, Runs, SettlingEnds, puts_by, puts_in, told}
 use Rattle.cfdp_report.specs.declared.report.answer.Answer.{Answer}
 use Rattle.cfdp_report.specs.declared.report.answer.Answer.TheVariants.{Nothing, Refused, Ended}
 use Rattle.cfdp_report.specs.declared.report.answer.Answered.{Answered}
 use Rattle.cfdp_script.specs.declared.script.command.Command.{Command}
-use Rattle.cfdp_script.specs.declared.script.command.Command.TheVariants.{Once, Repeat, First, Spread, Burst, Settle as SettleAll, Recover}
+use Rattle.cfdp_script.specs.declared.script.command.Command.TheVariants.{Once, Repeat, First, Damage as DamageOne, Spread, Burst, Settle as SettleAll, Recover}
 use Rattle.cfdp_script.specs.Script.Lines.{befalls}
 use Rattle.aos_frame.specs.declared.config.Lane.{Lane}
+use Rattle.cfdp_script.specs.declared.script.command.Damage.{Damage}
 use Rattle.cfdp_script.specs.declared.script.command.Fate.{Fate}
 use Rattle.cfdp_script.specs.declared.script.command.Fate.TheVariants.{Arrives, IsLost}
 use Rattle.cfdp_script.specs.declared.script.Step.{Step}
@@ -415,6 +416,10 @@ often-first : (fate : Fate) (s : Side) (count : ℕ) (answer : Option Answer) (a
 often-first fate s count None a b all = firsts-puts fate s count a b all
 often-first fate s count (Some answer) a b h = (let first = firsts-puts fate s h.0 a h.2 h.3 in let last = first-puts fate s (Some h.4) h.2 b h.6 in omega (arith, first, last))
 
+damaged-puts : (s : Side) (said : Option Lane) (damage : Damage) (answer : Option Answer) (a b : WorldState) → HappensDamaged s said damage answer a b → length b.puts ≡ length a.puts + 0
+damaged-puts s said damage answer a b (inl h) = once-puts (event.Damage s h.0 h.1) answer a b tt h.4
+damaged-puts s said damage answer a b (inr none) = same-puts a b (ap (λ (w : WorldState). w.puts) none.1)
+
 done-puts : (answer : Option Answer) (a b : WorldState) (Done : Type 0) (Ends : RecoverError → Type 0) → IsDone answer Done Ends → (Done → Many (GoesBy IsNoPut) a b) →
     ((error : RecoverError) → Ends error → Many (GoesBy IsNoPut) a b) → length b.puts ≡ length a.puts + 0
 done-puts None a b Done Ends h done ended = same-puts a b (row-puts a b (done h))
@@ -443,6 +448,7 @@ performs-puts (Once (event.Flush s)) answer a b h is = once-puts (event.Flush s)
 performs-puts (Once (event.Tick s now)) answer a b h is = once-puts (event.Tick s now) answer a b tt h
 performs-puts (Once (event.Deliver s l)) answer a b h is = once-puts (event.Deliver s l) answer a b tt h
 performs-puts (Once (event.Strike s l)) answer a b h is = once-puts (event.Strike s l) answer a b tt h
+performs-puts (Once (event.Damage s l octets)) answer a b h is = once-puts (event.Damage s l octets) answer a b tt h
 performs-puts (Repeat (event.Put s source destination) count) answer a b h is = absurd is
 performs-puts (Repeat (event.Cancel s id) count) answer a b h is = often-puts (event.Cancel s id) count answer a b tt h
 performs-puts (Repeat (event.Suspend s id) count) answer a b h is = often-puts (event.Suspend s id) count answer a b tt h
@@ -453,7 +459,9 @@ performs-puts (Repeat (event.Flush s) count) answer a b h is = often-puts (event
 performs-puts (Repeat (event.Tick s now) count) answer a b h is = often-puts (event.Tick s now) count answer a b tt h
 performs-puts (Repeat (event.Deliver s l) count) answer a b h is = often-puts (event.Deliver s l) count answer a b tt h
 performs-puts (Repeat (event.Strike s l) count) answer a b h is = often-puts (event.Strike s l) count answer a b tt h
+performs-puts (Repeat (event.Damage s l octets) count) answer a b h is = often-puts (event.Damage s l octets) count answer a b tt h
 performs-puts (First fate s count) answer a b h is = often-first fate s count answer a b h
+performs-puts (DamageOne s said damage) answer a b h is = damaged-puts s said damage answer a b h
 performs-puts (Spread s) answer a b h is =
     done-puts answer a b _ _ h (λ all. row-spreads IsNoPut no-put-settles no-tick s a b all) (λ error ends. row-spread-lacks IsNoPut no-put-settles no-tick s a b (for_memory error _ ends))
 performs-puts (Burst s) answer a b h is =

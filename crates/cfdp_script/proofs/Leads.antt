@@ -8,19 +8,22 @@ use Rattle.link_sim.specs.World.State.{WorldState}
 use Rattle.link_sim.specs.World.Steps.{FindsNoMemory, Steps, WantsMemory, side_in}
 use Rattle.link_sim.specs.declared.event.Applied.{Applied}
 use Rattle.link_sim.specs.declared.event.Applied.TheVariants as did
+use Rattle.aos_frame.specs.declared.config.Lane.{Lane}
 use Rattle.link_sim.specs.declared.event.Event.{Event}
+use Rattle.link_sim.specs.declared.event.Event.TheVariants as event
 use Rattle.link_sim.specs.declared.recover_error.RecoverError.{RecoverError}
 use Rattle.link_sim.specs.declared.recover_error.RecoverError.TheVariants.{Settle, StillArmed}
 use Rattle.link_sim.specs.declared.settle_error.SettleError.TheVariants.{NoMemory, StoreFailed, TableFull}
 use Rattle.link_sim.proofs.Events.Leading.{many-both, many-none, many-one, many-times}
-use Rattle.cfdp_script.specs.Script.Run.{ForMemory, HappensOften, HappensOnce, HappensToFirst, HappensToFirsts, IsDone, Performs, Runs, SettlingEnds}
+use Rattle.cfdp_script.specs.Script.Run.{ForMemory, HappensDamaged, HappensOften, HappensOnce, HappensToFirst, HappensToFirsts, IsDone, Performs, Runs, SettlingEnds}
 use Rattle.cfdp_report.specs.declared.report.answer.Answer.{Answer}
 use Rattle.cfdp_report.specs.declared.report.answer.Answer.TheVariants.{Nothing, Refused, Ended}
 use Rattle.cfdp_report.specs.declared.report.answer.Answered.{Answered}
 use Rattle.cfdp_script.specs.declared.script.command.Command.{Command}
-use Rattle.cfdp_script.specs.declared.script.command.Command.TheVariants.{Once, Repeat, First, Spread, Burst, Settle as SettleAll, Recover}
+use Rattle.cfdp_script.specs.declared.script.command.Command.TheVariants.{Once, Repeat, First, Damage as DamageOne, Spread, Burst, Settle as SettleAll, Recover}
 use Rattle.link_sim.specs.declared.side.Side.{Side}
 use Rattle.cfdp_script.specs.Script.Lines.{befalls}
+use Rattle.cfdp_script.specs.declared.script.command.Damage.{Damage}
 use Rattle.cfdp_script.specs.declared.script.command.Fate.{Fate}
 use Rattle.cfdp_script.specs.declared.script.Step.{Step}
 
@@ -63,6 +66,11 @@ often_first : (fate : Fate) (s : Side) (count : ℕ) (answer : Option Answer) (a
 often_first fate s count None a b all = firsts_lead fate s count a b all
 often_first fate s count (Some answer) a b h = many-both Called a h.2 b (firsts_lead fate s h.0 a h.2 h.3) (first_leads fate s (Some h.4) h.2 b h.6)
 
+-- what comes damaged
+damaged_leads : (s : Side) (said : Option Lane) (damage : Damage) (answer : Option Answer) (a b : WorldState) → HappensDamaged s said damage answer a b → Led a b
+damaged_leads s said damage answer a b (inl h) = once_leads (event.Damage s h.0 h.1) answer a b h.4
+damaged_leads s said damage answer a b (inr none) = many-none Called a b none.1
+
 -- all was done, or an error ended it before
 done_leads : (answer : Option Answer) (a b : WorldState) (Done : Type 0) (Ends : RecoverError → Type 0) → IsDone answer Done Ends → (Done → Called a b) →
     ((error : RecoverError) → Ends error → Called a b) → Led a b
@@ -79,6 +87,7 @@ performs_leads : (command : Command) (answer : Option Answer) (a b : WorldState)
 performs_leads (Once e) answer a b h = once_leads e answer a b h
 performs_leads (Repeat e count) answer a b h = often_leads e count answer a b h
 performs_leads (First fate s count) answer a b h = often_first fate s count answer a b h
+performs_leads (DamageOne s said damage) answer a b h = damaged_leads s said damage answer a b h
 performs_leads (Spread s) answer a b h =
     done_leads answer a b _ _ h (λ all. inr (inl (s, inl all))) (λ error ends. inr (inl (s, inr (for_memory error _ ends))))
 performs_leads (Burst s) answer a b h =

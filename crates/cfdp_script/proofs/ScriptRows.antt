@@ -6,7 +6,7 @@ use Rattle.link_sim.specs.declared.side.Side.TheVariants.{One, Two}
 use Rattle.link_sim.specs.declared.event.Event.TheVariants as event
 use Rattle.cfdp_script.specs.declared.script.command.Line.TheVariants as line
 use Rattle.cfdp_script.specs.declared.script.command.Contents.TheVariants.{Text, Fill}
-use Rattle.cfdp_script.specs.declared.script.command.Command.TheVariants.{Once, Repeat, First, Settle}
+use Rattle.cfdp_script.specs.declared.script.command.Command.TheVariants.{Once, Repeat, First, Damage, Settle}
 use Rattle.cfdp_script.specs.declared.script.command.Fate.TheVariants.{Arrives, IsLost}
 use Rattle.cfdp_report.specs.declared.settings.table.Setting.TheVariants as key
 use Rattle.cfdp_script.specs.Script.Words.{onto_first, parts}
@@ -51,6 +51,18 @@ lane_last = refl
 other_lane : line_of (codes "deliver 1 dirs") ≡ None
 unfolding parts onto_first
 other_lane = refl
+
+damaged : line_of (codes "damage 1 10 fF") ≡ Some (line.Command (Damage One None (record { at = 10; octet = 255 })))
+unfolding parts onto_first
+damaged = refl
+
+damaged_of_lane : line_of (codes "damage 2 data 0 00") ≡ Some (line.Command (Damage Two (Some Data) (record { at = 0; octet = 0 })))
+unfolding parts onto_first
+damaged_of_lane = refl
+
+not_damaged : line_of (codes "damage 2 data 00") ≡ None
+unfolding parts onto_first
+not_damaged = refl
 
 settle : line_of (codes "settle") ≡ Some (line.Command Settle)
 unfolding parts onto_first

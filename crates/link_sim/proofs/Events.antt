@@ -3,6 +3,9 @@
 pub mod AtStations
 -- What an event does to one station and to both lanes of what it sent is a step of the world.
 pub mod InWorlds
+-- A damaged frame that comes to a station in the place of a frame of the other one is a step of the
+-- world.
+pub mod Damaged
 -- A station that keeps its frames back until it was polled and flushed, beside one of a world, whose frames leave at once: both do the same, and are the same
 -- once all frames have left.
 pub mod Behind

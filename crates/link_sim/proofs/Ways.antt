@@ -5,6 +5,8 @@ pub mod Sending
 pub mod Sends
 -- The receiving end of a lane: a frame is delivered or struck.
 pub mod Receiving
+-- A lane that takes a damaged frame counts it, and is else as it was.
+pub mod Damaged
 -- Where pieces of octets lie.
 pub mod Placing
 -- A frame is made of what waits.

@@ -4,8 +4,11 @@ use Rattle.std.specs.Prelude.{◌≡◌, ◌≢◌, ◌⊎◌, ℕ, ◌+◌, ◌
 use Rattle.std.specs.declared.alloc.AllocError.{AllocError}
 use Rattle.cfd_bits.specs.Counting.{raised}
 use Rattle.cfdp_header.specs.declared.value.TransactionId.{TransactionId}
-use Rattle.aos_frame.specs.Frame.{frame_len, other_lane}
+use Rattle.aos_frame.specs.Frame.{frame_fault, frame_len, lane_channel, other_lane}
+use Rattle.aos_frame.specs.declared.config.ChannelConfig.{ChannelConfig}
+use Rattle.aos_frame.specs.declared.config.LinkConfig.{LinkConfig}
 use Rattle.aos_frame.specs.declared.config.Lane.{Lane}
+use Rattle.aos_frame.specs.declared.error.FrameError.TheVariants.{Damaged}
 use Rattle.mpdu.specs.Packing.{flush_of}
 use Rattle.link_stack.specs.Frames.{packet_of}
 use Rattle.link_stack.specs.Downward.{DownState, LinkSenderState, frame_lane, lane_down, packing}
@@ -28,7 +31,7 @@ use Rattle.cfdp_entity.specs.Table.{Ticks, data_at}
 use Rattle.cfdp_station.specs.Link.{WaitAtMost, next_lane}
 use Rattle.cfdp_station.specs.Polling.{next_pdu}
 use Rattle.cfdp_station.specs.Station.{KeepsRest, StationState}
-use Rattle.cfdp_station.specs.Taking.{GivesPdus, HearsAll}
+use Rattle.cfdp_station.specs.Taking.{GivesPdus, HearsAll, TakesFrame}
 use Rattle.link_sim.specs.declared.event.Applied.{Applied}
 use Rattle.link_sim.specs.declared.event.Applied.TheVariants as did
 use Rattle.link_sim.specs.declared.event.Refusal.TheVariants as refusal
@@ -230,6 +233,7 @@ PutsAt (did.Refused (refusal.Put by)) source destination old new puts puts_now =
     RefusesPutAt source destination by old new puts puts_now
 PutsAt (did.Refused (refusal.Call by)) source destination old new puts puts_now = ⊥
 PutsAt (did.Refused refusal.LossRunTooLong) source destination old new puts puts_now = ⊥
+PutsAt (did.Refused refusal.NotDamaged) source destination old new puts puts_now = ⊥
 
 -- What a request asked of the inbox was counted where it failed: a cancel that its step's calls did,
 -- and no other request asks anything.
@@ -365,3 +369,38 @@ StrikesAt did.Nothing link link_now =
 StrikesAt (did.Refused (refusal.Put by)) link link_now = ⊥
 StrikesAt (did.Refused (refusal.Call by)) link link_now = ⊥
 StrikesAt (did.Refused refusal.LossRunTooLong) link link_now = IsTooLongAt link link_now
+StrikesAt (did.Refused refusal.NotDamaged) link link_now = ⊥
+
+-- ---- a frame comes damaged
+-- Each lane of the end that receives has the channel that this link gives it.
+abbrev pub AreSetUp : LinkConfig → UpState → Type 0
+AreSetUp link up = (l : Lane) → (lane_up l up).link ≡ lane_channel l link
+
+-- These octets came in the place of the oldest waiting frame of a lane, which is lost by that, and
+-- this station took them.
+pub record DamagesFrameAt (channel : ChannelConfig) (octets : List ℕ)
+    (link link_now : FrameLinkState) (old new : StationState) : Type 0 where
+  pub damaged : frame_fault octets channel ≡ Some Damaged
+  pub strikes : StrikesFrameAt link link_now
+  pub takes : TakesFrame octets old new
+
+-- They are no damaged frame of the channel.
+pub record IsNotDamagedAt (channel : ChannelConfig) (octets : List ℕ)
+    (link link_now : FrameLinkState) (old new : StationState) : Type 0 where
+  pub waits : length link.marks < length link.frames
+  pub differs : frame_fault octets channel ≢ Some Damaged
+  pub same_link : link_now ≡ link
+  pub same : new ≡ old
+
+abbrev pub DamagesAt : Applied → ChannelConfig → (octets : List ℕ)
+    → (link link_now : FrameLinkState) → (old new : StationState) → Type 0
+DamagesAt did.Applied channel octets link link_now old new =
+    DamagesFrameAt channel octets link link_now old new
+DamagesAt did.Nothing channel octets link link_now old new =
+    (length link.frames ≤ length link.marks) × (link_now ≡ link) × (new ≡ old)
+DamagesAt (did.Refused (refusal.Put by)) channel octets link link_now old new = ⊥
+DamagesAt (did.Refused (refusal.Call by)) channel octets link link_now old new = ⊥
+DamagesAt (did.Refused refusal.LossRunTooLong) channel octets link link_now old new =
+    IsTooLongAt link link_now × (new ≡ old)
+DamagesAt (did.Refused refusal.NotDamaged) channel octets link link_now old new =
+    IsNotDamagedAt channel octets link link_now old new

@@ -4,8 +4,8 @@ use cfdp_directives::Octets;
 use cfdp_entity::{PutError, RequestError};
 use cfdp_header::TransactionId;
 
-/// One thing that happens: a call on one of the two stations, or a frame between them that arrives
-/// or is lost.
+/// One thing that happens: a call on one of the two stations, or a frame between them that arrives,
+/// is lost or comes damaged.
 #[derive(Debug, Drop)]
 pub enum Event {
     /// A station's user asks it to send a file to the other station.
@@ -51,6 +51,16 @@ pub enum Event {
     Deliver(Side, Lane),
     /// The oldest waiting frame that this station sent in this lane is lost.
     Strike(Side, Lane),
+    /// The oldest waiting frame that a station sent in a lane comes to the other one damaged. So it
+    /// is lost, and the other one counts that it dropped it. Only links with error control know
+    /// damaged frames.
+    Damage {
+        /// The station that sent it.
+        side: Side,
+        lane: Lane,
+        /// What comes in its place: as many octets, whose check differs.
+        octets: Octets,
+    },
 }
 
 /// What an event did.
@@ -74,6 +84,9 @@ pub enum Refusal {
     /// The last [`MOST_STRUCK`](crate::MOST_STRUCK) frames taken of this lane were struck: one
     /// more would be taken for none.
     LossRunTooLong,
+    /// The octets are no damaged frame of this lane: its link has no error control, they have
+    /// another length, or their check is right.
+    NotDamaged,
 }
 
 /// A file that a station took to send: its transaction and its two names.

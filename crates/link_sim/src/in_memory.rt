@@ -59,6 +59,10 @@ impl<W: Witness> Stations for World<MemoryOutbox, MemoryInbox, W> {
         self.frames(side).first_sent()
     }
 
+    fn oldest_frame(&self, side: Side, lane: Lane) -> Option<&[u8]> {
+        self.frames(side).lane(lane).oldest()
+    }
+
     fn spread(&mut self, side: Side) -> Result<(), AllocError> {
         self.spread(side)
     }

@@ -6,7 +6,7 @@ ghost use Rattle.std.specs.Prelude.{◌≡◌, ◌<◌, length, MatchOption};
 ghost use Rattle.link_sim.specs.Calls.{TriesBurst, TriesEvent, TriesRecovery, TriesSettling};
 ghost use Rattle.link_sim.specs.Calls.{TriesSpread};
 ghost use Rattle.link_sim.specs.World.State.{WorldState, entity_at, lane_from};
-ghost use Rattle.link_sim.specs.World.Steps.{NoneWaits};
+ghost use Rattle.link_sim.specs.World.Steps.{NoneWaits, oldest_of};
 ghost use Rattle.aos_frame.specs.declared.config.Lane.{Lane};
 
 use crate::event::{Applied, Event};
@@ -42,6 +42,14 @@ pub trait Stations: Drop {
         ensures { MatchOption result ((lane : Lane) → NoneWaits side lane (world self.now))
             (λ lane. length (lane_from side lane (world self.now)).marks
             < length (lane_from side lane (world self.now)).frames) };
+
+    /// The oldest frame that waits in a lane of what a station sent: the next one there that arrives,
+    /// is lost or comes damaged. `None` where none waits.
+    fn oldest_frame(&self, side: Side, lane: Lane) -> Option<&[u8]>
+        ensures { MatchOption result (NoneWaits side lane (world self.now))
+            (λ frame. (length (lane_from side lane (world self.now)).marks
+            < length (lane_from side lane (world self.now)).frames)
+            × (frame.now ≡ oldest_of (lane_from side lane (world self.now)))) };
 
     /// Polls a station until nothing is due there, and flushes it after each PDU.
     ///

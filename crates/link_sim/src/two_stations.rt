@@ -1,12 +1,14 @@
 //! Two stations and the frames between them, before anything is said of puts and files.
-ghost use Rattle.std.specs.Prelude.{◌≡◌, ◌<◌, ◌≤◌, ◌⊎◌, ◌↔◌, true, false, length, None, IfErr};
-ghost use Rattle.std.specs.Prelude.{IfOk, OnErr, OnOk};
+ghost use Rattle.std.specs.Prelude.{◌≡◌, ◌<◌, ◌≤◌, ◌⊎◌, ◌↔◌, true, false, length, None, Some};
+ghost use Rattle.std.specs.Prelude.{IfErr, IfOk, OnErr, OnOk};
 ghost use Rattle.cfdp_entity.specs.Gives.{CountsOutbox};
 ghost use Rattle.cfdp_entity.specs.Polling.{turn};
 ghost use Rattle.cfdp_entity.specs.Sound.{SpellsTurn, longest_pdu};
 ghost use Rattle.cfdp_entity.specs.Refusing.{IsRefusal};
 ghost use Rattle.cfdp_entity.specs.Requests.{IsCalled, asks_inbox, request_refusal};
+ghost use Rattle.aos_frame.specs.Frame.{frame_fault, lane_channel};
 ghost use Rattle.aos_frame.specs.declared.config.Lane.{Lane};
+ghost use Rattle.aos_frame.specs.declared.error.FrameError.TheVariants.{Damaged};
 ghost use Rattle.cfdp_station.specs.Link.{HoldsAtMost};
 ghost use Rattle.cfdp_station.specs.Polling.{Polls, next_len, next_room, stored_by_poll};
 ghost use Rattle.cfdp_station.specs.Station.{KeepsLink, KeepsRest};
@@ -15,7 +17,8 @@ ghost use Rattle.link_stack.specs.Downward.{KeepsLanes, frame_lane, lane_down};
 ghost use Rattle.link_sim.specs.FrameLink.{lane_of_links};
 ghost use Rattle.link_sim.specs.declared.event.Applied.TheVariants as dids;
 ghost use Rattle.link_sim.specs.declared.event.Event.TheVariants as events;
-ghost use Rattle.link_sim.specs.AtStation.{AreReady, AreSameLinks, FlushesAt, FrameArrivesAt};
+ghost use Rattle.link_sim.specs.AtStation.{AreReady, AreSameLinks, DamagesAt, FlushesAt};
+ghost use Rattle.link_sim.specs.AtStation.{FrameArrivesAt};
 ghost use Rattle.link_sim.specs.AtStation.{HasBuffers, KeepsOutbox, OnLane, PollsAt, PullsBoth};
 ghost use Rattle.link_sim.specs.AtStation.{PullsOne, PutsAt, RaisesByRequest, StrikesAt};
 ghost use Rattle.link_sim.specs.AtStation.{TellsTimeAt, TriesToSend, answered};
@@ -24,6 +27,7 @@ ghost use Rattle.link_sim.specs.World.State as state;
 ghost use Rattle.link_sim.specs.World.Steps as steps;
 ghost use Rattle.link_sim.specs.World.State.{station_at, link_from, IsFirst};
 ghost use Rattle.link_sim.specs.Calls.{TriesEvent};
+ghost use Rattle.link_sim.specs.Stations.{other, station_of};
 ghost use Rattle.link_sim.specs.declared.side.Side.{Side};
 
 use crate::event::{AcceptedPut, Applied, Event, Refusal};
@@ -33,7 +37,7 @@ use crate::mark::Loss;
 use crate::side::Side;
 use crate::world::let_go;
 use crate::world_config::WorldConfig;
-use aos_frame::Lane;
+use aos_frame::{ChannelConfig, FrameError, Lane, decode};
 use cfdp_directives::Octets;
 use cfdp_entity::Request;
 use cfdp_header::TransactionId;
@@ -54,6 +58,8 @@ pub(crate) struct TwoStations<O: SteadyOutbox, I: Inbox> {
     from_two: FrameLinks,
     pub(crate) puts: Vec<AcceptedPut>,
     pub(crate) ticks: u64,
+    // How both were set up, and are still.
+    config: Valid<WorldConfig>,
 }
 
 impl<O: SteadyOutbox, I: Inbox> Model for TwoStations<O, I> {
@@ -61,7 +67,7 @@ impl<O: SteadyOutbox, I: Inbox> Model for TwoStations<O, I> {
     ghost use Rattle.cfdp_entity.specs.Coded.{state_codes};
     ghost use Rattle.aos_frame.specs.declared.config.Lane.{Lane};
     ghost use Rattle.link_stack.specs.Downward.{lane_down};
-    ghost use Rattle.link_sim.specs.AtStation.{AreCarried};
+    ghost use Rattle.link_sim.specs.AtStation.{AreCarried, AreSetUp};
     ghost use Rattle.link_sim.specs.World.State.{WorldState, seen_links};
 
     ghost Value = { WorldState };
@@ -78,11 +84,12 @@ impl<O: SteadyOutbox, I: Inbox> Model for TwoStations<O, I> {
     } };
 
     // Both lanes of both directions are carried, and a PDU of any kind has room in each where no
-    // whole frame waits.
+    // whole frame waits. Each end that receives is set up as at first.
     ghost invariant = { λ w. AreCarried w.one.down w.from_one w.two.up
         × AreCarried w.two.down w.from_two w.one.up
         × ((lane : Lane) → 8192 ≤ (lane_down lane w.one.down).capacity)
-        × ((lane : Lane) → 8192 ≤ (lane_down lane w.two.down).capacity) };
+        × ((lane : Lane) → 8192 ≤ (lane_down lane w.two.down).capacity)
+        × AreSetUp w.config.one.receives w.one.up × AreSetUp w.config.two.receives w.two.up };
 }
 
 impl<O: SteadyOutbox, I: Inbox> TwoStations<O, I> {
@@ -119,6 +126,7 @@ impl<O: SteadyOutbox, I: Inbox> TwoStations<O, I> {
                     from_two,
                     puts: Vec::new(alloc),
                     ticks: 0,
+                    config,
                 })
             }
             Err(AllocError) => {
@@ -183,6 +191,9 @@ impl<O: SteadyOutbox, I: Inbox> TwoStations<O, I> {
             Event::Tick { at, now } => self.tick(*at, *now),
             Event::Deliver(side, lane) => Ok(self.deliver(*side, *lane)),
             Event::Strike(side, lane) => Ok(self.strike(*side, *lane)),
+            Event::Damage { side, lane, octets } => {
+                Ok(self.damage(*side, *lane, octets.as_slice()))
+            }
         }
     }
 
@@ -262,6 +273,25 @@ impl<O: SteadyOutbox, I: Inbox> TwoStations<O, I> {
             Side::Two => strike_at(&mut self.from_two, lane),
         }
     }
+
+    /// These octets come in the place of the oldest waiting frame of a lane.
+    fn damage(&mut self, side: Side, lane: Lane, octets: &[u8]) -> Applied
+        ensures { steps.Damages result side lane octets.now self.old self.new }
+    {
+        let channel = channel_from(self.config, side, lane);
+        match side {
+            Side::One => damage_at(&mut self.from_one, lane, &channel, octets, &mut self.two),
+            Side::Two => damage_at(&mut self.from_two, lane, &channel, octets, &mut self.one),
+        }
+    }
+}
+
+/// The channel of a lane of what a station sends, as the other one was set up for it.
+fn channel_from(config: Valid<WorldConfig>, side: Side, lane: Lane) -> ChannelConfig
+    ensures { result ≡ lane_channel lane (station_of (other side) config).receives }
+{
+    let receiver = WorldConfig::station(config, side.other()).get();
+    receiver.receives.lane(lane)
 }
 
 /// What the user of a station asks of a transaction. Only one that gives up what is received may
@@ -487,6 +517,59 @@ fn deliver_at<O: Outbox, I: Inbox>(
     match lane {
         Lane::Directives => deliver_to(&mut links.directives, lane, station),
         Lane::Data => deliver_to(&mut links.file_data, lane, station),
+    }
+}
+
+/// Whether octets are no frame of a channel since they were damaged.
+fn comes_damaged(octets: &[u8], channel: &ChannelConfig) -> bool
+    ensures { (result ≡ true) ↔ (frame_fault octets.now channel.now ≡ Some Damaged) }
+{
+    match decode(octets, channel) {
+        Err(FrameError::Damaged) => true,
+        _ => false,
+    }
+}
+
+/// These octets reach a station in the place of the oldest waiting frame of a lane.
+fn damage_to<O: Outbox, I: Inbox>(
+    link: &mut FrameLink,
+    channel: &ChannelConfig,
+    octets: &[u8],
+    station: &mut Station<O, I>,
+) -> Applied
+    ensures { DamagesAt result channel.now octets.now link.old link.new station.old station.new }
+{
+    let Some(_frame) = link.oldest() else {
+        return Applied::Nothing;
+    };
+    if !comes_damaged(octets, channel) {
+        return Applied::Refused(Refusal::NotDamaged);
+    }
+    match link.strike() {
+        Loss::Done => {
+            station.receive(octets);
+            Applied::Applied
+        }
+        Loss::NoneWaits => Applied::Nothing,
+        Loss::TooMany => Applied::Refused(Refusal::LossRunTooLong),
+    }
+}
+
+/// These octets reach a station in the place of the oldest waiting frame of a lane; the other lane
+/// stays.
+fn damage_at<O: Outbox, I: Inbox>(
+    links: &mut FrameLinks,
+    lane: Lane,
+    channel: &ChannelConfig,
+    octets: &[u8],
+    station: &mut Station<O, I>,
+) -> Applied
+    ensures { OnLane lane (λ link link_now. DamagesAt result channel.now octets.now link link_now
+        station.old station.new) links.old links.new }
+{
+    match lane {
+        Lane::Directives => damage_to(&mut links.directives, channel, octets, station),
+        Lane::Data => damage_to(&mut links.file_data, channel, octets, station),
     }
 }
 

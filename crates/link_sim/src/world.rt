@@ -28,7 +28,7 @@ use std::marker::Model;
 use valid_config::Valid;
 
 /// A world: two stations of CFDP, class 2, and all frames that each sent to the other, some of them
-/// lost.
+/// lost or damaged.
 ///
 /// Whatever happens, a file is published only where its put was heard in full, each inbox is what
 /// the completed puts make of it, no transaction is indicated finished twice, and a sender is told
@@ -149,8 +149,8 @@ impl<O: SteadyOutbox, I: Inbox, W: Witness> World<O, I, W> {
     ///
     /// # Errors
     ///
-    /// `AllocError` only where the memory for it was refused: nothing happened then. The arrival
-    /// and the loss of a frame need none.
+    /// `AllocError` only where the memory for it was refused: nothing happened then. The arrival,
+    /// the loss and the damage of a frame need none.
     pub fn apply(&mut self, event: &Event) -> Result<Applied, AllocError>
         // The event did what it does and nothing else, or nothing happened; the promises hold, and
         // a clean world stays clean where nothing went wrong.

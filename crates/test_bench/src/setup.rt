@@ -51,25 +51,25 @@ fn tell_new(words: &str, out: &mut String) -> Result<(), AllocError> {
 
 /// The keys, in the order of their numbers. `octets` says how much of `hello` is in `a.txt`. From
 /// the calls `outbox_call` and `inbox_call` on, the outbox and the inbox of an entity fail. PDUs have
-/// a CRC where `pdu_crc` is 1.
+/// a CRC where `pdu_crc` is 1, and frames of both directions error control where `error_control` is.
 const KEYS: &str = "entity peer id_width number_width first_number segment checksum eof_time \
     nak_time finished_time inactivity_time sends_channel sends_zone sends_apid receives_channel \
     receives_zone receives_apid capacity eof_limit nak_limit finished_limit ack_handler octets \
-    outbox_call inbox_call sends_data_channel receives_data_channel pdu_crc";
+    outbox_call inbox_call sends_data_channel receives_data_channel pdu_crc error_control";
 
 /// A number for each key.
-type Setup = [u64; 28];
+type Setup = [u64; 29];
 
 /// The first entity or station, with zones of 32 octets.
 const ONE: Setup = [
     1, 2, 2, 4, 1, 1024, 0, 10, 10, 10, 100, 5, 32, 100, 6, 32, 101, 16_384, 3, 3, 3, 0, 5,
-    1_000_000, 1_000_000, 7, 8, 0,
+    1_000_000, 1_000_000, 7, 8, 0, 0,
 ];
 
 /// The second one.
 const TWO: Setup = [
     2, 1, 2, 4, 1, 1024, 0, 10, 10, 10, 100, 6, 32, 101, 5, 32, 100, 16_384, 3, 3, 3, 0, 5,
-    1_000_000, 1_000_000, 8, 7, 0,
+    1_000_000, 1_000_000, 8, 7, 0, 0,
 ];
 
 /// A setup with other numbers: pairs of a key and its number, all of them words.
@@ -141,22 +141,31 @@ fn entity(setup: &Setup) -> EntityConfig {
     }
 }
 
-fn link(virtual_channel: u64, data_virtual_channel: u64, zone: u64, apid: u64) -> LinkConfig {
+fn link(
+    virtual_channel: u64,
+    data_virtual_channel: u64,
+    zone: u64,
+    apid: u64,
+    error_control: u64,
+) -> LinkConfig {
     LinkConfig {
         spacecraft: 42,
         virtual_channel: octet(virtual_channel),
         data_virtual_channel: octet(data_virtual_channel),
         zone: half_word(zone),
         apid: half_word(apid),
-        fields: FrameFields::NONE,
+        fields: FrameFields {
+            error_control: error_control == 1,
+            ..FrameFields::NONE
+        },
     }
 }
 
 fn station(setup: &Setup) -> StationConfig {
     StationConfig {
         entity: entity(setup),
-        sends: link(setup[11], setup[25], setup[12], setup[13]),
-        receives: link(setup[14], setup[26], setup[15], setup[16]),
+        sends: link(setup[11], setup[25], setup[12], setup[13], setup[28]),
+        receives: link(setup[14], setup[26], setup[15], setup[16], setup[28]),
         capacity: usize::try_from(setup[17]).unwrap_or(0),
     }
 }

@@ -7,6 +7,10 @@
 //!     deliver S LANE N the same of one lane, `dir` or `data`
 //!     strike S         the frame that it sent first, of all that wait, is lost
 //!     strike S LANE    its oldest frame of a lane is lost
+//!     damage S N HEX   the frame that it sent first, of all that wait, comes with these octets from
+//!                      octet N on, in the place of its own; behind its last octet it gets longer
+//!     damage S LANE N HEX   the same of its oldest frame of a lane
+//!     dropped S        how many damaged frames came to it
 //!     settle           all is settled
 //!     suspend S ID     a station's user suspends a transaction
 //!     recover          both stations make up for what was lost
@@ -25,9 +29,9 @@ use crate::setup::{EntitySetup, first_entity, first_station, second_station};
 use crate::station::{StationBench, files};
 use crate::strangers;
 use crate::telling::tell;
-use crate::words::{id, narrow, number, pair, tell_octets, text};
+use crate::words::{count, id, narrow, number, octets, pair, tell_octets, text};
 use cfdp_directives::Octets;
-use cfdp_station::StationConfig;
+use cfdp_station::{FrameError, LinkDrop, StationConfig};
 use cfdp_store::{Files, FuseInbox, FuseOutbox, MemoryInbox, MemoryOutbox};
 use link_sim::{
     Applied, Event, FrameLink, FrameLinks, Lane, LossRun, MOST_STRUCK, Mark, Side, World,
@@ -96,6 +100,7 @@ impl Bench for WorldBench {
             "spread" => self.world.spread(side(first)),
             "deliver" => self.delivers(side(first), rest, out),
             "strike" => self.strikes(side(first), rest, out),
+            "damage" => self.damages(side(first), rest, out),
             "suspend" => self.applies(&suspension(words), out),
             "settle" => self.settles(out),
             "recover" => self.recovers(out),
@@ -133,6 +138,7 @@ impl WorldBench {
             "told" => self.tells_all(side(words), out),
             "ticks" => write!(out, " {}\n", self.world.ticks()),
             "frames" => tell_marks(self.world.frames(side(words)), out),
+            "dropped" => write!(out, " {}\n", self.dropped(side(words))),
             "inbox" => {
                 tell_files(
                     self.alloc,
@@ -179,6 +185,25 @@ impl WorldBench {
         let (named, _) = lane_in(words);
         let lane = self.lane_or_first(at, named);
         self.applies(&Event::Strike(at, lane), out)
+    }
+
+    fn damages(&mut self, at: Side, words: &str, out: &mut String) -> Result<(), AllocError> {
+        let (named, change) = lane_in(words);
+        let lane = self.lane_or_first(at, named);
+        let frame = self.world.frames(at).lane(lane).oldest().unwrap_or(&[]);
+        let octets = changed(self.alloc, frame, change)?;
+        let event = Event::Damage {
+            side: at,
+            lane,
+            octets: Octets::from_vec(octets),
+        };
+        self.applies(&event, out)
+    }
+
+    /// How many damaged frames came to a station.
+    fn dropped(&self, at: Side) -> u64 {
+        let damaged = LinkDrop::Frame(FrameError::Damaged);
+        self.world.station(at).link_drops(damaged)
     }
 
     fn delivers(&mut self, at: Side, words: &str, out: &mut String) -> Result<(), AllocError> {
@@ -259,6 +284,21 @@ fn lane_in(words: &str) -> (Option<Lane>, &str) {
         "data" => (Some(Lane::Data), rest),
         _ => (None, words),
     }
+}
+
+/// A copy of a frame that has other octets from a place on: both are words of `change`.
+fn changed(alloc: Global, frame: &[u8], change: &str) -> Result<Vec<u8>, AllocError> {
+    let (place, digits) = pair(change);
+    let mut changed = Vec::from_slice(alloc, frame)?;
+    let mut at = count(place);
+    for octet in octets(alloc, digits)? {
+        match changed.get_mut(at) {
+            Some(old) => *old = octet,
+            None => changed.push(octet)?,
+        }
+        at = at.saturating_add(1);
+    }
+    Ok(changed)
 }
 
 /// The frames of a link that were delivered, those of directives first.

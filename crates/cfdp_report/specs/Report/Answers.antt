@@ -2,7 +2,7 @@
 use Rattle.std.specs.Prelude.{ℕ, ◌==◌, Bool, true, false, List, ◌++◌, codes, decimal, if◌then◌else◌, Option, Some}
 use Rattle.cfdp_entity.specs.Errors.{put_name, call_name}
 use Rattle.link_sim.specs.Recovering.{recover_error_name}
-use Rattle.link_sim.specs.declared.event.Refusal.TheVariants.{Put, Call, LossRunTooLong}
+use Rattle.link_sim.specs.declared.event.Refusal.TheVariants.{Put, Call, LossRunTooLong, NotDamaged}
 use Rattle.link_sim.specs.declared.recover_error.RecoverError.TheVariants.{Settle}
 use Rattle.link_sim.specs.declared.settle_error.SettleError.TheVariants.{NoMemory, StoreFailed}
 use Rattle.cfdp_report.specs.declared.report.answer.Answer.{Answer}
@@ -16,6 +16,7 @@ answer_name (Nothing after) = if after == 0 then codes "Nothing"
 answer_name (Refused (Put by)) = put_name by
 answer_name (Refused (Call by)) = call_name by
 answer_name (Refused LossRunTooLong) = codes "LossRunTooLong"
+answer_name (Refused NotDamaged) = codes "NotDamaged"
 answer_name (Ended error) = recover_error_name error
 
 -- the answer of an event, of a command of which so many events happened before: only Nothing tells

@@ -75,5 +75,6 @@ fn refusal_name(refusal: Refusal) -> &'static str
         Refusal::Put(error) => error.name(),
         Refusal::Call(error) => error.name(),
         Refusal::LossRunTooLong => "LossRunTooLong",
+        Refusal::NotDamaged => "NotDamaged",
     }
 }

@@ -5,7 +5,7 @@ use std::io;
 use std::io::Write;
 
 /// The code of a cancel that a user asked for.
-const CANCELLED: u8 = 15;
+pub const CANCELLED: u8 = 15;
 
 /// Which conditions stations told their users.
 #[derive(Clone, Copy)]

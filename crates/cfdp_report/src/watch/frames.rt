@@ -1,7 +1,9 @@
 //! The frames of one direction, watched.
+use crate::report::condition::CANCELLED;
 use crate::watch::sent::SentFrames;
 use crate::watch::sighting::{Deed, Log};
-use cfdp_directives::{Condition, Pdu, decode};
+use cfdp_directives::{Pdu, Tlvs, decode};
+use cfdp_header::Header;
 use cfdp_station::LinkConfig;
 use link_sim::{FrameLink, FrameLinks, Lane, Mark, Side};
 use link_stack::{LinkDrop, Up};
@@ -177,39 +179,36 @@ fn note_pdus(
     has_cancel
 }
 
-/// Whether a PDU tells that the user of the station that sent it cancelled its transaction: an EOF
-/// or a Finished with that condition, which names no other entity.
-fn tells_cancel(pdu: &[u8]) -> bool {
-    match decode(pdu) {
-        Ok(
-            (
-                header,
-                Pdu::Eof {
-                    condition,
-                    tlvs,
-                    ..
-                },
-            ),
-        ) => is_cancel(condition)
-            && tlvs.fault_location().unwrap_or(header.id.source) == header.id.source,
-        Ok(
-            (
-                header,
-                Pdu::Finished {
-                    condition,
-                    tlvs,
-                    ..
-                },
-            ),
-        ) => {
-            is_cancel(condition)
-                && tlvs.fault_location().unwrap_or(header.destination) == header.destination
-        }
+/// Whether octets are a PDU that tells that the user of the station that sent it cancelled its
+/// transaction.
+fn tells_cancel(octets: &[u8]) -> bool {
+    match decode(octets) {
+        Ok((header, pdu)) => is_cancel(&header, &pdu),
+        Err(_) => false,
+    }
+}
+
+/// Whether it is an EOF or a Finished with that condition, which names no other entity.
+fn is_cancel(header: &Header, pdu: &Pdu<'_>) -> bool {
+    match pdu {
+        Pdu::Eof {
+            condition,
+            tlvs,
+            ..
+        } => condition.code() == CANCELLED && is_of(tlvs, header.id.source),
+        Pdu::Finished {
+            condition,
+            tlvs,
+            ..
+        } => condition.code() == CANCELLED && is_of(tlvs, header.destination),
         _ => false,
     }
 }
 
-/// Whether this is the condition of a cancel that a user asked for.
-fn is_cancel(condition: Condition) -> bool {
-    condition.code() == 15
+/// Whether a fault location is this entity, if there is one.
+fn is_of(tlvs: &Tlvs<'_>, entity: u64) -> bool {
+    match tlvs.fault_location() {
+        Some(location) => location == entity,
+        None => true,
+    }
 }

@@ -14,7 +14,8 @@ use Rattle.cfdp_script.specs.declared.script.command.Line.TheVariants as line
 use Rattle.cfdp_script.specs.declared.script.command.Contents.{Contents}
 use Rattle.cfdp_script.specs.declared.script.command.Contents.TheVariants.{Text, Fill}
 use Rattle.cfdp_script.specs.declared.script.command.Command.{Command}
-use Rattle.cfdp_script.specs.declared.script.command.Command.TheVariants.{Once, Repeat, First, Spread, Burst, Settle, Recover}
+use Rattle.cfdp_script.specs.declared.script.command.Command.TheVariants.{Once, Repeat, First, Damage as DamageOne, Spread, Burst, Settle, Recover}
+use Rattle.cfdp_script.specs.declared.script.command.Damage.{Damage}
 use Rattle.cfdp_script.specs.declared.script.command.Fate.{Fate}
 use Rattle.cfdp_script.specs.declared.script.command.Fate.TheVariants.{Arrives, IsLost}
 use Rattle.cfdp_script.specs.declared.script.command.Unread.{Unread}
@@ -110,6 +111,29 @@ abbrev pub frames_of : Fate → List (List ℕ) → Option Command
 frames_of fate words = option_and_then (λ w. option_and_then (λ from. which_of fate from w.1)
     (station_of w.0)) (next_word words)
 
+-- which octet of a frame, and what comes in its place
+abbrev pub damage_of : List ℕ → List ℕ → Option Damage
+damage_of at octet = both (λ n o. record { at = n; octet = o }) (number_of at) (octet_of octet)
+
+-- what of which frame, where this word, which is the name of a lane or of none, stands there: of the
+-- oldest one in the lane, or of the one sent first
+abbrev pub damage_by : Side → List ℕ → Option Lane → List (List ℕ) → Option Command
+damage_by from word (Some lane) words =
+    option_and_then (λ w. option_map (DamageOne from (Some lane)) (damage_of w.0 w.1))
+    (two_of words)
+damage_by from word None words =
+    option_and_then (λ octet. option_map (DamageOne from None) (damage_of word octet))
+    (one_of words)
+
+abbrev pub damage_at : Side → List (List ℕ) → Option Command
+damage_at from words = option_and_then (λ w. damage_by from w.0 (lane_of w.0) w.1)
+    (next_word words)
+
+-- `damage S AT HH`, `damage S LANE AT HH`
+abbrev pub damaged_of : List (List ℕ) → Option Command
+damaged_of words = option_and_then (λ w. option_and_then (λ from. damage_at from w.1)
+    (station_of w.0)) (next_word words)
+
 -- `put S SRC DST`
 abbrev pub put_of : List (List ℕ) → Option Command
 put_of words = option_and_then (λ w. option_map (λ at. Once (event.Put at w.1 w.2))
@@ -144,6 +168,7 @@ motion_of verb words =
     (number_words words)
     else if is verb (codes "deliver") then frames_of Arrives words
     else if is verb (codes "strike") then frames_of IsLost words
+    else if is verb (codes "damage") then damaged_of words
     else round_of verb words
 
 -- these, and what a station's user asks of a transaction

@@ -1,5 +1,5 @@
 -- What each command of a script does to the two stations, and what it answers.
-use Rattle.std.specs.Prelude.{◌<◌, ◌≡◌, ◌⊎◌, ℕ, List, length, [], ◌∷◌, Option, None, Some}
+use Rattle.std.specs.Prelude.{◌<◌, ◌≡◌, ◌⊎◌, ℕ, nat_lt, List, length, [], ◌∷◌, ◌++◌, drop, take, if◌then◌else◌, Option, None, Some}
 use Rattle.cfdp_directives.specs.declared.user.indication.Indication.{Indication}
 use Rattle.aos_frame.specs.declared.config.Lane.{Lane}
 use Rattle.cfdp_header.specs.Files.{FileMap}
@@ -7,7 +7,7 @@ use Rattle.link_sim.specs.Recovering.{EndsBy, IsRecovered, Recovers}
 use Rattle.link_sim.specs.Settling.{GoesWell, HasCause, IsSettled}
 use Rattle.link_sim.specs.Spreading.{BurstFindsNoMemory, Bursts, SpreadFindsNoMemory, Spreads, Times}
 use Rattle.link_sim.specs.World.State.{WorldState, entity_at, lane_from}
-use Rattle.link_sim.specs.World.Steps.{FindsNoMemory, NoneWaits, Steps, WantsMemory, side_in}
+use Rattle.link_sim.specs.World.Steps.{FindsNoMemory, NoneWaits, Steps, WantsMemory, oldest_of, side_in}
 use Rattle.link_sim.specs.declared.event.Applied.TheVariants as did
 use Rattle.link_sim.specs.declared.event.Event.{Event}
 use Rattle.link_sim.specs.declared.event.Event.TheVariants as event
@@ -20,7 +20,8 @@ use Rattle.cfdp_report.specs.declared.report.answer.Answer.{Answer}
 use Rattle.cfdp_report.specs.declared.report.answer.Answered.{Answered}
 use Rattle.cfdp_report.specs.declared.report.answer.Answer.TheVariants.{Nothing, Refused, Ended}
 use Rattle.cfdp_script.specs.declared.script.command.Command.{Command}
-use Rattle.cfdp_script.specs.declared.script.command.Command.TheVariants.{Once, Repeat, First, Spread, Burst, Settle as SettleAll, Recover}
+use Rattle.cfdp_script.specs.declared.script.command.Command.TheVariants.{Once, Repeat, First, Damage as DamageOne, Spread, Burst, Settle as SettleAll, Recover}
+use Rattle.cfdp_script.specs.declared.script.command.Damage.{Damage}
 use Rattle.cfdp_script.specs.declared.script.command.Fate.{Fate}
 use Rattle.cfdp_script.specs.Script.Lines.{befalls}
 use Rattle.cfdp_script.specs.declared.script.Step.{Step}
@@ -76,6 +77,34 @@ HappensToFirsts fate s count (Some answer) old new = (before : ℕ) × (before <
     × (why : Answer) × (answer ≡ answer_after before why)
     × HappensToFirst fate s (Some why) last new
 
+-- ---- damaged frames
+-- a frame with one octet replaced; the frame itself, where it has no octet there
+abbrev pub damaged : Damage → List ℕ → List ℕ
+damaged damage frame =
+    if nat_lt damage.at (length frame)
+    then take damage.at frame ++ damage.octet ∷ drop 1 (drop damage.at frame) else frame
+
+-- It is a frame of this lane: of the one that is said, or of one in which a frame waits, if one
+-- waits in either.
+abbrev pub IsDamagedIn : Option Lane → Side → Lane → WorldState → Type 0
+IsDamagedIn (Some said) s lane w = lane ≡ said
+IsDamagedIn None s lane w = MayTake s lane w
+
+-- The octets are the oldest frame that waits in a lane, damaged, if one waits there.
+abbrev pub ComesAs : Damage → Side → Lane → List ℕ → WorldState → Type 0
+ComesAs damage s lane octets w =
+    NoneWaits s lane w ⊎ (octets ≡ damaged damage (oldest_of (lane_from s lane w)))
+
+-- That came in the place of the oldest frame, or the answer says why it didn't. Where there was no
+-- memory for it nothing happened.
+abbrev pub HappensDamaged : Side → Option Lane → Damage → Option Answer → (old new : WorldState)
+    → Type 0
+HappensDamaged s said damage answer old new =
+    ((lane : Lane) × (octets : List ℕ) × IsDamagedIn said s lane old
+    × ComesAs damage s lane octets old × HappensOnce (event.Damage s lane octets) answer old new)
+    ⊎ ((answer ≡ Some (Ended (Settle NoMemory))) × (new ≡ old))
+
+-- ---- commands that go on until nothing is left to do
 -- All was done; or an error ended it before, which is the answer.
 abbrev pub IsDone : Option Answer → Type 0 → (RecoverError → Type 0) → Type 0
 IsDone None done ended = done
@@ -93,6 +122,7 @@ abbrev pub Performs : Command → Option Answer → (old new : WorldState) → T
 Performs (Once e) answer old new = HappensOnce e answer old new
 Performs (Repeat e count) answer old new = HappensOften e count answer old new
 Performs (First fate s count) answer old new = HappensToFirsts fate s count answer old new
+Performs (DamageOne s said damage) answer old new = HappensDamaged s said damage answer old new
 Performs (Spread s) answer old new =
     IsDone answer (Spreads s old new) (λ error. ForMemory error (SpreadFindsNoMemory s old new))
 Performs (Burst s) answer old new =

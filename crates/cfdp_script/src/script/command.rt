@@ -7,7 +7,7 @@ ghost use Rattle.cfdp_script.specs.Script.Lines.{fill_of, fill_count, command_of
 ghost use Rattle.cfdp_script.specs.Script.Lines.{motion_of, round_of, station_words};
 ghost use Rattle.cfdp_script.specs.Script.Lines.{transaction_words, number_words, frames_of};
 ghost use Rattle.cfdp_script.specs.Script.Lines.{which_of, count_of, frame_count, lane_of, prompt_of, asked_of};
-ghost use Rattle.cfdp_script.specs.Script.Lines.{id_of, station_of};
+ghost use Rattle.cfdp_script.specs.Script.Lines.{damage_at, damage_of, damaged_of, id_of, station_of};
 
 use crate::script::words::{Words, cut_at_first};
 use cfdp_directives::Octets;
@@ -71,7 +71,18 @@ pub enum Command {
     Repeat(Event, u64),
     /// So many times what befalls the frame that the station sent first, of all of its frames that
     /// wait in either lane: `deliver S [N]`, `strike S [N]`.
-    First { fate: Fate, from: Side, count: u64 },
+    First {
+        fate: Fate,
+        from: Side,
+        count: u64,
+    },
+    /// `damage S AT HH`, `damage S LANE AT HH`: the oldest frame that waits in the lane comes
+    /// damaged; without a lane the one that the station sent first.
+    Damage {
+        from: Side,
+        lane: Option<Lane>,
+        damage: Damage,
+    },
     /// `spread S`: polls until nothing is due, with a flush after each PDU.
     Spread(Side),
     /// `burst S`: polls until nothing is due, then one flush.
@@ -81,6 +92,15 @@ pub enum Command {
     /// `recover`: settles, and tells stations the time and settles again, until no timer is armed
     /// but those of Inactivity.
     Recover,
+}
+
+/// What is damaged of a frame: one octet comes as another one.
+#[derive(Clone, Copy)]
+pub struct Damage {
+    /// How many octets of the frame stand in front of it.
+    pub at: u64,
+    /// What comes in its place.
+    pub octet: u8,
 }
 
 /// What befalls a frame that waits.
@@ -278,6 +298,8 @@ fn parse_motion(verb: &[u8], words: Words<'_>) -> Result<Command, LineError>
         parse_frames(Fate::Arrives, words)
     } else if verb == b"strike".as_slice() {
         parse_frames(Fate::IsLost, words)
+    } else if verb == b"damage".as_slice() {
+        parse_damaged(words)
     } else {
         parse_round(verb, words)
     }
@@ -353,6 +375,43 @@ fn parse_which(fate: Fate, from: Side, mut words: Words<'_>) -> Result<Command, 
             Ok(Command::First { fate, from, count })
         }
     }
+}
+
+/// What is damaged: of which station, of which of its frames, and what of it.
+fn parse_damaged(mut words: Words<'_>) -> Result<Command, LineError>
+    ensures { result_ok result ≡ damaged_of (left words.entry) }
+{
+    let from = parse_station(words.next_word()?)?;
+    parse_damage_at(from, words)
+}
+
+/// Which frame, and what of it: where no lane stands there, that which was sent first.
+fn parse_damage_at(from: Side, mut words: Words<'_>) -> Result<Command, LineError>
+    ensures { result_ok result ≡ damage_at from (left words.entry) }
+{
+    let word = words.next_word()?;
+    match parse_lane(word) {
+        Some(lane) => {
+            let (at, octet) = words.two()?;
+            let (lane, damage) = (Some(lane), parse_damage(at, octet)?);
+            Ok(Command::Damage { from, lane, damage })
+        }
+        None => {
+            let octet = words.one()?;
+            let (lane, damage) = (None, parse_damage(word, octet)?);
+            Ok(Command::Damage { from, lane, damage })
+        }
+    }
+}
+
+/// Which octet of a frame, and what comes in its place.
+fn parse_damage(at: &[u8], octet: &[u8]) -> Result<Damage, LineError>
+    ensures { result_ok result ≡ damage_of at.now octet.now }
+{
+    Ok(Damage {
+        at: parse_value(at)?,
+        octet: parse_octet(octet)?,
+    })
 }
 
 /// How many: one where no number stands there.

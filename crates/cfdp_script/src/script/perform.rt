@@ -1,21 +1,27 @@
+ghost use Rattle.std.specs.Prelude.{◌≡◌, IfOk};
 ghost use Rattle.link_sim.specs.declared.event.Event.{Event};
 ghost use Rattle.cfdp_script.specs.Script.Run.{HappensOften, HappensOnce, HappensToFirst};
 ghost use Rattle.cfdp_script.specs.Script.Run.{HappensToFirsts, Performs};
+ghost use Rattle.cfdp_script.specs.Script.Run.{ComesAs, HappensDamaged, IsDamagedIn, damaged};
 
-use crate::script::command::{Command, Fate};
+use crate::script::command::{Command, Damage, Fate};
+use cfdp_directives::Octets;
 use cfdp_report::Answer;
 use link_sim::{Applied, Event, Lane, RecoverError, Side, Stations};
-use std::alloc::AllocError;
+use std::alloc::{AllocError, Global};
 
 /// Does what a command says. Answers why it was not done, or not to its end: the first answer of an
 /// event that isn't that it happened ends the command.
-pub fn perform<S: Stations>(stations: &mut S, command: &Command) -> Option<Answer>
+pub fn perform<S: Stations>(alloc: Global, stations: &mut S, command: &Command) -> Option<Answer>
     ensures { Performs command.now result (S.world stations.old) (S.world stations.new) }
 {
     match command {
         Command::Once(event) => once(stations, event),
         Command::Repeat(event, count) => repeat(stations, event, *count),
         Command::First { fate, from, count } => repeat_first(stations, *fate, *from, *count),
+        Command::Damage { from, lane, damage } => {
+            damage_oldest(alloc, stations, *from, *lane, *damage)
+        }
         Command::Spread(side) => match stations.spread(*side) {
             Ok(()) => None,
             Err(AllocError) => Some(Answer::NO_MEMORY),
@@ -79,4 +85,71 @@ fn repeat_first<S: Stations>(stations: &mut S, fate: Fate, from: Side, count: u6
         }
     }
     None
+}
+
+/// Damages the oldest frame that waits in this lane, or without one that which the station sent
+/// first, of all that wait in either lane. Answers why it didn't.
+fn damage_oldest<S: Stations>(
+    alloc: Global,
+    stations: &mut S,
+    side: Side,
+    said: Option<Lane>,
+    damage: Damage,
+) -> Option<Answer>
+    ensures { HappensDamaged side said damage result (S.world stations.old)
+        (S.world stations.new) }
+{
+    let lane = lane_of(stations, side, said);
+    match oldest_damaged(alloc, stations, side, lane, damage) {
+        Ok(octets) => once(stations, &Event::Damage { side, lane, octets }),
+        Err(AllocError) => Some(Answer::NO_MEMORY),
+    }
+}
+
+/// The lane whose oldest frame is damaged: that which is said, or that of the frame sent first.
+fn lane_of<S: Stations>(stations: &S, side: Side, said: Option<Lane>) -> Lane
+    ensures { IsDamagedIn said side result (S.world stations.now) }
+{
+    match said {
+        Some(lane) => lane,
+        None => stations.first_sent(side).unwrap_or(Lane::Directives),
+    }
+}
+
+/// The oldest frame that waits in a lane, damaged; no octets where none waits.
+///
+/// # Errors
+///
+/// `AllocError` where there is no memory for it.
+fn oldest_damaged<S: Stations>(
+    alloc: Global,
+    stations: &S,
+    side: Side,
+    lane: Lane,
+    damage: Damage,
+) -> Result<Octets, AllocError>
+    ensures { IfOk result (λ octets. ComesAs damage side lane octets (S.world stations.now)) }
+{
+    match stations.oldest_frame(side, lane) {
+        Some(frame) => damaged(alloc, frame, damage),
+        None => Ok(Octets::from_vec(Vec::new(alloc))),
+    }
+}
+
+/// A frame with one octet replaced; the frame itself, where it has no octet there.
+///
+/// # Errors
+///
+/// `AllocError` where there is no memory for it.
+fn damaged(alloc: Global, frame: &[u8], damage: Damage) -> Result<Octets, AllocError>
+    ensures { IfOk result (λ octets. octets ≡ damaged damage frame.now) }
+{
+    if damage.at >= frame.len() as u64 {
+        return Octets::copied(alloc, frame);
+    }
+    let (front, rest) = frame.split_at(damage.at as usize);
+    let mut octets = Vec::from_slice(alloc, front)?;
+    octets.push(damage.octet)?;
+    octets.extend_from_slice(&rest[1..])?;
+    Ok(Octets::from_vec(octets))
 }

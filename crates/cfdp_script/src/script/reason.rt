@@ -1,5 +1,5 @@
 //! What is wrong with a line of a script, as it is told.
-ghost use Rattle.std.specs.Prelude.{◌≡◌};
+ghost use Rattle.std.specs.Prelude.{◌≡◌, ◌<◌};
 
 use crate::script::command::FileLine;
 use crate::script::words::cut_at_first;
@@ -15,7 +15,7 @@ struct Form {
     form: &'static str,
 }
 
-const FORMS: [Form; 17] = [
+const FORMS: [Form; 18] = [
     Form {
         verb: "set",
         form: "set KEY N",
@@ -67,6 +67,10 @@ const FORMS: [Form; 17] = [
     Form {
         verb: "strike",
         form: "strike S [dir|data] [N]",
+    },
+    Form {
+        verb: "damage",
+        form: "damage S [dir|data] AT HH",
     },
     Form {
         verb: "spread",
@@ -122,14 +126,16 @@ fn wrong_word(text: &[u8], error: LineError) -> &[u8] {
         LineError::UnknownLane | LineError::BadId => word_behind(text, 2),
         LineError::BadNumber => word_behind(text, words_before_number(text)),
         LineError::UnknownPrompt | LineError::FileTooLong => word_behind(text, 3),
-        LineError::BadOctet if word_behind(text, 0) == b"fill".as_slice() => word_behind(text, 4),
+        LineError::BadOctet => word_behind(text, words_before_number(text) + 1),
         _ => &[],
     }
 }
 
 /// How many words stand before the number of a command that has one: a name or a lane may be among
 /// them.
-fn words_before_number(text: &[u8]) -> u64 {
+fn words_before_number(text: &[u8]) -> u64
+    ensures { result < 4 }
+{
     let (verb, third) = (word_behind(text, 0), word_behind(text, 2));
     if verb == b"fill".as_slice() || third == b"dir".as_slice() || third == b"data".as_slice() {
         3

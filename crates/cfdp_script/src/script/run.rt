@@ -30,7 +30,7 @@ pub fn run_steps<S: Stations, W: Write>(
     let Ok(mut answered) = Vec::with_capacity(alloc, steps.len()) else {
         return Exit::Device(Fault::NoMemoryAtStart);
     };
-    perform_all(stations, steps, &mut answered);
+    perform_all(alloc, stations, steps, &mut answered);
     match report(stations, steps, answered.as_slice(), out) {
         Ok(exit) => exit,
         Err(_) => Exit::Device(Fault::Unwritable),
@@ -38,7 +38,12 @@ pub fn run_steps<S: Stations, W: Write>(
 }
 
 /// Does all commands in turn, and keeps what each answered.
-fn perform_all<S: Stations>(stations: &mut S, steps: &[Step], answered: &mut Vec<Answered>)
+fn perform_all<S: Stations>(
+    alloc: Global,
+    stations: &mut S,
+    steps: &[Step],
+    answered: &mut Vec<Answered>,
+)
     requires none { answered.old.items ≡ [] }
     requires room { length steps.now ≤ vec_capacity answered.old }
     ensures { Runs steps.now answered.new.items (S.world stations.old) (S.world stations.new) }
@@ -46,7 +51,7 @@ fn perform_all<S: Stations>(stations: &mut S, steps: &[Step], answered: &mut Vec
     for step in steps {
         let line = step.line;
         stations.comes_to(line);
-        let answer = perform(stations, &step.command);
+        let answer = perform(alloc, stations, &step.command);
         answered.push_reserved(Answered { line, answer });
     }
 }

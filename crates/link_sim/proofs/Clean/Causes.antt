@@ -118,6 +118,7 @@ not-refused (event.Resume s id) by old new of_it h = of_it
 not-refused (event.Prompt s id keep_alive) by old new of_it h = of_it
 not-refused (event.Tick s now) by old new of_it h = of_it
 not-refused (event.Strike s l) by old new of_it h = of_it
+not-refused (event.Damage s l octets) by old new of_it h = of_it
 
 -- what did nothing leaves all as it was
 pub nothing-same : (e : Event) (old new : WorldState) → IsOfSettling e → Steps e did.Nothing old new → new ≡ old
@@ -131,6 +132,7 @@ nothing-same (event.Resume s id) old new of_it h = absurd of_it
 nothing-same (event.Prompt s id keep_alive) old new of_it h = absurd of_it
 nothing-same (event.Tick s now) old new of_it h = absurd of_it
 nothing-same (event.Strike s l) old new of_it h = absurd of_it
+nothing-same (event.Damage s l octets) old new of_it h = absurd of_it
 
 -- an error that is handed up
 pub err-then : {X : Type 0} (r : Result X SettleError) (P : SettleError → Type 0) (y e : SettleError) → r ≡ Err y → y ≡ e → P e → IfErr r P

@@ -35,6 +35,7 @@ module _ (old new : WorldState) where
   put-added (did.Refused (refusal.Put by)) s source destination h = inl h.stays.counts.puts
   put-added (did.Refused (refusal.Call by)) s source destination h = absurd h
   put-added (did.Refused refusal.LossRunTooLong) s source destination h = absurd h
+  put-added (did.Refused refusal.NotDamaged) s source destination h = absurd h
 
   call-added : (d : Applied) (s : Side) (c : Request) (id : TransactionId) → Calls d s c id old new → Added old new
   call-added did.Applied s c id h = inl h.counts.puts
@@ -42,6 +43,7 @@ module _ (old new : WorldState) where
   call-added (did.Refused (refusal.Put by)) s c id h = absurd h
   call-added (did.Refused (refusal.Call by)) s c id h = same-world h.same
   call-added (did.Refused refusal.LossRunTooLong) s c id h = absurd h
+  call-added (did.Refused refusal.NotDamaged) s c id h = absurd h
 
   added : (e : Event) (d : Applied) → Steps e d old new → Added old new
   added (event.Put s source destination) d h = put-added d s source destination h
@@ -67,6 +69,13 @@ module _ (old new : WorldState) where
   added (event.Strike s l) (did.Refused (refusal.Put by)) h = absurd h
   added (event.Strike s l) (did.Refused (refusal.Call by)) h = absurd h
   added (event.Strike s l) (did.Refused refusal.LossRunTooLong) h = same-world h.same
+  added (event.Strike s l) (did.Refused refusal.NotDamaged) h = absurd h
+  added (event.Damage s l octets) did.Applied h = inl h.loses.counts.puts
+  added (event.Damage s l octets) did.Nothing h = same-world h.1
+  added (event.Damage s l octets) (did.Refused (refusal.Put by)) h = absurd h
+  added (event.Damage s l octets) (did.Refused (refusal.Call by)) h = absurd h
+  added (event.Damage s l octets) (did.Refused refusal.LossRunTooLong) h = same-world h.same
+  added (event.Damage s l octets) (did.Refused refusal.NotDamaged) h = same-world h.same
 
   -- ---- found before, found now
   module _ (m : Moves old new) where

@@ -39,7 +39,7 @@ use Rattle.link_sim.specs.Stations.{other}
 use Rattle.link_sim.specs.Sound.{IsSound}
 use Rattle.link_sim.specs.Theorem.{put_of}
 use Rattle.link_sim.specs.World.State.{WorldState, entity_at, on_way_from, station_at}
-use Rattle.link_sim.specs.World.Steps.{Stays, Puts, Calls, Polls, Flushes, Delivers, Strikes, DeliversFrame, Steps}
+use Rattle.link_sim.specs.World.Steps.{Stays, Puts, Calls, Polls, Flushes, Delivers, Strikes, Damages, DeliversFrame, Steps}
 use Rattle.link_sim.proofs.Clean.Given.{served-drops}
 use Rattle.link_sim.proofs.Clean.Puts.{IsCourseFrom, course-from}
 use Rattle.link_sim.proofs.Events.Keeping.{both}
@@ -166,6 +166,7 @@ module _ (old new : WorldState) where
   put-none (did.Refused (refusal.Put by)) s source destination h = spared-none s old new (ap (λ (e : EntityState). e.drops) h.stays.entity) h.stays.links.spares.station
   put-none (did.Refused (refusal.Call by)) s source destination h = absurd h
   put-none (did.Refused refusal.LossRunTooLong) s source destination h = absurd h
+  put-none (did.Refused refusal.NotDamaged) s source destination h = absurd h
 
   call-none : (d : Applied) (s : Side) (c : Request) (id : TransactionId) → Calls d s c id old new → CountsNone old new
   call-none did.Applied s c id h = spared-none s old new (ap (λ (e : EntityState). e.drops) h.called.called) h.links.spares.station
@@ -173,6 +174,7 @@ module _ (old new : WorldState) where
   call-none (did.Refused (refusal.Put by)) s c id h = absurd h
   call-none (did.Refused (refusal.Call by)) s c id h = same-none old new h.same
   call-none (did.Refused refusal.LossRunTooLong) s c id h = absurd h
+  call-none (did.Refused refusal.NotDamaged) s c id h = absurd h
 
   poll-none : (d : Applied) (s : Side) → Polls d s old new → CountsNone old new
   poll-none did.Applied s (inl h) = spared-none s old new (ap (λ (e : EntityState). e.drops) h.served ∙ served-drops (turn (entity_at s old)) (entity_at s old)) h.marks.spares.station
@@ -191,6 +193,17 @@ module _ (old new : WorldState) where
   strike-none (did.Refused (refusal.Put by)) s l h = absurd h
   strike-none (did.Refused (refusal.Call by)) s l h = absurd h
   strike-none (did.Refused refusal.LossRunTooLong) s l h = same-none old new h.same
+  strike-none (did.Refused refusal.NotDamaged) s l h = absurd h
+
+  damage-none : (d : Applied) (s : Side) (l : Lane) (octets : List ℕ) → Damages d s l octets old new → CountsNone old new
+  damage-none did.Applied s l octets h =
+      both (λ t. (entity_at t new).drops ≡ (entity_at t old).drops) s (ap (λ (x : StationState). x.entity.state.drops) h.loses.station)
+      (ap (λ (c : Counted). c.state.drops) h.loses.entity)
+  damage-none did.Nothing s l octets h = same-none old new h.1
+  damage-none (did.Refused (refusal.Put by)) s l octets h = absurd h
+  damage-none (did.Refused (refusal.Call by)) s l octets h = absurd h
+  damage-none (did.Refused refusal.LossRunTooLong) s l octets h = same-none old new h.same
+  damage-none (did.Refused refusal.NotDamaged) s l octets h = same-none old new h.same
 
 -- the record table of each station is no larger than it may be
 few-at : (w : WorldState) → KeepCourse w → (s : Side) → length (entity_at s w).table.records ≤ most_records
@@ -223,3 +236,4 @@ module _ (stays : (old new : TableState) → Leads old new → KeepsRecords old.
   event-full (event.Tick s now) (did.Refused by) h = absurd h
   event-full (event.Deliver s l) d h = deliver-full d s l h
   event-full (event.Strike s l) d h = none-full old new (strike-none old new d s l h)
+  event-full (event.Damage s l octets) d h = none-full old new (damage-none old new d s l octets h)

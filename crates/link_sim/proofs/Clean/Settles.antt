@@ -251,3 +251,4 @@ settles-clean laws (event.Resume s id) old new is h sound course sizes spared cl
 settles-clean laws (event.Prompt s id keep_alive) old new is h sound course sizes spared clean = absurd is
 settles-clean laws (event.Tick s now) old new is h sound course sizes spared clean = absurd is
 settles-clean laws (event.Strike s l) old new is h sound course sizes spared clean = absurd is
+settles-clean laws (event.Damage s l octets) old new is h sound course sizes spared clean = absurd is

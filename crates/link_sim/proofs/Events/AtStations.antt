@@ -22,10 +22,10 @@ use Rattle.link_sim.specs.declared.event.Applied.{Applied}
 use Rattle.link_sim.specs.declared.event.Applied.TheVariants as did
 use Rattle.link_sim.specs.declared.event.Refusal.TheVariants as refusal
 use Rattle.link_sim.specs.FrameLink.{FrameLinkState, FrameLinksState, lane_of_links, oldest}
-use Rattle.link_sim.specs.AtStation.{AddsNone, AreCarried, AreSameLinks, CarryOn, FrameArrivesAt, HearsAt, IsNotWhole, IsSameEnd, IsSameLink, IsSameMarks, OnlySends, PullsAll, PullsBoth, StrikesAt}
+use Rattle.link_sim.specs.AtStation.{AddsNone, AreCarried, AreSameLinks, AreSetUp, CarryOn, FrameArrivesAt, HearsAt, IsNotWhole, IsSameEnd, IsSameLink, IsSameMarks, OnlySends, PullsAll, PullsBoth, StrikesAt}
 use Rattle.link_sim.specs.OneWay.{OneWayState, IsOneWay, IsOneWayOf, IsCarried, IsRested, SendsMore, SendsNone, HearsMore, one_way, packets_sent}
 use Rattle.link_sim.proofs.Lanes.Frames.{sealed-channel}
-use Rattle.link_sim.proofs.Lanes.Each.{either-lane, lane-valid}
+use Rattle.link_sim.proofs.Lanes.Each.{each-lane, either-lane, lane-valid}
 use Rattle.link_sim.proofs.Ways.Carried.{same_way, sent_on}
 use Rattle.link_sim.proofs.Ways.First.{first-down_lane, first-up_lane}
 use Rattle.link_sim.proofs.OnWay.Rests.{length-idle, idle_len-fills, rests-unflushed, rests-flushed}
@@ -185,6 +185,7 @@ struck_at (did.Refused (refusal.Put by)) d k m u h is = absurd h
 struck_at (did.Refused (refusal.Call by)) d k m u h is = absurd h
 struck_at (did.Refused refusal.LossRunTooLong) d k m u h is =
     subst (λ (x : FrameLinkState). IsCarried d x u × SendsNone (one_way d k u) (one_way d x u)) (sym h.same) (is, pulled_none (one_way d k u) is.way)
+struck_at (did.Refused refusal.NotDamaged) d k m u h is = absurd h
 
 -- ---- both lanes
 -- a frame of one lane is lost
@@ -213,6 +214,14 @@ pub arrived-down : (r : Applied) (l : Lane) (k n : FrameLinkState) (old new : St
 arrived-down did.Applied l k n old new h = h.down
 arrived-down did.Nothing l k n old new h = ap (λ (s : StationState). s.down) h.2
 arrived-down (did.Refused by) l k n old new h = absurd h
+
+-- ---- how the end that receives is set up
+pub first-set-up : (u : UpState) (link : LinkConfig) → u ≡ first_up link → AreSetUp link u
+first-set-up u link is l = ap (λ (x : UpState). (lane_up l x).link) is ∙ each-lane (λ m. (lane_up m (first_up link)).link ≡ lane_channel m link) refl refl l
+
+-- between ends that are joined it stays what it is at the end that sends
+pub arrived-set-up : (link : LinkConfig) (d : DownState) (k n : FrameLinksState) (old new : UpState) → AreCarried d k old → AreCarried d n new → AreSetUp link old → AreSetUp link new
+arrived-set-up link d k n old new before after is l = (after l).way.same_link ∙ sym (before l).way.same_link ∙ is l
 
 -- ---- a flush, and the frames that it makes
 pub flushed-sends : (old mid new : StationState) (links room links_now : FrameLinksState) → AreSameLinks links room → FlushesBoth old.down mid.down → mid.up ≡ old.up →

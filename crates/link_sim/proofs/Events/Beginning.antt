@@ -31,14 +31,14 @@ use Rattle.link_sim.specs.declared.world_config.WorldConfig.{WorldConfig}
 use Rattle.link_sim.specs.Stations.{IsWorldConfig, other}
 use Rattle.link_sim.specs.OneWay.{pdus_sent, pdus_delivered}
 use Rattle.link_sim.specs.World.State.{WorldState, AreWays, LanesState, delivered_from, entity_at, files_at, no_lanes, on_lane, sent_from, way, IsFirst}
-use Rattle.link_sim.specs.World.Steps.{Puts, Calls, Polls, Flushes, Delivers, Strikes, Steps}
+use Rattle.link_sim.specs.World.Steps.{Puts, Calls, Polls, Flushes, Delivers, Strikes, Damages, Steps}
 use Rattle.link_sim.specs.Theorem.{at, put_of, completions_at}
 use Rattle.link_sim.specs.Observed.{seen}
 use Rattle.link_sim.specs.Sound.{IsSound}
 use Rattle.link_sim.proofs.Events.Keeping.{at-done, at-inbox}
-use Rattle.link_sim.proofs.Lanes.Ways.{lane-same}
+use Rattle.link_sim.proofs.Lanes.Ways.{lane-same, strikes-loses}
 use Rattle.link_sim.proofs.Work.WithinWorld.{first-within}
-use Rattle.link_sim.proofs.Events.Moving.{EntityLaws, Moves, none-in, same-moves, stays-moves, put-moves, called-moves, told-moves, sent-moves, failed-moves, filled-moves, delivered-moves, struck-moves}
+use Rattle.link_sim.proofs.Events.Moving.{EntityLaws, Moves, none-in, same-moves, stays-moves, put-moves, called-moves, told-moves, sent-moves, failed-moves, filled-moves, delivered-moves, lost-moves}
 
 -- ---- the first world
 both-none : {xs ys : List (List ℕ)} → xs ≡ [] → ys ≡ [] → xs ++ ys ≡ []
@@ -118,6 +118,7 @@ module _ (laws : EntityLaws) (old new : WorldState) (sound : IsSound old) where
   put-by (did.Refused (refusal.Put by)) s source destination h = stays-moves s old new sound h.stays
   put-by (did.Refused (refusal.Call by)) s source destination h = absurd h
   put-by (did.Refused refusal.LossRunTooLong) s source destination h = absurd h
+  put-by (did.Refused refusal.NotDamaged) s source destination h = absurd h
 
   call-by : (d : Applied) (s : Side) (k : Request) (id : TransactionId) → Calls d s k id old new → Moves old new
   call-by did.Applied s k id h = called-moves laws old new sound s k id h
@@ -125,6 +126,7 @@ module _ (laws : EntityLaws) (old new : WorldState) (sound : IsSound old) where
   call-by (did.Refused (refusal.Put by)) s k id h = absurd h
   call-by (did.Refused (refusal.Call by)) s k id h = same-moves old new sound h.same
   call-by (did.Refused refusal.LossRunTooLong) s k id h = absurd h
+  call-by (did.Refused refusal.NotDamaged) s k id h = absurd h
 
   poll-by : (d : Applied) (s : Side) → Polls d s old new → Moves old new
   poll-by did.Applied s (inl h) = sent-moves laws old new sound s h
@@ -143,11 +145,20 @@ module _ (laws : EntityLaws) (old new : WorldState) (sound : IsSound old) where
   deliver-by (did.Refused by) s l h = absurd h
 
   strike-by : (d : Applied) (s : Side) (l : Lane) → Strikes d s l old new → Moves old new
-  strike-by did.Applied s l h = struck-moves laws old new sound s l h
+  strike-by did.Applied s l h = lost-moves laws old new sound s l (strikes-loses s l old new (sound s).ways h)
   strike-by did.Nothing s l h = same-moves old new sound h.1
   strike-by (did.Refused (refusal.Put by)) s l h = absurd h
   strike-by (did.Refused (refusal.Call by)) s l h = absurd h
   strike-by (did.Refused refusal.LossRunTooLong) s l h = same-moves old new sound h.same
+  strike-by (did.Refused refusal.NotDamaged) s l h = absurd h
+
+  damage-by : (d : Applied) (s : Side) (l : Lane) (octets : List ℕ) → Damages d s l octets old new → Moves old new
+  damage-by did.Applied s l octets h = lost-moves laws old new sound s l h.loses
+  damage-by did.Nothing s l octets h = same-moves old new sound h.1
+  damage-by (did.Refused (refusal.Put by)) s l octets h = absurd h
+  damage-by (did.Refused (refusal.Call by)) s l octets h = absurd h
+  damage-by (did.Refused refusal.LossRunTooLong) s l octets h = same-moves old new sound h.same
+  damage-by (did.Refused refusal.NotDamaged) s l octets h = same-moves old new sound h.same
 
   pub event-moves : (e : Event) (d : Applied) → Steps e d old new → Moves old new
   event-moves (event.Put s source destination) d h = put-by d s source destination h
@@ -162,3 +173,4 @@ module _ (laws : EntityLaws) (old new : WorldState) (sound : IsSound old) where
   event-moves (event.Tick s now) (did.Refused by) h = absurd h
   event-moves (event.Deliver s l) d h = deliver-by d s l h
   event-moves (event.Strike s l) d h = strike-by d s l h
+  event-moves (event.Damage s l octets) d h = damage-by d s l octets h

@@ -43,7 +43,8 @@ use Rattle.link_sim.specs.declared.side.Side.{Side}
 use Rattle.link_sim.specs.declared.side.Side.TheVariants.{One, Two}
 use Rattle.link_sim.specs.Stations.{other}
 use Rattle.link_sim.specs.World.State.{WorldState, entity_at, published_at, station_at}
-use Rattle.link_sim.specs.World.Steps.{Calls, Delivers, Flushes, Polls, PublishesAt, Puts, Stays, Steps, Strikes}
+use Rattle.link_sim.specs.World.Steps.{Calls, Damages, Delivers, Flushes, Polls, PublishesAt, Puts, Stays, Steps, Strikes}
+use Rattle.link_sim.proofs.Events.Keeping.{both}
 
 -- ---- one record
 handled-files : (h : Handler) (condition : ℕ) (m : OctetMap) (files : FileMap) (r : ReceiverState) → (receiver.handled h condition m files r).files ≡ files
@@ -159,6 +160,7 @@ module _ (t : Side) (old new : WorldState) where
   put-files (did.Refused (refusal.Put by)) s source destination h = stays-files s t old new h.stays
   put-files (did.Refused (refusal.Call by)) s source destination h = absurd h
   put-files (did.Refused refusal.LossRunTooLong) s source destination h = absurd h
+  put-files (did.Refused refusal.NotDamaged) s source destination h = absurd h
 
   call-files : (d : Applied) (s : Side) (c : Request) (id : TransactionId) → Calls d s c id old new → published_at t new ≡ published_at t old
   call-files did.Applied s c id h =
@@ -167,6 +169,7 @@ module _ (t : Side) (old new : WorldState) where
   call-files (did.Refused (refusal.Put by)) s c id h = absurd h
   call-files (did.Refused (refusal.Call by)) s c id h = same-files t old new h.same
   call-files (did.Refused refusal.LossRunTooLong) s c id h = absurd h
+  call-files (did.Refused refusal.NotDamaged) s c id h = absurd h
 
   served-at : (s : Side) (stored : Stored) → entity_at s new ≡ served stored (turn (entity_at s old)) (entity_at s old) → published_at s new ≡ published_at s old
   served-at s stored is = files-of (entity_at s new) _ is ∙ served-files stored (turn (entity_at s old)) (entity_at s old)
@@ -203,6 +206,16 @@ module _ (t : Side) (old new : WorldState) where
   strike-files (did.Refused (refusal.Put by)) s l h = absurd h
   strike-files (did.Refused (refusal.Call by)) s l h = absurd h
   strike-files (did.Refused refusal.LossRunTooLong) s l h = same-files t old new h.same
+  strike-files (did.Refused refusal.NotDamaged) s l h = absurd h
+
+  damage-files : (d : Applied) (s : Side) (l : Lane) (octets : List ℕ) → Damages d s l octets old new → published_at t new ≡ published_at t old
+  damage-files did.Applied s l octets h =
+      both (λ u. published_at u new ≡ published_at u old) s (station-files s old new h.loses.station) (ap (λ e. e.state.table.files) h.loses.entity) t
+  damage-files did.Nothing s l octets h = same-files t old new h.1
+  damage-files (did.Refused (refusal.Put by)) s l octets h = absurd h
+  damage-files (did.Refused (refusal.Call by)) s l octets h = absurd h
+  damage-files (did.Refused refusal.LossRunTooLong) s l octets h = same-files t old new h.same
+  damage-files (did.Refused refusal.NotDamaged) s l octets h = same-files t old new h.same
 
   pub event-files : (e : Event) (d : Applied) → Steps e d old new → PublishesAt t e ⊎ (published_at t new ≡ published_at t old)
   event-files (event.Put s source destination) d h = inr (put-files d s source destination h)
@@ -220,3 +233,4 @@ module _ (t : Side) (old new : WorldState) where
   event-files (event.Tick s now) (did.Refused by) h = absurd h
   event-files (event.Deliver s l) d h = deliver-files d s l h
   event-files (event.Strike s l) d h = inr (strike-files d s l h)
+  event-files (event.Damage s l octets) d h = inr (damage-files d s l octets h)

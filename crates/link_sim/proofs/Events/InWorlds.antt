@@ -40,14 +40,14 @@ tries Did Kept e (Ok x) old new step same wants did kept = record { steps = step
 tries Did Kept e (Err y) old new step same wants did kept = record { steps = tt; err = same kept; lacks = wants }
 
 -- ---- a lane, as it is seen
-as-seen : (P : LinkState → Type 0) (l : Lane) (k : FrameLinksState) → P (seen_link (lane_of_links l k)) → P (on_lane l (seen_links k))
+pub as-seen : (P : LinkState → Type 0) (l : Lane) (k : FrameLinksState) → P (seen_link (lane_of_links l k)) → P (on_lane l (seen_links k))
 as-seen P l k h = subst P (sym (lane-seen l k)) h
 
 same-lane : (l : Lane) (k n : FrameLinksState) → lane_of_links l n ≡ lane_of_links l k → on_lane l (seen_links n) ≡ on_lane l (seen_links k)
 same-lane l k n e = lane-seen l n ∙ ap seen_link e ∙ sym (lane-seen l k)
 
 -- both lanes are as they were
-same-links : (l : Lane) (k n : FrameLinksState) → lane_of_links l n ≡ lane_of_links l k → lane_of_links (other_lane l) n ≡ lane_of_links (other_lane l) k → n ≡ k
+pub same-links : (l : Lane) (k n : FrameLinksState) → lane_of_links l n ≡ lane_of_links l k → lane_of_links (other_lane l) n ≡ lane_of_links (other_lane l) k → n ≡ k
 same-links l k n here there =
     let all : (m : Lane) → lane_of_links m n ≡ lane_of_links m k = either-lane (λ m. lane_of_links m n ≡ lane_of_links m k) l here there in
     let d : n.directives ≡ k.directives = all Directives in
@@ -88,6 +88,7 @@ module _ (l : Lane) (a b : StationState) (k n m : FrameLinksState) (puts : List 
     run = as-seen (λ x. x.run ≡ most_struck) l k h.run;
     same = ap (λ (x : FrameLinksState). world_of a b x m puts ticks) (same-links l k n h.same other);
   }
+  strikes-one (did.Refused refusal.NotDamaged) h is = absurd h
 
 module _ (l : Lane) (a b : StationState) (k n m : FrameLinksState) (puts : List AcceptedPut) (ticks : ℕ) (other : lane_of_links (other_lane l) n ≡ lane_of_links (other_lane l) k) where
   pub strikes-two : (r : Applied) → StrikesAt r (lane_of_links l k) (lane_of_links l n) → IsCarried (lane_down l b.down) (lane_of_links l k) (lane_up l a.up) →
@@ -113,6 +114,7 @@ module _ (l : Lane) (a b : StationState) (k n m : FrameLinksState) (puts : List 
     run = as-seen (λ x. x.run ≡ most_struck) l k h.run;
     same = ap (λ (x : FrameLinksState). world_of a b m x puts ticks) (same-links l k n h.same other);
   }
+  strikes-two (did.Refused refusal.NotDamaged) h is = absurd h
 
 -- ---- frames that arrive
 hears-seen : (l : Lane) (d : LinkSenderState) (k n : FrameLinksState) (u v : LinkReceiverState) (given : List (List ℕ)) →
@@ -321,7 +323,7 @@ module _ (a c b : StationState) (k n m : FrameLinksState) (puts : List AcceptedP
   flushes-two (did.Refused by) h is up same = absurd h
 
 -- ---- what holds of both directions
-way-on : (l : Lane) (d : LinkSenderState) (k : FrameLinksState) (u : LinkReceiverState) → IsOneWay (one_way d (lane_of_links l k) u) → IsOneWay (way d (on_lane l (seen_links k)) u)
+pub way-on : (l : Lane) (d : LinkSenderState) (k : FrameLinksState) (u : LinkReceiverState) → IsOneWay (one_way d (lane_of_links l k) u) → IsOneWay (way d (on_lane l (seen_links k)) u)
 way-on Directives d k u h = h
 way-on Data d k u h = h
 

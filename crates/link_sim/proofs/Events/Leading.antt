@@ -191,6 +191,7 @@ no-put-settles (event.Resume s id) of_it = tt
 no-put-settles (event.Prompt s id keep_alive) of_it = tt
 no-put-settles (event.Tick s now) of_it = tt
 no-put-settles (event.Strike s l) of_it = tt
+no-put-settles (event.Damage s l octets) of_it = tt
 
 pub no-put-same : (e : Event) (d : Applied) (old new : WorldState) → IsNoPut e → Steps e d old new → new.puts ≡ old.puts
 no-put-same e d old new is h = elim (puts-after e d old new h) [

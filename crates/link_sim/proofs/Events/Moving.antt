@@ -36,16 +36,16 @@ use Rattle.link_sim.specs.Stations.{other}
 use Rattle.link_sim.specs.OneWay.{IsOneWay, pdus_sent, pdus_delivered}
 use Rattle.link_sim.specs.Runs.{IsSwapped}
 use Rattle.link_sim.specs.World.State.{WorldState, AreWays, delivered_from, entity_at, sent_from, station_at, way_from}
-use Rattle.link_sim.specs.World.Steps.{KeepsLinks, KeepsOther, Stays, TakesPut, StepsAt, TellsTime, KeepsMarks, SendsOne, FailsSource, Fills, DeliversFrame, StrikesFrame}
+use Rattle.link_sim.specs.World.Steps.{KeepsLinks, KeepsOther, Stays, TakesPut, StepsAt, TellsTime, KeepsMarks, SendsOne, FailsSource, Fills, DeliversFrame, LosesFrame}
 use Rattle.link_sim.specs.Theorem.{at, side_of, put_of, put_at, with_octets}
 use Rattle.link_sim.specs.Observed.{seen}
 use Rattle.link_sim.specs.Sound.{IsSound}
 use Rattle.link_sim.proofs.Found.Puts.{SendsSame, puts-by-id, puts-more, put-last}
 use Rattle.link_sim.proofs.Events.Keeping.{both, other-other, in-either, SideMoves, PutsMove}
-use Rattle.link_sim.proofs.Lanes.Heard.{delivered-more, delivers-sent, strikes-delivered, strikes-sent}
+use Rattle.link_sim.proofs.Lanes.Heard.{delivered-more, delivers-sent, loses-delivered, loses-sent}
 use Rattle.link_sim.proofs.Lanes.Each.{either-lane}
 use Rattle.link_sim.proofs.Lanes.Joined.{lanes-same, put-in-lane, swapped-same}
-use Rattle.link_sim.proofs.Lanes.Ways.{back-delivers, back-kept, back-marks, back-strikes, delivered-kept, forth-kept, other-delivers, other-strikes, sent-kept}
+use Rattle.link_sim.proofs.Lanes.Ways.{back-delivers, back-kept, back-loses, back-marks, delivered-kept, forth-kept, other-delivers, sent-kept}
 
 -- The laws of an entity, and that of parts of lists.
 pub record EntityLaws : Type 0 where
@@ -357,13 +357,14 @@ module _ (laws : EntityLaws) (old new : WorldState) (sound : IsSound old) where
       moves-kept old new sound (each-side s old new this (unheard s h.marks same)) h.marks.counts.puts
 
   -- ---- frames
-  pub struck-moves : (s : Side) (l : Lane) → StrikesFrame s l old new → Moves old new
-  struck-moves s l h =
-      let back : (m : Lane) → way_from (other s) m new ≡ way_from (other s) m old = back-strikes s l old new h in
+  -- one that is lost, struck or damaged
+  pub lost-moves : (s : Side) (l : Lane) → LosesFrame s l old new → Moves old new
+  lost-moves s l h =
+      let back : (m : Lane) → way_from (other s) m new ≡ way_from (other s) m old = back-loses s l old new h in
       let this : SideMoves s (other s) old new =
-      resting s (other s) old new (ways-now s l h.sends.way (other-strikes s l old new h)) (strikes-sent s l old new h) (delivered-kept (other s) old new back) (ap (λ x. x.entity.state) h.station) in
+      resting s (other s) old new (λ m. (h.sends m).way) (loses-sent s l old new h) (delivered-kept (other s) old new back) (ap (λ x. x.entity.state) h.station) in
       let that : SideMoves (other s) s old new =
-      resting (other s) s old new (ways-kept (other s) old new (sound (other s)).ways back) (sent-kept (other s) old new back) (strikes-delivered s l old new h) (ap (λ x. x.entity.state) h.spares.station) in
+      resting (other s) s old new (ways-kept (other s) old new (sound (other s)).ways back) (sent-kept (other s) old new back) (loses-delivered s l old new h) (ap (λ (c : Counted). c.state) h.entity) in
       moves-kept old new sound (each-side s old new this that) h.counts.puts
 
   -- these PDUs were heard, in turn

@@ -21,9 +21,10 @@ use Rattle.link_sim.specs.Running.{AreApart}
 use Rattle.link_sim.specs.Stations.{other}
 use Rattle.link_sim.specs.Sound.{IsSound}
 use Rattle.link_sim.specs.World.State.{WorldState, AreRested, LanesState, LinkState, entity_at, lane_from, link_from, on_lane, station_at, way, way_from}
-use Rattle.link_sim.specs.World.Steps.{DeliversFrame, Fills, KeepsLinks, KeepsMarks, SendsOne, Spares, Steps, StrikesFrame, TakesPut}
+use Rattle.link_sim.specs.World.Steps.{DeliversFrame, Fills, KeepsLinks, KeepsMarks, LosesFrame, SendsOne, Spares, Steps, TakesPut}
 use Rattle.link_sim.proofs.Events.Keeping.{both}
 use Rattle.link_sim.proofs.Lanes.Each.{either-lane}
+use Rattle.link_sim.proofs.Lanes.Ways.{strikes-loses}
 use Rattle.link_sim.proofs.OnWay.Rests.{rests-flushed, rests-unflushed, same-link}
 
 -- ---- ends that rest
@@ -90,12 +91,12 @@ module _ (old new : WorldState) (sound : IsSound old) (rest : AllRest old) where
   )
       (h.down, same-frames (link_from (other s) old) (link_from (other s) new) h.back))
 
-  struck-rests : (s : Side) (l : Lane) → StrikesFrame s l old new → AllRest new
-  struck-rests s l h = all-same (both (λ t. IsSameWay t old new) s (
+  lost-rests : (s : Side) (l : Lane) → LosesFrame s l old new → AllRest new
+  lost-rests s l h = all-same (both (λ t. IsSameWay t old new) s (
     ap (λ x. x.down) h.station,
     either-lane (λ m. (lane_from s m new).frames ≡ (lane_from s m old).frames) l (ap (λ (k : LinkState). k.frames) h.link) (ap (λ (k : LinkState). k.frames) h.other_link),
   )
-      (spared-way s h.spares))
+      (h.down, same-frames (link_from (other s) old) (link_from (other s) new) h.back))
 
   pub rests-kept : (e : Event) (d : Applied) → Steps e d old new → AllRest new
   rests-kept (event.Put s source destination) did.Applied h = links-same s h.links
@@ -103,26 +104,31 @@ module _ (old new : WorldState) (sound : IsSound old) (rest : AllRest old) where
   rests-kept (event.Put s source destination) (did.Refused (refusal.Put by)) h = links-same s h.stays.links
   rests-kept (event.Put s source destination) (did.Refused (refusal.Call by)) h = absurd h
   rests-kept (event.Put s source destination) (did.Refused refusal.LossRunTooLong) h = absurd h
+  rests-kept (event.Put s source destination) (did.Refused refusal.NotDamaged) h = absurd h
   rests-kept (event.Cancel s id) did.Applied h = links-same s h.links
   rests-kept (event.Cancel s id) did.Nothing h = absurd h
   rests-kept (event.Cancel s id) (did.Refused (refusal.Put by)) h = absurd h
   rests-kept (event.Cancel s id) (did.Refused (refusal.Call by)) h = world-same h.same
   rests-kept (event.Cancel s id) (did.Refused refusal.LossRunTooLong) h = absurd h
+  rests-kept (event.Cancel s id) (did.Refused refusal.NotDamaged) h = absurd h
   rests-kept (event.Suspend s id) did.Applied h = links-same s h.links
   rests-kept (event.Suspend s id) did.Nothing h = absurd h
   rests-kept (event.Suspend s id) (did.Refused (refusal.Put by)) h = absurd h
   rests-kept (event.Suspend s id) (did.Refused (refusal.Call by)) h = world-same h.same
   rests-kept (event.Suspend s id) (did.Refused refusal.LossRunTooLong) h = absurd h
+  rests-kept (event.Suspend s id) (did.Refused refusal.NotDamaged) h = absurd h
   rests-kept (event.Resume s id) did.Applied h = links-same s h.links
   rests-kept (event.Resume s id) did.Nothing h = absurd h
   rests-kept (event.Resume s id) (did.Refused (refusal.Put by)) h = absurd h
   rests-kept (event.Resume s id) (did.Refused (refusal.Call by)) h = world-same h.same
   rests-kept (event.Resume s id) (did.Refused refusal.LossRunTooLong) h = absurd h
+  rests-kept (event.Resume s id) (did.Refused refusal.NotDamaged) h = absurd h
   rests-kept (event.Prompt s id keep_alive) did.Applied h = links-same s h.links
   rests-kept (event.Prompt s id keep_alive) did.Nothing h = absurd h
   rests-kept (event.Prompt s id keep_alive) (did.Refused (refusal.Put by)) h = absurd h
   rests-kept (event.Prompt s id keep_alive) (did.Refused (refusal.Call by)) h = world-same h.same
   rests-kept (event.Prompt s id keep_alive) (did.Refused refusal.LossRunTooLong) h = absurd h
+  rests-kept (event.Prompt s id keep_alive) (did.Refused refusal.NotDamaged) h = absurd h
   rests-kept (event.Poll s) did.Applied (inl h) = marks-same s h.marks (sent-rests s h)
   rests-kept (event.Poll s) did.Applied (inr h) = links-same s h.links
   rests-kept (event.Poll s) did.Nothing h = world-same h.1
@@ -136,11 +142,18 @@ module _ (old new : WorldState) (sound : IsSound old) (rest : AllRest old) where
   rests-kept (event.Deliver s l) did.Applied h = delivered-rests s l h
   rests-kept (event.Deliver s l) did.Nothing h = world-same h.1
   rests-kept (event.Deliver s l) (did.Refused by) h = absurd h
-  rests-kept (event.Strike s l) did.Applied h = struck-rests s l h
+  rests-kept (event.Strike s l) did.Applied h = lost-rests s l (strikes-loses s l old new (sound s).ways h)
   rests-kept (event.Strike s l) did.Nothing h = world-same h.1
   rests-kept (event.Strike s l) (did.Refused (refusal.Put by)) h = absurd h
   rests-kept (event.Strike s l) (did.Refused (refusal.Call by)) h = absurd h
   rests-kept (event.Strike s l) (did.Refused refusal.LossRunTooLong) h = world-same h.same
+  rests-kept (event.Strike s l) (did.Refused refusal.NotDamaged) h = absurd h
+  rests-kept (event.Damage s l octets) did.Applied h = lost-rests s l h.loses
+  rests-kept (event.Damage s l octets) did.Nothing h = world-same h.1
+  rests-kept (event.Damage s l octets) (did.Refused (refusal.Put by)) h = absurd h
+  rests-kept (event.Damage s l octets) (did.Refused (refusal.Call by)) h = absurd h
+  rests-kept (event.Damage s l octets) (did.Refused refusal.LossRunTooLong) h = world-same h.same
+  rests-kept (event.Damage s l octets) (did.Refused refusal.NotDamaged) h = world-same h.same
 
 -- ---- puts
 -- What an event does to the puts: one more, or none.
@@ -151,26 +164,31 @@ puts-after (event.Put s source destination) did.Nothing old new h = absurd h
 puts-after (event.Put s source destination) (did.Refused (refusal.Put by)) old new h = inr h.stays.counts.puts
 puts-after (event.Put s source destination) (did.Refused (refusal.Call by)) old new h = absurd h
 puts-after (event.Put s source destination) (did.Refused refusal.LossRunTooLong) old new h = absurd h
+puts-after (event.Put s source destination) (did.Refused refusal.NotDamaged) old new h = absurd h
 puts-after (event.Cancel s id) did.Applied old new h = inr h.counts.puts
 puts-after (event.Cancel s id) did.Nothing old new h = absurd h
 puts-after (event.Cancel s id) (did.Refused (refusal.Put by)) old new h = absurd h
 puts-after (event.Cancel s id) (did.Refused (refusal.Call by)) old new h = inr (ap (λ (w : WorldState). w.puts) h.same)
 puts-after (event.Cancel s id) (did.Refused refusal.LossRunTooLong) old new h = absurd h
+puts-after (event.Cancel s id) (did.Refused refusal.NotDamaged) old new h = absurd h
 puts-after (event.Suspend s id) did.Applied old new h = inr h.counts.puts
 puts-after (event.Suspend s id) did.Nothing old new h = absurd h
 puts-after (event.Suspend s id) (did.Refused (refusal.Put by)) old new h = absurd h
 puts-after (event.Suspend s id) (did.Refused (refusal.Call by)) old new h = inr (ap (λ (w : WorldState). w.puts) h.same)
 puts-after (event.Suspend s id) (did.Refused refusal.LossRunTooLong) old new h = absurd h
+puts-after (event.Suspend s id) (did.Refused refusal.NotDamaged) old new h = absurd h
 puts-after (event.Resume s id) did.Applied old new h = inr h.counts.puts
 puts-after (event.Resume s id) did.Nothing old new h = absurd h
 puts-after (event.Resume s id) (did.Refused (refusal.Put by)) old new h = absurd h
 puts-after (event.Resume s id) (did.Refused (refusal.Call by)) old new h = inr (ap (λ (w : WorldState). w.puts) h.same)
 puts-after (event.Resume s id) (did.Refused refusal.LossRunTooLong) old new h = absurd h
+puts-after (event.Resume s id) (did.Refused refusal.NotDamaged) old new h = absurd h
 puts-after (event.Prompt s id keep_alive) did.Applied old new h = inr h.counts.puts
 puts-after (event.Prompt s id keep_alive) did.Nothing old new h = absurd h
 puts-after (event.Prompt s id keep_alive) (did.Refused (refusal.Put by)) old new h = absurd h
 puts-after (event.Prompt s id keep_alive) (did.Refused (refusal.Call by)) old new h = inr (ap (λ (w : WorldState). w.puts) h.same)
 puts-after (event.Prompt s id keep_alive) (did.Refused refusal.LossRunTooLong) old new h = absurd h
+puts-after (event.Prompt s id keep_alive) (did.Refused refusal.NotDamaged) old new h = absurd h
 puts-after (event.Poll s) did.Applied old new (inl h) = inr h.marks.counts.puts
 puts-after (event.Poll s) did.Applied old new (inr h) = inr h.counts.puts
 puts-after (event.Poll s) did.Nothing old new h = inr (ap (λ (w : WorldState). w.puts) h.1)
@@ -189,6 +207,13 @@ puts-after (event.Strike s l) did.Nothing old new h = inr (ap (λ (w : WorldStat
 puts-after (event.Strike s l) (did.Refused (refusal.Put by)) old new h = absurd h
 puts-after (event.Strike s l) (did.Refused (refusal.Call by)) old new h = absurd h
 puts-after (event.Strike s l) (did.Refused refusal.LossRunTooLong) old new h = inr (ap (λ (w : WorldState). w.puts) h.same)
+puts-after (event.Strike s l) (did.Refused refusal.NotDamaged) old new h = absurd h
+puts-after (event.Damage s l octets) did.Applied old new h = inr h.loses.counts.puts
+puts-after (event.Damage s l octets) did.Nothing old new h = inr (ap (λ (w : WorldState). w.puts) h.1)
+puts-after (event.Damage s l octets) (did.Refused (refusal.Put by)) old new h = absurd h
+puts-after (event.Damage s l octets) (did.Refused (refusal.Call by)) old new h = absurd h
+puts-after (event.Damage s l octets) (did.Refused refusal.LossRunTooLong) old new h = inr (ap (λ (w : WorldState). w.puts) h.same)
+puts-after (event.Damage s l octets) (did.Refused refusal.NotDamaged) old new h = inr (ap (λ (w : WorldState). w.puts) h.same)
 
 is-one : (p q : AcceptedPut) → Contains (p ∷ []) q → q ≡ p
 is-one p q (zero, low, e) = sym e

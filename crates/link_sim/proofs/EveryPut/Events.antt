@@ -37,11 +37,11 @@ use Rattle.link_sim.specs.Stations.{other}
 use Rattle.link_sim.specs.Sound.{IsSound}
 use Rattle.link_sim.specs.Theorem.{put_of, put_by, accepted_as}
 use Rattle.link_sim.specs.World.State.{WorldState, LanesState, delivered_from, entity_at, no_lanes, on_lane, on_way_from, station_at, way, way_from, IsFirst}
-use Rattle.link_sim.specs.World.Steps.{KeepsLinks, Stays, TakesPut, StepsAt, TellsTime, SendsOne, FailsSource, Fills, HasFrame, DeliversFrame, StrikesFrame, Puts, Calls, Polls, Flushes, Delivers, Strikes, Steps}
+use Rattle.link_sim.specs.World.Steps.{KeepsLinks, Stays, TakesPut, StepsAt, TellsTime, SendsOne, FailsSource, Fills, HasFrame, DeliversFrame, LosesFrame, Puts, Calls, Polls, Flushes, Delivers, Strikes, Damages, Steps}
 use Rattle.link_sim.proofs.Events.Beginning.{event-moves}
 use Rattle.link_sim.proofs.EveryPut.Heard.{Runs, Given, Ran, given-all, given-part, lost-run, run}
 use Rattle.link_sim.proofs.EveryPut.Kept.{Kept, kept-same, kept-losses, kept-called, kept-ticked, kept-sent, kept-failed, kept-run, kept-put}
-use Rattle.link_sim.proofs.EveryPut.Lost.{loses-kept, loses-marks, loses-delivered, loses-struck}
+use Rattle.link_sim.proofs.EveryPut.Lost.{loses-kept, loses-marks, loses-delivered, loses-one}
 use Rattle.link_sim.proofs.Events.Keeping.{Grounds, each, other-other, entity-then, heard-true}
 use Rattle.link_sim.proofs.EveryPut.Steps.{IsInOrder, in-order}
 use Rattle.link_sim.proofs.EveryPut.Known.{first-known, front-known}
@@ -52,9 +52,9 @@ use Rattle.link_sim.proofs.Lanes.Heard.{given-delivered}
 use Rattle.link_sim.proofs.Lanes.Joined.{lanes-same, swapped-among, swapped-back}
 use Rattle.link_sim.proofs.Lanes.Same.{same-on-way}
 use Rattle.link_sim.proofs.Lanes.Swapping.{swapped-kept}
-use Rattle.link_sim.proofs.Lanes.Ways.{back-kept, forth-kept, lane-same}
+use Rattle.link_sim.proofs.Lanes.Ways.{back-kept, forth-kept, lane-same, strikes-loses}
 use Rattle.link_sim.proofs.OnWay.Pdus.{pdus_ended}
-use Rattle.link_sim.proofs.OnWay.World.{SendsOnWay, FlushesOnWay, HearsOnWay, TakesOffWay, polls-on-way, fills-on-way, delivers-on-way, strikes-on-way}
+use Rattle.link_sim.proofs.OnWay.World.{SendsOnWay, FlushesOnWay, HearsOnWay, TakesOffWay, polls-on-way, fills-on-way, delivers-on-way, loses-on-way}
 use Rattle.link_sim.proofs.Found.Puts.{puts-by-id, found-by, accepted-among, accepted-id}
 
 -- ---- seen from either station
@@ -312,9 +312,9 @@ module _ (laws : EntityLaws) (grounds : Grounds) (stays : (old new : TableState)
         (start s (loses-delivered s old new l h) k))
 
     -- with those on their way that the lost frame ends in front
-    lost-courses : (s : Side) (l : Lane) (h : StrikesFrame s l old new) (gone : List (List ℕ)) (on : TakesOffWay s gone old new) →
+    past-courses : (s : Side) (l : Lane) (h : LosesFrame s l old new) (gone : List (List ℕ)) (on : TakesOffWay s gone old new) →
         Kept P (LosesNone new) (entity_at s old) (entity_at (other s) old) (gone ++ on_way_from s new) (on_way_from (other s) old) → KeepCourse new
-    lost-courses s l h gone on kept =
+    past-courses s l h gone on kept =
         let c0 : Counted = (station_at (other s) old).entity in
         let e : EntityState = entity_at s old in
         let a : List (List ℕ) = on_way_from s new in
@@ -322,21 +322,21 @@ module _ (laws : EntityLaws) (grounds : Grounds) (stays : (old new : TableState)
         let parts : InTwo gone a kept.forth = spelled-split gone a kept.forth kept.spelled in
         let known : AreKnown P e c0.state parts.rest kept.back = front-known P e c0.state parts.first parts.rest kept.back (subst (λ l. AreKnown P e c0.state l kept.back) parts.joined kept.known) in
         let after : Kept P (LosesNone new) e c0.state a b = kept-run P (LosesNone new) e c0 c0 gone a b refl (order s) kept (known.1, known.0) kept.kinds_there
-        (λ lossless none. all-lost-by P parts.first c0 (LosesNone new) (loses-struck s old new l h) lossless none) in
+        (λ lossless none. all-lost-by P parts.first c0 (LosesNone new) (loses-one s old new l h) lossless none) in
         from-kept s new (kept-as P (LosesNone new) e (entity_at s new) (entity_at (other s) old) (entity_at (other s) new) a (on_way_from s new) b (on_way_from (other s) new)
-        (ap (λ x. x.entity.state) h.station) (ap (λ x. x.entity.state) h.spares.station) refl (same-on-way (other s) old new on.back) after)
+        (ap (λ x. x.entity.state) h.station) (ap (λ (c : Counted). c.state) h.entity) refl (same-on-way (other s) old new on.back) after)
       where
         all-lost-by : (P : TransactionId → Option Put) (pdus : List Pdu) (c : Counted) (N : Type 0) → (N → ⊥) → (lossless : Bool) → (lossless ≡ true → N) → Runs P lossless pdus c c
         all-lost-by P pdus c N lost true none = absurd (lost (none refl))
         all-lost-by P pdus c N lost false none = lost-run P pdus c
 
-    pub struck-courses : (s : Side) (l : Lane) → StrikesFrame s l old new → KeepCourse old → KeepCourse new
-    struck-courses s l h k =
+    pub lost-courses : (s : Side) (l : Lane) → LosesFrame s l old new → KeepCourse old → KeepCourse new
+    lost-courses s l h k =
         let gone : List (List ℕ) = pdus_ended (way_from s l old) in
-        let on : TakesOffWay s gone old new = strikes-on-way s l old new (sound s).ways h in
-        lost-courses s l h gone on
+        let on : TakesOffWay s gone old new = loses-on-way s l old new (sound s).ways h in
+        past-courses s l h gone on
         (swapped-kept P (LosesNone new) (entity_at s old) (entity_at (other s) old) (on_way_from s old) (gone ++ on_way_from s new) (on_way_from (other s) old) on.forth
-        (start s (λ none. absurd (loses-struck s old new l h none)) k))
+        (start s (λ none. absurd (loses-one s old new l h none)) k))
 
   -- ---- each event
   same-courses : new ≡ old → KeepCourse old → KeepCourse new
@@ -351,6 +351,7 @@ module _ (laws : EntityLaws) (grounds : Grounds) (stays : (old new : TableState)
   put-by-event (did.Refused (refusal.Put by)) s source destination h k = stays-courses s h.stays k
   put-by-event (did.Refused (refusal.Call by)) s source destination h k = absurd h
   put-by-event (did.Refused refusal.LossRunTooLong) s source destination h k = absurd h
+  put-by-event (did.Refused refusal.NotDamaged) s source destination h k = absurd h
 
   call-by-event : (d : Applied) (s : Side) (c : Request) (id : TransactionId) → Moves old new → Calls d s c id old new → KeepCourse old → KeepCourse new
   call-by-event did.Applied s c id m h k = called-courses m h.counts.puts s c id h k
@@ -358,6 +359,7 @@ module _ (laws : EntityLaws) (grounds : Grounds) (stays : (old new : TableState)
   call-by-event (did.Refused (refusal.Put by)) s c id m h k = absurd h
   call-by-event (did.Refused (refusal.Call by)) s c id m h k = same-courses h.same k
   call-by-event (did.Refused refusal.LossRunTooLong) s c id m h k = absurd h
+  call-by-event (did.Refused refusal.NotDamaged) s c id m h k = absurd h
 
   poll-by-event : (d : Applied) (s : Side) → Moves old new → Polls d s old new → KeepCourse old → KeepCourse new
   poll-by-event did.Applied s m (inl h) k = sent-courses m h.marks.counts.puts s h k
@@ -376,11 +378,20 @@ module _ (laws : EntityLaws) (grounds : Grounds) (stays : (old new : TableState)
   deliver-by-event (did.Refused by) s l m h k = absurd h
 
   strike-by-event : (d : Applied) (s : Side) (l : Lane) → Moves old new → Strikes d s l old new → KeepCourse old → KeepCourse new
-  strike-by-event did.Applied s l m h k = struck-courses m h.counts.puts s l h k
+  strike-by-event did.Applied s l m h k = lost-courses m h.counts.puts s l (strikes-loses s l old new (sound s).ways h) k
   strike-by-event did.Nothing s l m h k = same-courses h.1 k
   strike-by-event (did.Refused (refusal.Put by)) s l m h k = absurd h
   strike-by-event (did.Refused (refusal.Call by)) s l m h k = absurd h
   strike-by-event (did.Refused refusal.LossRunTooLong) s l m h k = same-courses h.same k
+  strike-by-event (did.Refused refusal.NotDamaged) s l m h k = absurd h
+
+  damage-by-event : (d : Applied) (s : Side) (l : Lane) (octets : List ℕ) → Moves old new → Damages d s l octets old new → KeepCourse old → KeepCourse new
+  damage-by-event did.Applied s l octets m h k = lost-courses m h.loses.counts.puts s l h.loses k
+  damage-by-event did.Nothing s l octets m h k = same-courses h.1 k
+  damage-by-event (did.Refused (refusal.Put by)) s l octets m h k = absurd h
+  damage-by-event (did.Refused (refusal.Call by)) s l octets m h k = absurd h
+  damage-by-event (did.Refused refusal.LossRunTooLong) s l octets m h k = same-courses h.same k
+  damage-by-event (did.Refused refusal.NotDamaged) s l octets m h k = same-courses h.same k
 
   by-event : (e : Event) (d : Applied) → Moves old new → Steps e d old new → KeepCourse old → KeepCourse new
   by-event (event.Put s source destination) d m h k = put-by-event d s source destination h k
@@ -395,6 +406,7 @@ module _ (laws : EntityLaws) (grounds : Grounds) (stays : (old new : TableState)
   by-event (event.Tick s now) (did.Refused by) m h k = absurd h
   by-event (event.Deliver s l) d m h k = deliver-by-event d s l m h k
   by-event (event.Strike s l) d m h k = strike-by-event d s l m h k
+  by-event (event.Damage s l octets) d m h k = damage-by-event d s l octets m h k
 
   pub steps-courses : (e : Event) (d : Applied) → Steps e d old new → KeepCourse old → KeepCourse new
   steps-courses e d h k = by-event e d (event-moves laws old new sound e d h) h k

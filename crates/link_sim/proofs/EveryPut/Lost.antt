@@ -9,7 +9,7 @@ use Rattle.link_sim.specs.declared.side.Side.{Side}
 use Rattle.link_sim.specs.EveryPut.{LosesNoneAt, LosesNone}
 use Rattle.link_sim.specs.Stations.{other}
 use Rattle.link_sim.specs.World.State.{WorldState, LanesState, LinkState, lane_from, link_from, on_lane, station_at}
-use Rattle.link_sim.specs.World.Steps.{KeepsLinks, KeepsMarks, DeliversFrame, StrikesFrame}
+use Rattle.link_sim.specs.World.Steps.{KeepsLinks, KeepsMarks, DeliversFrame, LosesFrame}
 use Rattle.link_sim.proofs.Events.Keeping.{both}
 use Rattle.link_sim.proofs.Lanes.Counts.{none-sum, sum-none}
 use Rattle.link_sim.proofs.Lanes.Each.{either-lane}
@@ -71,7 +71,7 @@ module _ (s : Side) (old new : WorldState) where
             (ap (λ (x : LinkReceiverState). count_of x.drops 11) (sym h.other_up) ∙ sum-none v 11 there.memory (other_lane l)));
       })
 
-  pub loses-struck : (l : Lane) → StrikesFrame s l old new → LosesNone new → ⊥
-  loses-struck l h none =
+  pub loses-one : (l : Lane) → LosesFrame s l old new → LosesNone new → ⊥
+  loses-one l h none =
       let here : LosesNoneAt s new = none s in
       none-struck (lane_from s l old).marks (ap (λ (k : LinkState). list_any not k.marks) (sym h.link) ∙ here.none_lost l)

@@ -1,5 +1,5 @@
 -- What the octets on their way say: each text is one PDU, and what is heard of it is that PDU.
-use Rattle.std.proofs.Common.{◌≡◌, ℕ, ◌+◌, ◌-◌, ◌*◌, ◌≤◌, eqb, true, false, Bool, List, [], ◌∷◌, ◌++◌, length, take, drop, Option, Some, None, Err, ◌⊎◌, inl, inr, refl, sym, ap, subst, ◌∙◌, arith}
+use Rattle.std.proofs.Common.{◌≡◌, ℕ, ◌+◌, ◌-◌, ◌≤◌, eqb, true, false, Bool, List, [], ◌∷◌, ◌++◌, length, drop, Option, Some, None, Err, ◌⊎◌, inl, inr, refl, sym, ap, subst, ◌∙◌, arith}
 use Rattle.std.specs.List.{fold}
 use Rattle.std.proofs.lemmas.List.{append_assoc, length-take-le}
 use Rattle.cfd_bits.specs.Field.{field, flag}

@@ -13,10 +13,10 @@ use Rattle.link_sim.specs.declared.side.Side.{Side}
 use Rattle.link_sim.specs.OneWay.{OneWayState, packets_sent, pdus_delivered, pdus_sent}
 use Rattle.link_sim.specs.Runs.{IsSwapped}
 use Rattle.link_sim.specs.World.State.{WorldState, delivered_from, sent_from, way_from}
-use Rattle.link_sim.specs.World.Steps.{DeliversFrame, StrikesFrame}
+use Rattle.link_sim.specs.World.Steps.{DeliversFrame, LosesFrame}
 use Rattle.link_sim.proofs.Lanes.Each.{either-lane}
 use Rattle.link_sim.proofs.Lanes.Joined.{among-both, among-one, lanes-same, put-in-lane, swapped-among}
-use Rattle.link_sim.proofs.Lanes.Ways.{other-delivers, other-strikes}
+use Rattle.link_sim.proofs.Lanes.Ways.{other-delivers}
 
 -- ---- a frame that is delivered
 -- what it delivers is behind what its lane delivered
@@ -31,15 +31,13 @@ delivers-sent s l old new h =
     (either-lane (λ m. pdus_sent (way_from s m new) ≡ pdus_sent (way_from s m old)) l (ap (λ ps. pdus_in (busy ps)) h.hears.packets) (ap pdus_sent (other-delivers s l old new h)))
 
 -- ---- a frame that is lost
-pub strikes-sent : (s : Side) (l : Lane) (old new : WorldState) → StrikesFrame s l old new → sent_from s new ≡ sent_from s old
-strikes-sent s l old new h =
-    lanes-same (λ m. pdus_sent (way_from s m old)) (λ m. pdus_sent (way_from s m new))
-    (either-lane (λ m. pdus_sent (way_from s m new) ≡ pdus_sent (way_from s m old)) l (ap (λ ps. pdus_in (busy ps)) h.sends.packets) (ap pdus_sent (other-strikes s l old new h)))
+pub loses-sent : (s : Side) (l : Lane) (old new : WorldState) → LosesFrame s l old new → sent_from s new ≡ sent_from s old
+loses-sent s l old new h =
+    lanes-same (λ m. pdus_sent (way_from s m old)) (λ m. pdus_sent (way_from s m new)) (λ m. ap (λ ps. pdus_in (busy ps)) (h.sends m).packets)
 
-pub strikes-delivered : (s : Side) (l : Lane) (old new : WorldState) → StrikesFrame s l old new → delivered_from s new ≡ delivered_from s old
-strikes-delivered s l old new h =
-    lanes-same (λ m. pdus_delivered (way_from s m old)) (λ m. pdus_delivered (way_from s m new))
-    (either-lane (λ m. pdus_delivered (way_from s m new) ≡ pdus_delivered (way_from s m old)) l h.sends.delivered (ap pdus_delivered (other-strikes s l old new h)))
+pub loses-delivered : (s : Side) (l : Lane) (old new : WorldState) → LosesFrame s l old new → delivered_from s new ≡ delivered_from s old
+loses-delivered s l old new h =
+    lanes-same (λ m. pdus_delivered (way_from s m old)) (λ m. pdus_delivered (way_from s m new)) (λ m. (h.sends m).delivered)
 
 -- ---- what was delivered was sent
 part-delivered : (w : OneWayState) → IsPartOf (pdus_delivered w) (pdus_sent w)

@@ -1,5 +1,5 @@
 -- The lanes of both directions that an event leaves as they were.
-use Rattle.std.proofs.Common.{◌≡◌, ap, ◌∙◌}
+use Rattle.std.proofs.Common.{◌≡◌, refl, sym, ap, subst, ◌∙◌}
 use Rattle.aos_frame.specs.Frame.{other_lane}
 use Rattle.aos_frame.specs.declared.config.Lane.{Lane}
 use Rattle.link_stack.specs.Downward.{DownState, LinkSenderState, lane_down}
@@ -7,9 +7,10 @@ use Rattle.link_stack.specs.Upward.{LinkReceiverState, UpState, lane_up}
 use Rattle.link_sim.specs.declared.side.Side.{Side}
 use Rattle.link_sim.specs.declared.side.Side.TheVariants.{One, Two}
 use Rattle.link_sim.specs.Stations.{other}
-use Rattle.link_sim.specs.OneWay.{pdus_delivered, pdus_sent}
-use Rattle.link_sim.specs.World.State.{WorldState, LanesState, LinkState, delivered_from, lane_from, link_from, on_lane, sent_from, station_at, way, way_from}
-use Rattle.link_sim.specs.World.Steps.{KeepsLinks, KeepsMarks, KeepsOther, DeliversFrame, StrikesFrame}
+use Rattle.link_sim.specs.OneWay.{OneWayState, IsOneWay, SendsNone, pdus_delivered, pdus_sent}
+use Rattle.link_sim.specs.World.State.{WorldState, AreWays, LanesState, LinkState, delivered_from, lane_from, link_from, on_lane, sent_from, station_at, way, way_from}
+use Rattle.link_sim.specs.World.Steps.{KeepsLinks, KeepsMarks, KeepsOther, DeliversFrame, LosesFrame, StrikesFrame}
+use Rattle.link_sim.proofs.Lanes.Each.{either-lane}
 use Rattle.link_sim.proofs.Lanes.Joined.{lanes-same}
 
 -- ---- a lane whose ends and frames stay
@@ -51,8 +52,8 @@ back-marks s old new k = back-same s old new (ap (λ x. x.down) k.spares.station
 pub back-delivers : (s : Side) (l : Lane) (old new : WorldState) → DeliversFrame s l old new → (m : Lane) → way_from (other s) m new ≡ way_from (other s) m old
 back-delivers s l old new h = back-same s old new h.down h.back (ap (λ x. x.up) h.station)
 
-pub back-strikes : (s : Side) (l : Lane) (old new : WorldState) → StrikesFrame s l old new → (m : Lane) → way_from (other s) m new ≡ way_from (other s) m old
-back-strikes s l old new h = back-same s old new (ap (λ x. x.down) h.spares.station) h.spares.link (ap (λ x. x.up) h.station)
+pub back-loses : (s : Side) (l : Lane) (old new : WorldState) → LosesFrame s l old new → (m : Lane) → way_from (other s) m new ≡ way_from (other s) m old
+back-loses s l old new h = back-same s old new h.down h.back (ap (λ x. x.up) h.station)
 
 -- the other lane of a frame that is taken
 pub other-delivers : (s : Side) (l : Lane) (old new : WorldState) → DeliversFrame s l old new → KeepsOther s l old new
@@ -67,6 +68,25 @@ other-strikes s l old new h =
     way-same (lane_down m (station_at s old).down) (lane_down m (station_at s new).down) (lane_from s m old) (lane_from s m new)
     (lane_up m (station_at (other s) old).up) (lane_up m (station_at (other s) new).up) (ap (λ x. lane_down m x.down) h.station) h.other_link
     (ap (λ x. lane_up m x.up) h.spares.station)
+
+-- A frame that is struck is lost, and nothing is counted.
+pub strikes-loses : (s : Side) (l : Lane) (old new : WorldState) → AreWays s old → StrikesFrame s l old new → LosesFrame s l old new
+strikes-loses s l old new is h = record {
+  waits = h.waits;
+  few = h.few;
+  link = h.link;
+  sends = either-lane (λ m. SendsNone (way_from s m old) (way_from s m new)) l h.sends
+      (subst (λ (w : OneWayState). SendsNone (way_from s (other_lane l) old) w) (sym (other-strikes s l old new h)) (sends-none (way_from s (other_lane l) old) (is (other_lane l))));
+  other_link = h.other_link;
+  station = h.station;
+  entity = ap (λ x. x.entity) h.spares.station;
+  down = ap (λ x. x.down) h.spares.station;
+  back = h.spares.link;
+  counts = h.counts;
+}
+  where
+    sends-none : (w : OneWayState) → IsOneWay w → SendsNone w w
+    sends-none w is = record { way = is; packets = refl; delivered = refl }
 
 -- ---- both lanes of a direction that stays
 pub sent-kept : (s : Side) (old new : WorldState) → ((l : Lane) → way_from s l new ≡ way_from s l old) → sent_from s new ≡ sent_from s old

@@ -1,26 +1,27 @@
 -- The PDUs on their way between two stations, and what both directions have left, after each kind of event of a settling.
-use Rattle.std.proofs.Common.{◌≡◌, ℕ, ◌+◌, ◌<◌, ◌≤◌, true, false, not, List, [], ◌∷◌, ◌++◌, ap, arith}
+use Rattle.std.proofs.Common.{◌≡◌, ℕ, ◌+◌, ◌*◌, ◌<◌, ◌≤◌, Bool, true, false, not, List, [], ◌∷◌, ◌++◌, length, ap, ◌∙◌, arith}
 use Rattle.std.specs.List.{list_any}
 use Rattle.aos_frame.specs.Frame.{other_lane}
 use Rattle.aos_frame.specs.declared.config.Lane.{Lane}
 use Rattle.aos_frame.specs.declared.config.Lane.TheVariants.{Directives, Data}
 use Rattle.mpdu.specs.Parts.{IsPartOf}
-use Rattle.link_stack.specs.Frames.{packet_of}
+use Rattle.mpdu.specs.Packets.{busy}
+use Rattle.link_stack.specs.Frames.{packet_of, pdus_in}
 use Rattle.link_stack.specs.Downward.{DownState, LinkSenderState, lane_down}
 use Rattle.link_stack.specs.Upward.{drop_count, lane_up}
 use Rattle.cfdp_station.specs.Link.{next_lane}
 use Rattle.cfdp_station.specs.Polling.{next_pdu}
 use Rattle.link_sim.specs.declared.side.Side.{Side}
 use Rattle.link_sim.specs.Stations.{other}
-use Rattle.link_sim.specs.OneWay.{on_way}
+use Rattle.link_sim.specs.OneWay.{OneWayState, behind, on_way, packets_sent}
 use Rattle.link_sim.specs.Runs.{IsSwapped}
 use Rattle.link_sim.specs.Settling.{IsSettledAt}
 use Rattle.link_sim.specs.World.State.{WorldState, LinkState, AreRested, AreWays, station_at, lane_from, entity_at, on_way_from, way_from}
-use Rattle.link_sim.specs.World.Steps.{SendsOne, Fills, HasFrame, DeliversFrame, StrikesFrame, filling}
+use Rattle.link_sim.specs.World.Steps.{SendsOne, Fills, HasFrame, DeliversFrame, LosesFrame, filling}
 use Rattle.link_sim.specs.Work.{octets_left, octets_left_from}
 use Rattle.link_sim.proofs.Lanes.Counts.{sum-none}
 use Rattle.link_sim.proofs.Lanes.Joined.{lanes-same, more-in-lane, one-fewer-in-lane, put-in-lane, take-from-lane}
-use Rattle.link_sim.proofs.Lanes.Ways.{back-delivers, back-marks, back-strikes, other-delivers, other-strikes}
+use Rattle.link_sim.proofs.Lanes.Ways.{back-delivers, back-loses, back-marks, other-delivers}
 pub use Rattle.link_sim.proofs.Lanes.Ways.{back-kept, forth-kept}
 use Rattle.link_sim.proofs.OnWay.Pdus.{pdus_ended, on-way-sends, on-way-flushes, on-way-takes, on-way-hears, on-way-all, on-way-settled}
 use Rattle.link_sim.proofs.OnWay.Left.{left-polls, left-fills, left-flushes, left-takes}
@@ -105,20 +106,34 @@ delivers-on-way s l old new is h =
       all = λ none memory. on-way-all (way_from s l old) (way_from s l new) h.given (is l) h.hears link marks (none l) (sum-none (station_at (other s) new).up 11 memory l);
     }
 
-pub strikes-on-way : (s : Side) (l : Lane) (old new : WorldState) → AreWays s old → StrikesFrame s l old new → TakesOffWay s (pdus_ended (way_from s l old)) old new
-strikes-on-way s l old new is h =
+-- One that is lost, whatever was counted at the other end.
+pub loses-on-way : (s : Side) (l : Lane) (old new : WorldState) → AreWays s old → LosesFrame s l old new → TakesOffWay s (pdus_ended (way_from s l old)) old new
+loses-on-way s l old new is h =
     let down : (lane_down l (station_at s new).down) ≡ (lane_down l (station_at s old).down) = ap (λ x. lane_down l x.down) h.station in
     let link : (lane_down l (station_at s new).down).link ≡ (lane_down l (station_at s old).down).link = ap (λ (d : LinkSenderState). d.link) down in
     let marks : (lane_from s l new).marks ≡ (lane_from s l old).marks ++ false ∷ [] = ap (λ (k : LinkState). k.marks) h.link in
     let frames : (lane_from s l new).frames ≡ (lane_from s l old).frames = ap (λ (k : LinkState). k.frames) h.link in
-    let same : way_from s (other_lane l) new ≡ way_from s (other_lane l) old = other-strikes s l old new h in
+    let m : Lane = other_lane l in
+    let same : lane_down m (station_at s new).down ≡ lane_down m (station_at s old).down = ap (λ x. lane_down m x.down) h.station in
     record {
       forth = take-from-lane l (λ m. on_way (way_from s m old)) (λ m. on_way (way_from s m new)) (pdus_ended (way_from s l old))
-          (on-way-takes (way_from s l old) (way_from s l new) false (is l) h.sends.packets link marks) (ap on_way same);
-      back = back-strikes s l old new h;
+          (on-way-takes (way_from s l old) (way_from s l new) false (is l) (h.sends l).packets link marks)
+          (on-way-same (way_from s m old) (way_from s m new) same (ap (λ (k : LinkState). k.marks) h.other_link) (h.sends m).packets);
+      back = back-loses s l old new h;
       left = one-fewer-in-lane l (λ m. octets_left (way_from s m old)) (λ m. octets_left (way_from s m new))
-          (left-takes (way_from s l old) (way_from s l new) false down frames marks h.waits) (ap octets_left same);
+          (left-takes (way_from s l old) (way_from s l new) false down frames marks h.waits)
+          (left-same (way_from s m old) (way_from s m new) same (ap (λ (k : LinkState). k.frames) h.other_link) (ap (λ (k : LinkState). k.marks) h.other_link));
     }
+  where
+    -- the other lane, whatever its end counts
+    on-way-same : (o n : OneWayState) → n.down ≡ o.down → n.marks ≡ o.marks → packets_sent n ≡ packets_sent o → on_way n ≡ on_way o
+    on-way-same o n down marks packets =
+        ap (λ ps. pdus_in (busy (behind (length n.marks * n.down.link.zone) 0 ps))) packets
+        ∙ ap (λ (ms : List Bool). pdus_in (busy (behind (length ms * n.down.link.zone) 0 (packets_sent o)))) marks
+        ∙ ap (λ (d : LinkSenderState). pdus_in (busy (behind (length o.marks * d.link.zone) 0 (packets_sent o)))) down
+
+    left-same : (o n : OneWayState) → n.down ≡ o.down → n.frames ≡ o.frames → n.marks ≡ o.marks → octets_left n ≡ octets_left o
+    left-same o n down frames marks = omega (arith, ap (λ d. length d.waiting) down, ap length frames, ap length marks)
 
 -- ---- in the end
 pub settled-on-way : (s : Side) (w : WorldState) → AreWays s w → AreRested s w → IsSettledAt s w → on_way_from s w ≡ []

@@ -52,6 +52,7 @@ settling-puts (event.Resume s id) old new of_it h = absurd of_it
 settling-puts (event.Prompt s id keep_alive) old new of_it h = absurd of_it
 settling-puts (event.Tick s now) old new of_it h = absurd of_it
 settling-puts (event.Strike s l) old new of_it h = absurd of_it
+settling-puts (event.Damage s l octets) old new of_it h = absurd of_it
 
 -- where no put was accepted
 module _ (laws : EntityLaws) (old new : WorldState) (sound : IsSound old) (m : Moves old new) (puts : new.puts ≡ old.puts) where

@@ -40,6 +40,7 @@ event-ticks (event.Resume s id) d old new of_it h = absurd of_it
 event-ticks (event.Prompt s id keep_alive) d old new of_it h = absurd of_it
 event-ticks (event.Tick s now) d old new of_it h = absurd of_it
 event-ticks (event.Strike s l) d old new of_it h = absurd of_it
+event-ticks (event.Damage s l octets) d old new of_it h = absurd of_it
 
 events-ticks : (steps : List (Event × Applied)) (old new : WorldState) → AreOfSettling steps old new → new.ticks ≡ old.ticks
 events-ticks [] old new is = ap (λ (w : WorldState). w.ticks) is

@@ -332,3 +332,4 @@ settles-run laws (event.Resume s id) d old new is h keeps sound kept = absurd is
 settles-run laws (event.Prompt s id keep_alive) d old new is h keeps sound kept = absurd is
 settles-run laws (event.Tick s now) d old new is h keeps sound kept = absurd is
 settles-run laws (event.Strike s l) d old new is h keeps sound kept = absurd is
+settles-run laws (event.Damage s l octets) d old new is h keeps sound kept = absurd is

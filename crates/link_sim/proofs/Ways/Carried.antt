@@ -1,5 +1,5 @@
 -- What the steps of a link do to a lane between events.
-use Rattle.std.proofs.Common.{◌≡◌, ℕ, List, sym, ap, subst, ◌∙◌, arith}
+use Rattle.std.proofs.Common.{◌≡◌, ℕ, List, sym, ap, subst, ◌∙◌}
 use Rattle.aos_frame.specs.Frame.{frame_len}
 use Rattle.mpdu.specs.Packets.{busy}
 use Rattle.link_stack.specs.Frames.{pdus_in}

@@ -119,3 +119,4 @@ module _ (old new : WorldState) (sound : IsSound old) (rested : (s : Side) → A
   event-less (event.Prompt s id keep_alive) of_it h = absurd of_it
   event-less (event.Tick s now) of_it h = absurd of_it
   event-less (event.Strike s l) of_it h = absurd of_it
+  event-less (event.Damage s l octets) of_it h = absurd of_it

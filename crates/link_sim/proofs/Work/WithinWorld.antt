@@ -21,7 +21,7 @@ use Rattle.link_sim.specs.declared.world_config.WorldConfig.{WorldConfig}
 use Rattle.link_sim.specs.Stations.{other}
 use Rattle.link_sim.specs.Work.{AreWithin, most_offset}
 use Rattle.link_sim.specs.World.State.{WorldState, station_at, entity_at, IsFirst}
-use Rattle.link_sim.specs.World.Steps.{Spares, Stays, TakesPut, StepsAt, TellsTime, DeliversFrame, Puts, Calls, Polls, Flushes, Delivers, Strikes, Steps}
+use Rattle.link_sim.specs.World.Steps.{Spares, Stays, TakesPut, StepsAt, TellsTime, DeliversFrame, Puts, Calls, Polls, Flushes, Delivers, Strikes, Damages, Steps}
 use Rattle.link_sim.proofs.Events.Keeping.{both, each}
 use Rattle.link_sim.proofs.Work.Within.{within-first, within-put, within-called, within-ticked, within-served}
 use Rattle.link_sim.proofs.Work.Entity.{within-hears-all}
@@ -75,6 +75,7 @@ module _ (old new : WorldState) (config : (t : Side) → IsConfig (entity_at t o
   put-by (did.Refused (refusal.Put by)) s source destination h = stays-within s h.stays
   put-by (did.Refused (refusal.Call by)) s source destination h = absurd h
   put-by (did.Refused refusal.LossRunTooLong) s source destination h = absurd h
+  put-by (did.Refused refusal.NotDamaged) s source destination h = absurd h
 
   call-by : (d : Applied) (s : Side) (k : Request) (id : TransactionId) → Calls d s k id old new → (t : Side) → Within t new
   call-by did.Applied s k id h = called-within s k id h
@@ -82,6 +83,7 @@ module _ (old new : WorldState) (config : (t : Side) → IsConfig (entity_at t o
   call-by (did.Refused (refusal.Put by)) s k id h = absurd h
   call-by (did.Refused (refusal.Call by)) s k id h = same-within h.same
   call-by (did.Refused refusal.LossRunTooLong) s k id h = absurd h
+  call-by (did.Refused refusal.NotDamaged) s k id h = absurd h
 
   poll-by : (d : Applied) (s : Side) → Polls d s old new → (t : Side) → Within t new
   poll-by did.Applied s (inl h) = one-within s h.marks.spares (served-within s Done h.served)
@@ -105,6 +107,15 @@ module _ (old new : WorldState) (config : (t : Side) → IsConfig (entity_at t o
   strike-by (did.Refused (refusal.Put by)) s l h = absurd h
   strike-by (did.Refused (refusal.Call by)) s l h = absurd h
   strike-by (did.Refused refusal.LossRunTooLong) s l h = same-within h.same
+  strike-by (did.Refused refusal.NotDamaged) s l h = absurd h
+
+  damage-by : (d : Applied) (s : Side) (l : Lane) (octets : List ℕ) → Damages d s l octets old new → (t : Side) → Within t new
+  damage-by did.Applied s l octets h = both (λ t. Within t new) s (kept s (ap (λ x. x.entity.state) h.loses.station)) (kept (other s) (ap (λ x. x.state) h.loses.entity))
+  damage-by did.Nothing s l octets h = same-within h.1
+  damage-by (did.Refused (refusal.Put by)) s l octets h = absurd h
+  damage-by (did.Refused (refusal.Call by)) s l octets h = absurd h
+  damage-by (did.Refused refusal.LossRunTooLong) s l octets h = same-within h.same
+  damage-by (did.Refused refusal.NotDamaged) s l octets h = same-within h.same
 
   pub event-within : (e : Event) (d : Applied) → Steps e d old new → (t : Side) → Within t new
   event-within (event.Put s source destination) d h = put-by d s source destination h
@@ -119,3 +130,4 @@ module _ (old new : WorldState) (config : (t : Side) → IsConfig (entity_at t o
   event-within (event.Tick s now) (did.Refused by) h = absurd h
   event-within (event.Deliver s l) d h = deliver-by d s l h
   event-within (event.Strike s l) d h = strike-by d s l h
+  event-within (event.Damage s l octets) d h = damage-by d s l octets h

@@ -2,12 +2,16 @@
 use Rattle.std.specs.Prelude.{◌≡◌, ◌≢◌, ◌⊎◌, ◌<◌, ◌≤◌, ℕ, ◌+◌, ◌%◌, Bool, true, false, List, [], ◌∷◌, ◌++◌, length, slice_index_or, Some}
 use Rattle.cfd_bits.specs.Counting.{raised}
 use Rattle.cfdp_header.specs.declared.value.TransactionId.{TransactionId}
-use Rattle.aos_frame.specs.Frame.{other_lane}
+use Rattle.aos_frame.specs.Frame.{frame_fault, other_lane}
+use Rattle.aos_frame.specs.declared.config.ChannelConfig.{ChannelConfig}
 use Rattle.aos_frame.specs.declared.config.Lane.{Lane}
+use Rattle.aos_frame.specs.declared.error.FrameError.TheVariants.{Damaged}
 use Rattle.mpdu.specs.Packing.{flush_of}
 use Rattle.link_stack.specs.Frames.{packet_of}
 use Rattle.link_stack.specs.Downward.{lane_down, packing}
-use Rattle.link_stack.specs.Upward.{lane_up}
+use Rattle.link_stack.specs.Drops.{counted}
+use Rattle.link_stack.specs.Upward.{LinkReceiverState, lane_of, lane_up}
+use Rattle.link_stack.specs.declared.drops.LinkDrop.TheVariants.{Frame}
 use Rattle.cfdp_store.specs.declared.stored.Stored.TheVariants as storeds
 use Rattle.cfdp_store.specs.Chains.{Raises}
 use Rattle.cfdp_store.specs.Stores.{Counts}
@@ -27,7 +31,7 @@ use Rattle.cfdp_entity.specs.Table.{Ticks, data_at}
 use Rattle.cfdp_station.specs.Link.{next_lane}
 use Rattle.cfdp_station.specs.Polling.{next_pdu}
 use Rattle.cfdp_station.specs.Station.{KeepsLink}
-use Rattle.cfdp_station.specs.Taking.{GivesPdus, HearsAll}
+use Rattle.cfdp_station.specs.Taking.{GivesPdus, HearsAll, TakesFrame}
 use Rattle.link_sim.specs.declared.side.Side.{Side}
 use Rattle.link_sim.specs.declared.event.Event.{Event}
 use Rattle.link_sim.specs.declared.event.Event.TheVariants as event
@@ -104,6 +108,7 @@ Puts (did.Refused (refusal.Put by)) s source destination old new =
     RefusesPut s source destination by old new
 Puts (did.Refused (refusal.Call by)) s source destination old new = ⊥
 Puts (did.Refused refusal.LossRunTooLong) s source destination old new = ⊥
+Puts (did.Refused refusal.NotDamaged) s source destination old new = ⊥
 
 -- A call on a transaction was one step of its record. Only one that gives up what is received may
 -- ask something of the inbox, and so fail there.
@@ -129,6 +134,7 @@ Calls did.Nothing s c id old new = ⊥
 Calls (did.Refused (refusal.Put by)) s c id old new = ⊥
 Calls (did.Refused (refusal.Call by)) s c id old new = RefusesCall s c id by old new
 Calls (did.Refused refusal.LossRunTooLong) s c id old new = ⊥
+Calls (did.Refused refusal.NotDamaged) s c id old new = ⊥
 
 -- The time was told to a station. What the steps of its timers asked of the inbox was counted where
 -- it failed.
@@ -271,6 +277,63 @@ Strikes did.Nothing s l old new = NoneWaits s l old × (new ≡ old)
 Strikes (did.Refused (refusal.Put by)) s l old new = ⊥
 Strikes (did.Refused (refusal.Call by)) s l old new = ⊥
 Strikes (did.Refused refusal.LossRunTooLong) s l old new = IsTooLong s l old new
+Strikes (did.Refused refusal.NotDamaged) s l old new = ⊥
+
+-- ---- frames that come damaged
+-- Octets are no frame of a channel since they were damaged: they have the length of its frames, its
+-- link has error control, and their check differs (CCSDS 732.0-B-4, 4.1.6). So they aren't the
+-- frame that was sent.
+abbrev pub ComesDamaged : List ℕ → ChannelConfig → Type 0
+ComesDamaged octets channel = frame_fault octets channel ≡ Some Damaged
+
+-- the channel of a lane of what a station sends, as the other one knows it
+abbrev pub channel_from : Side → Lane → WorldState → ChannelConfig
+channel_from s l w = (lane_up l (station_at (other s) w).up).link
+
+-- a lane that took one damaged frame more: nothing of it changed but the count of these, number 12
+abbrev pub counts_damaged : LinkReceiverState → LinkReceiverState
+counts_damaged up = record up { drops = counted up.drops (Frame Damaged) }
+
+-- The oldest waiting frame of a lane was lost, as a struck one is, whatever the other station's
+-- link counted: nothing was delivered by it, and no entity changed.
+pub record LosesFrame (s : Side) (l : Lane) (old new : WorldState) : Type 0 where
+  pub waits : length (lane_from s l old).marks < length (lane_from s l old).frames
+  pub few : (lane_from s l old).run < most_struck
+  pub link : lane_from s l new ≡ marked false ((lane_from s l old).run + 1) (lane_from s l old)
+  pub sends : (m : Lane) → SendsNone (way_from s m old) (way_from s m new)
+  pub other_link : KeepsOtherLink s l old new
+  pub station : station_at s new ≡ station_at s old
+  pub entity : (station_at (other s) new).entity ≡ (station_at (other s) old).entity
+  pub down : (station_at (other s) new).down ≡ (station_at (other s) old).down
+  pub back : link_from (other s) new ≡ link_from (other s) old
+  pub counts : KeepsCounts old new
+
+-- In the place of that frame these octets came, damaged. The other station took them: the lane that
+-- their header names dropped them and counted that, and nothing else changed there.
+pub record DamagesFrame (s : Side) (l : Lane) (octets : List ℕ) (old new : WorldState)
+    : Type 0 where
+  pub damaged : ComesDamaged octets (channel_from s l old)
+  pub loses : LosesFrame s l old new
+  pub takes : TakesFrame octets (station_at (other s) old) (station_at (other s) new)
+  pub counted : let up = (station_at (other s) old).up in let m = lane_of up octets in
+      lane_up m (station_at (other s) new).up ≡ counts_damaged (lane_up m up)
+  pub other_up : let up = (station_at (other s) old).up in let m = other_lane (lane_of up octets) in
+      lane_up m (station_at (other s) new).up ≡ lane_up m up
+
+-- The octets are no damaged frame of the lane.
+pub record IsNotDamaged (s : Side) (l : Lane) (octets : List ℕ) (old new : WorldState)
+    : Type 0 where
+  pub waits : length (lane_from s l old).marks < length (lane_from s l old).frames
+  pub differs : ComesDamaged octets (channel_from s l old) → ⊥
+  pub same : new ≡ old
+
+abbrev pub Damages : Applied → Side → Lane → List ℕ → (old new : WorldState) → Type 0
+Damages did.Applied s l octets old new = DamagesFrame s l octets old new
+Damages did.Nothing s l octets old new = NoneWaits s l old × (new ≡ old)
+Damages (did.Refused (refusal.Put by)) s l octets old new = ⊥
+Damages (did.Refused (refusal.Call by)) s l octets old new = ⊥
+Damages (did.Refused refusal.LossRunTooLong) s l octets old new = IsTooLong s l old new
+Damages (did.Refused refusal.NotDamaged) s l octets old new = IsNotDamaged s l octets old new
 
 -- ---- all events
 abbrev pub IsApplied : Applied → Type 0 → Type 0
@@ -289,6 +352,7 @@ Steps (event.Flush s) did old new = Flushes did s old new
 Steps (event.Tick s now) did old new = IsApplied did (TellsTime s now old new)
 Steps (event.Deliver s l) did old new = Delivers did s l old new
 Steps (event.Strike s l) did old new = Strikes did s l old new
+Steps (event.Damage s l octets) did old new = Damages did s l octets old new
 
 -- the station that an event is about
 abbrev pub side_in : Event → Side
@@ -302,11 +366,13 @@ side_in (event.Flush s) = s
 side_in (event.Tick s now) = s
 side_in (event.Deliver s l) = s
 side_in (event.Strike s l) = s
+side_in (event.Damage s l octets) = s
 
 -- The event needs memory: to take a frame off the link needs none.
 abbrev pub WantsMemory : Event → Type 0
 WantsMemory (event.Deliver s l) = ⊥
 WantsMemory (event.Strike s l) = ⊥
+WantsMemory (event.Damage s l octets) = ⊥
 WantsMemory _ = Unit {0}
 
 -- The event may publish a file at this station: a frame of the other one reaches it.

@@ -11,4 +11,4 @@ returns g c =
     line_behind (TellsWords s.deed (shape_from c.args.shapes (sender s.deed s.station)) s.octets.items) (TellsDeed c.args.shapes s) _ (deed_word s.deed ++ codes " ") _ _ _
     (λ words tells. record { words = words; tells = tells; whole = refl })
     (subst (λ w. Appends (g.W.Write.contents c.args.out.now) (g.W.Write.contents c.write.new.self) (w ++ codes " ")) c.word.ensures c.in_ok-write.ensures.bytes)
-    c.write_words.ensures
+    (rw (c.sent_by.ensures, c.sender-from.ensures) at c.write_words.ensures)

@@ -7,7 +7,7 @@ use Rattle.link_sim.specs.AtStation.{AreCarried}
 use Rattle.link_sim.specs.FrameLink.{lane_of_links}
 use Rattle.link_sim.specs.World.State.{WorldState}
 use Rattle.link_sim.specs.World.Steps.{Delivers}
-use Rattle.link_sim.proofs.Events.AtStations.{arrived-down, arrived_all}
+use Rattle.link_sim.proofs.Events.AtStations.{arrived-down, arrived-set-up, arrived_all}
 use Rattle.link_sim.proofs.Events.InWorlds.{delivers-one, delivers-two, world_of}
 use Rattle.link_sim.proofs.two_stations.TwoStations.deliver.Goals as goal
 
@@ -16,7 +16,8 @@ invariant_of-self g c =
     let i = c.self.inside in
     let is = c.self.invariant in
     let e = c.deliver_at.ensures in
-    (arrived_all c.args.lane c.deliver_at.result i.one.down i.from_one c.deliver_at.new.links i.two c.deliver_at.new.station e.does e.other is.0, subst (λ (d : DownState). AreCarried d i.from_two i.one.up) (sym (arrived-down c.deliver_at.result c.args.lane (lane_of_links c.args.lane i.from_one) (lane_of_links c.args.lane c.deliver_at.new.links) i.two c.deliver_at.new.station e.does)) is.1, is.2, subst (λ (d : DownState). (l : Lane) → 8192 ≤ (lane_down l d).capacity) (sym (arrived-down c.deliver_at.result c.args.lane (lane_of_links c.args.lane i.from_one) (lane_of_links c.args.lane c.deliver_at.new.links) i.two c.deliver_at.new.station e.does)) is.3)
+    let there : AreCarried i.one.down c.deliver_at.new.links c.deliver_at.new.station.up = arrived_all c.args.lane c.deliver_at.result i.one.down i.from_one c.deliver_at.new.links i.two c.deliver_at.new.station e.does e.other is.0 in
+    (there, subst (λ (d : DownState). AreCarried d i.from_two i.one.up) (sym (arrived-down c.deliver_at.result c.args.lane (lane_of_links c.args.lane i.from_one) (lane_of_links c.args.lane c.deliver_at.new.links) i.two c.deliver_at.new.station e.does)) is.1, is.2, subst (λ (d : DownState). (l : Lane) → 8192 ≤ (lane_down l d).capacity) (sym (arrived-down c.deliver_at.result c.args.lane (lane_of_links c.args.lane i.from_one) (lane_of_links c.args.lane c.deliver_at.new.links) i.two c.deliver_at.new.station e.does)) is.3, is.4, arrived-set-up i.config.two.receives i.one.down i.from_one c.deliver_at.new.links i.two.up c.deliver_at.new.station.up is.0 there is.5)
 
 pub returns-in-One : goal.returns-in-One
 returns-in-One g c =
@@ -33,7 +34,8 @@ invariant_of-self-in-Two g c =
     let i = c.self.inside in
     let is = c.self.invariant in
     let e = c.deliver_at-in-Two.ensures in
-    (subst (λ (d : DownState). AreCarried d i.from_one i.two.up) (sym (arrived-down c.deliver_at-in-Two.result c.args.lane (lane_of_links c.args.lane i.from_two) (lane_of_links c.args.lane c.deliver_at-in-Two.new.links) i.one c.deliver_at-in-Two.new.station e.does)) is.0, arrived_all c.args.lane c.deliver_at-in-Two.result i.two.down i.from_two c.deliver_at-in-Two.new.links i.one c.deliver_at-in-Two.new.station e.does e.other is.1, subst (λ (d : DownState). (l : Lane) → 8192 ≤ (lane_down l d).capacity) (sym (arrived-down c.deliver_at-in-Two.result c.args.lane (lane_of_links c.args.lane i.from_two) (lane_of_links c.args.lane c.deliver_at-in-Two.new.links) i.one c.deliver_at-in-Two.new.station e.does)) is.2, is.3)
+    let there : AreCarried i.two.down c.deliver_at-in-Two.new.links c.deliver_at-in-Two.new.station.up = arrived_all c.args.lane c.deliver_at-in-Two.result i.two.down i.from_two c.deliver_at-in-Two.new.links i.one c.deliver_at-in-Two.new.station e.does e.other is.1 in
+    (subst (λ (d : DownState). AreCarried d i.from_one i.two.up) (sym (arrived-down c.deliver_at-in-Two.result c.args.lane (lane_of_links c.args.lane i.from_two) (lane_of_links c.args.lane c.deliver_at-in-Two.new.links) i.one c.deliver_at-in-Two.new.station e.does)) is.0, there, subst (λ (d : DownState). (l : Lane) → 8192 ≤ (lane_down l d).capacity) (sym (arrived-down c.deliver_at-in-Two.result c.args.lane (lane_of_links c.args.lane i.from_two) (lane_of_links c.args.lane c.deliver_at-in-Two.new.links) i.one c.deliver_at-in-Two.new.station e.does)) is.2, is.3, arrived-set-up i.config.one.receives i.two.down i.from_two c.deliver_at-in-Two.new.links i.one.up c.deliver_at-in-Two.new.station.up is.1 there is.4, is.5)
 
 pub returns-in-Two : goal.returns-in-Two
 returns-in-Two g c =

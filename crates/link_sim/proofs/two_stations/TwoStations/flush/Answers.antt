@@ -5,7 +5,7 @@ use Rattle.link_sim.specs.declared.event.Applied.{Applied}
 use Rattle.link_sim.specs.declared.event.Event.TheVariants as event
 use Rattle.link_sim.specs.declared.side.Side.{Side}
 use Rattle.link_sim.specs.declared.side.Side.TheVariants.{One, Two}
-use Rattle.link_sim.specs.AtStation.{AreCarried, KeepsAt, FlushesAt}
+use Rattle.link_sim.specs.AtStation.{AreCarried, AreSetUp, KeepsAt, FlushesAt}
 use Rattle.link_sim.specs.Calls.{TriesEvent}
 use Rattle.link_sim.specs.World.State.{WorldState}
 use Rattle.link_sim.proofs.Events.InWorlds.{flushes-one, flushes-two, keeps-one, keeps-two, tries, world_of}
@@ -16,7 +16,7 @@ invariant_of-self g c =
     let i = c.self.inside in
     let is = c.self.invariant in
     let e = c.flush_at.ensures in
-    (λ l. e.only.carried l (lane_up l i.two.up) (is.0 l), subst (λ (u : UpState). AreCarried i.two.down i.from_two u) (sym e.only.up) is.1, λ l. omega (arith, e.only.capacity l, is.2 l), is.3)
+    (λ l. e.only.carried l (lane_up l i.two.up) (is.0 l), subst (λ (u : UpState). AreCarried i.two.down i.from_two u) (sym e.only.up) is.1, λ l. omega (arith, e.only.capacity l, is.2 l), is.3, subst (λ (u : UpState). AreSetUp i.config.one.receives u) (sym e.only.up) is.4, is.5)
 
 pub returns-in-One : goal.returns-in-One
 returns-in-One g c =
@@ -35,7 +35,7 @@ invariant_of-self-in-Two g c =
     let i = c.self.inside in
     let is = c.self.invariant in
     let e = c.flush_at-in-Two.ensures in
-    (subst (λ (u : UpState). AreCarried i.one.down i.from_one u) (sym e.only.up) is.0, λ l. e.only.carried l (lane_up l i.one.up) (is.1 l), is.2, λ l. omega (arith, e.only.capacity l, is.3 l))
+    (subst (λ (u : UpState). AreCarried i.one.down i.from_one u) (sym e.only.up) is.0, λ l. e.only.carried l (lane_up l i.one.up) (is.1 l), is.2, λ l. omega (arith, e.only.capacity l, is.3 l), is.4, subst (λ (u : UpState). AreSetUp i.config.two.receives u) (sym e.only.up) is.5)
 
 pub returns-in-Two : goal.returns-in-Two
 returns-in-Two g c =

@@ -7,7 +7,7 @@ use Rattle.cfdp_entity.specs.Entity.{entity_standing, first_entity}
 use Rattle.cfdp_station.specs.declared.config.StationConfig.{StationConfig}
 use Rattle.link_sim.specs.AtStation.{AreCarried}
 use Rattle.link_sim.specs.Stations.{IsWorldConfig}
-use Rattle.link_sim.proofs.Events.AtStations.{first-lanes}
+use Rattle.link_sim.proofs.Events.AtStations.{first-lanes, first-set-up}
 use Rattle.link_sim.proofs.Events.InWorlds.{none-seen, ways-of}
 use Rattle.link_sim.proofs.Ways.First.{first-down_lane}
 use Rattle.link_sim.proofs.two_stations.TwoStations.new.Goals as goal
@@ -37,6 +37,8 @@ invariant_of-result g c =
       from_two,
       capacity a.down c.args.config.one.sends c.args.config.one.capacity down_one r.one.least,
       capacity b.down c.args.config.two.sends c.args.config.two.capacity down_two r.two.least,
+      first-set-up a.up c.args.config.one.receives up_one,
+      first-set-up b.up c.args.config.two.receives up_two,
     )
 
 pub returns-in-Ok-clause-first : goal.returns-in-Ok-clause-first

@@ -13,7 +13,7 @@ invariant_of-self g c =
     let i = c.self.inside in
     let is = c.self.invariant in
     let e = c.strike_at.ensures in
-    (struck_all c.args.lane c.strike_at.result i.one.down i.from_one c.strike_at.new.links i.two.up e.does e.other is.0, is.1, is.2, is.3)
+    (struck_all c.args.lane c.strike_at.result i.one.down i.from_one c.strike_at.new.links i.two.up e.does e.other is.0, is.1, is.2, is.3, is.4, is.5)
 
 pub returns-in-One : goal.returns-in-One
 returns-in-One g c =
@@ -30,7 +30,7 @@ invariant_of-self-in-Two g c =
     let i = c.self.inside in
     let is = c.self.invariant in
     let e = c.strike_at-in-Two.ensures in
-    (is.0, struck_all c.args.lane c.strike_at-in-Two.result i.two.down i.from_two c.strike_at-in-Two.new.links i.one.up e.does e.other is.1, is.2, is.3)
+    (is.0, struck_all c.args.lane c.strike_at-in-Two.result i.two.down i.from_two c.strike_at-in-Two.new.links i.one.up e.does e.other is.1, is.2, is.3, is.4, is.5)
 
 pub returns-in-Two : goal.returns-in-Two
 returns-in-Two g c =
