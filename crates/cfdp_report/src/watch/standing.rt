@@ -42,13 +42,13 @@ fn add_standings<O: Outbox, I: Inbox>(
     station: &Station<O, I>,
 ) -> Result<(), AllocError> {
     for (id, phase) in station.transactions() {
-        all.push(standing(side, station, id, phase))?;
+        all.push(standing_of(side, station, id, phase))?;
     }
     Ok(())
 }
 
 /// How far one of them is.
-fn standing<O: Outbox, I: Inbox>(
+fn standing_of<O: Outbox, I: Inbox>(
     side: Side,
     station: &Station<O, I>,
     id: TransactionId,
