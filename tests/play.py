@@ -202,7 +202,7 @@ def head_mistakes(it):
         text = re.search(f"<{tag}>(.*?)</{tag}>", page, re.S)[1]
         sum_of = base64.b64encode(hashlib.sha256(text.encode()).digest()).decode()
         if f"{tag}-src 'sha256-{sum_of}'" not in policy:
-            yield f"the {tag} of the page has the checksum sha256-{sum_of}, and not that of {policy}"
+            yield f"the {tag} of the page has the checksum sha256-{sum_of}, and {policy} another"
     if "default-src 'none'" not in policy or "frame-ancestors 'none'" not in policy:
         yield f"the policy is {policy}"
     for name, value in (("Cache-Control", "no-store"), ("X-Content-Type-Options", "nosniff")):
@@ -257,7 +257,8 @@ def field_mistakes(program):
         for script, kind in (("", "frames 256 0 0 0"), (settings, "frames 100 4 1 1")):
             seen = it.runs(script + PUT + "burst 1\nsettle\n")["seen"]
             lines = seen["trace"].split("\n")
-            for asked, of_kind in ((kind, r" (dir|data) frame "), ("pdus", r" (sends|hears) \w+ 1:1")):
+            frames, pdus = r" (dir|data) frame ", r" (sends|hears) \w+ 1:1"
+            for asked, of_kind in ((kind, frames), ("pdus", pdus)):
                 octets = [hexed for hexed, line in zip(seen["octets"], lines)
                           if re.search(of_kind, line)]
                 given = "".join(f"{one}\n" for one in octets)

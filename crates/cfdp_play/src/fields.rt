@@ -15,8 +15,8 @@ const MOST_ZONE: u64 = 2040;
 
 const MOST_INSERT: u64 = 64;
 
-/// What the lines behind the first one spell, field by field, as `cfdp_node dump --fields` tells it.
-/// The first line says what they are: `pdus`, or `frames ZONE INSERT CONTROL CHECK` with the octets
+/// What the lines behind the first one spell, field by field, as `cfdp_node dump --fields` tells
+/// it. The first line says what they are: `pdus`, or `frames ZONE INSERT CONTROL CHECK` with the octets
 /// of the packet zone and of the insert zone, and 1 or 0 for the operational control field and the
 /// frame error control field. `None` where it says neither.
 ///
