@@ -130,8 +130,8 @@ Lines = DumpKind × FrameShape × DumpForm
 
 -- To run a script, and what is shown of it; to tell lines, and how; to send a file, and how; to run
 -- a station, and how; to send a command to the station at an address; to serve the page at an
--- address; or the version. A file that
--- is read is said by its name; without one standard input is read.
+-- address; or the version. A file that is read is said by its name; without one standard input is
+-- read.
 pub data Asked : Type 0 where
   sim : ShownAsked → (file : Option Text) → Asked
   dump : (lines : Lines) → (file : Option Text) → Asked
