@@ -17,7 +17,7 @@ use Rattle.clap.specs.declared.error.kind.ErrorKind.{ErrorKind}
 use Rattle.clap.specs.declared.error.kind.ErrorKind.TheVariants.{DisplayHelp, DisplayVersion, InvalidValue, OutOfMemory}
 use Rattle.clap.specs.declared.parser.matches.ArgMatches.{ArgMatches}
 use Rattle.cfdp_report.specs.declared.dump.form.DumpForm.{DumpForm}
-use Rattle.cfdp_report.specs.declared.dump.form.DumpForm.TheVariants.{Short, Long, Fields}
+use Rattle.cfdp_report.specs.declared.dump.form.DumpForm.TheVariants.{Short, Long, Fields, Deep}
 use Rattle.cfdp_report.specs.declared.dump.shape.FrameShape.{FrameShape}
 use Rattle.cfdp_report.specs.Dump.Shape.{IsShape}
 use Rattle.frame_fields.specs.declared.config.FrameFields.{FrameFields}
@@ -69,7 +69,9 @@ frames_app =
 
 -- and how they are told; and the file with them
 abbrev pub told_app : App
-told_app = with_rule (with_rule frames_app (flag_rule (codes "long"))) (flag_rule (codes "fields"))
+told_app =
+    with_rule (with_rule (with_rule frames_app (flag_rule (codes "long")))
+    (flag_rule (codes "fields"))) (flag_rule (codes "deep"))
 
 abbrev pub dump_app : App
 dump_app = with_rule told_app input_rule
@@ -146,9 +148,10 @@ zone_of_word word = if is_unsigned_in 16 2040 word
 abbrev pub sim_of : List Row → Asked
 sim_of rows = sim (shown_of rows) (first_of (codes "file") rows)
 
--- the form in which to tell: fields, where they are asked for, a long line as well or not
-abbrev pub form_of : (fields long : Bool) → DumpForm
-form_of fields long = if fields then Fields else (if long then Long else Short)
+-- the form in which to tell: the first of these that is asked for
+abbrev pub form_of : (fields deep long : Bool) → DumpForm
+form_of fields deep long =
+    if fields then Fields else (if deep then Deep else (if long then Long else Short))
 
 -- the fields that frames have
 abbrev pub fields_of : List Row → Option FrameFields
@@ -166,7 +169,7 @@ shape_of rows = option_and_then
 
 abbrev pub lines_of : List Row → Option Lines
 lines_of rows = option_and_then (λ kind. option_map
-    (λ shape. (kind, shape, form_of (is_given (codes "fields") rows) (is_given (codes "long") rows)))
+    (λ shape. (kind, shape, form_of (is_given (codes "fields") rows) (is_given (codes "deep") rows) (is_given (codes "long") rows)))
     (shape_of rows))
     (option_and_then kind_of_word (first_of (codes "kind") rows))
 

@@ -174,6 +174,10 @@ That of a PDU:
 With --fields there is a line for each field instead, NAME: VALUE (SECTION), and
 an empty line behind each PDU, frame or error. SECTION is one of CCSDS
 727.0-B-5, as CFDP 5.2.4, or of CCSDS 732.0-B-4, as AOS 4.1.2.3.
+With --deep lines behind that of a frame tell what it carries, two spaces in:
+  packet APID COUNT LENGTH          a packet that ends in it; behind that its PDU
+  missing N                         so many frames of its channel before it
+  cut off, bad, idle data only      what else there is in it
 Errors of any line: 0 Hex (no such digits).
 Errors of PDUs: 1 Short, 2 Version, 3 BadCrc, 4 Length, 5 Unacknowledged,
 7 Directive, 8 Truncated, 9 Trailing, 10 Tlv, 11 Condition; 6 is no longer used.
@@ -430,7 +434,8 @@ fn lines_asked(arguments: &ArgMatches<'_>) -> Option<DumpRequest>
 {
     let kind = dump_kind(word_of(arguments, "kind")?)?;
     let shape = frame_shape(arguments)?;
-    let form = dump_form(is_given(arguments, "fields"), is_given(arguments, "long"));
+    let (fields, long) = (is_given(arguments, "fields"), is_given(arguments, "long"));
+    let form = dump_form(fields, is_given(arguments, "deep"), long);
     Some(DumpRequest { kind, shape, form })
 }
 
@@ -457,12 +462,14 @@ fn frame_fields(arguments: &ArgMatches<'_>) -> Option<FrameFields>
     })
 }
 
-/// The form that these two options ask for: fields, where both do.
-fn dump_form(fields: bool, long: bool) -> DumpForm
-    ensures { result ≡ form_of fields long }
+/// The form that the first of these three options asks for that is given.
+fn dump_form(fields: bool, deep: bool, long: bool) -> DumpForm
+    ensures { result ≡ form_of fields deep long }
 {
     if fields {
         DumpForm::Fields
+    } else if deep {
+        DumpForm::Deep
     } else if long {
         DumpForm::Long
     } else {
@@ -632,6 +639,11 @@ fn told_command<'a>(alloc: Global) -> Result<Command<'a>, AllocError>
             alloc,
             "fields",
             "Tells each field in a line of its own, with its section of the standard",
+        ))?
+        .arg(flag(
+            alloc,
+            "deep",
+            "Tells also the packets in frames, and the PDUs in these",
         ))
 }
 

@@ -19,7 +19,7 @@ use crate::dump::form::DumpForm;
 use crate::dump::line::{DumpedFrame, DumpedPdu, FrameLine, FrameParts};
 use crate::dump::refusal::{FrameRefusal, Refusal};
 use crate::dump::shape::FrameShape;
-use aos_frame::{ChannelConfig, FrameError, FrameFields, HEADER_LEN, decode};
+use aos_frame::{ChannelConfig, FrameError, FrameFields, FrameHeader, HEADER_LEN, decode};
 use cfd_bits::get;
 use mpdu::read_pointer;
 use std::io;
@@ -45,29 +45,27 @@ pub fn write_pdu<W: Write>(octets: &[u8], form: DumpForm, out: &mut W) -> io::Re
     }
 }
 
-/// Writes which frame the octets are, or why they are none.
+/// Writes which frame the octets are, with that behind it, or why they are none.
 pub fn write_frame<W: Write>(
     octets: &[u8],
     shape: FrameShape,
     form: DumpForm,
+    behind: &str,
     out: &mut W,
 ) -> io::Result<()>
-    ensures { OnOk result (WritesLine (TellsAsFrame form shape octets.now)
+    ensures { OnOk result (WritesLine (TellsAsFrame form shape behind.now octets.now)
         (W.contents out.old) (W.contents out.new)) }
 {
     match read_frame(octets, shape) {
         Ok((frame, parts)) => {
             let zone = shape.zone;
-            writeln!(
-                out,
-                "{}",
-                DumpedFrame {
-                    frame,
-                    zone,
-                    parts,
-                    form
-                }
-            )
+            let frame = DumpedFrame {
+                frame,
+                zone,
+                parts,
+                form,
+            };
+            writeln!(out, "{frame}{behind}")
         }
         Err(error) => {
             let count = octets.len();
@@ -104,13 +102,28 @@ fn read_frame(octets: &[u8], shape: FrameShape) -> Result<(FrameLine, FrameParts
     if octets.len() < HEADER_LEN {
         return Err(FrameError::Length);
     }
-    let own = own_channel(octets, shape);
-    let (header, mpdu) = decode(octets, &own)?;
+    let (header, mpdu) = decode(octets, &own_channel(octets, shape))?;
     let frame = FrameLine {
         header,
         pointer: read_pointer(mpdu),
     };
     Ok((frame, parts_of(octets, shape.fields)))
+}
+
+/// The header of a frame of this shape, whatever its spacecraft and channel are, and its M_PDU.
+///
+/// # Errors
+///
+/// `Length`, `Damaged`, `Version`, `OtherProfile` or `OnlyIdle`, the first that holds.
+pub fn open_frame(octets: &[u8], shape: FrameShape) -> Result<(FrameHeader, &[u8]), FrameError>
+    ensures found { IfOk result (λ x. SpellsFrame (channel_in octets.now shape) x.0 octets.now) }
+    ensures mpdu { IfOk result (λ x. x.1.now ≡ mpdu_in shape.fields octets.now) }
+    ensures len { IfOk result (λ x. length x.1.now ≡ 2 + shape.zone) }
+{
+    if octets.len() < HEADER_LEN {
+        return Err(FrameError::Length);
+    }
+    decode(octets, &own_channel(octets, shape))
 }
 
 /// The channel that the header of a frame of this shape names.

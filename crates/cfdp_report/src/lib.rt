@@ -17,10 +17,10 @@ mod watch;
 
 pub use cause::cause_text;
 pub use dump::form::DumpForm;
-pub use dump::line::HexNumber;
+pub use dump::line::{HexNumber, PduLine};
 pub use dump::refusal::Refusal;
 pub use dump::shape::FrameShape;
-pub use dump::{write_frame, write_pdu};
+pub use dump::{open_frame, write_frame, write_pdu};
 pub use exit::{Exit, Fault};
 pub use input::Input;
 pub use line_error::{BadLine, Hint, LineError, Quote};

@@ -7,6 +7,7 @@ use Rattle.hex.specs.Hex.{decode_of}
 use Rattle.cfdp_report.specs.Dump.Lines.{WritesLines}
 use Rattle.cfdp_report.specs.Dump.Told.{TellsAsFrame, TellsAsPdu, end_of}
 use Rattle.cfdp_report.specs.declared.dump.form.DumpForm.{DumpForm}
+use Rattle.cfdp_report.specs.declared.dump.form.DumpForm.TheVariants.{Deep}
 use Rattle.cfdp_report.specs.declared.dump.shape.FrameShape.{FrameShape}
 use Rattle.cfdp_report.specs.Dump.Refusal.{refusal_text}
 use Rattle.cfdp_report.specs.declared.dump.refusal.Refusal.TheVariants.{Hex}
@@ -23,9 +24,16 @@ unfoldable pub lines : List ℕ → List (List ℕ)
 lines [] = []
 lines (octet ∷ rest) = if octet == 10 then [] ∷ lines rest else onto_first octet (lines rest)
 
+-- Behind a frame stands nothing, but in the deep form: there what the frame carries is told, of
+-- which nothing is said here.
+abbrev pub MayStandBehind : DumpForm → List ℕ → Type 0
+MayStandBehind Deep behind = Unit {0}
+MayStandBehind form behind = behind ≡ []
+
 abbrev pub TellsAs : DumpKind → DumpForm → FrameShape → List ℕ → List ℕ → Type 0
-TellsAs Pdus form shape = TellsAsPdu form
-TellsAs Frames form shape = TellsAsFrame form shape
+TellsAs Pdus form shape octets text = TellsAsPdu form octets text
+TellsAs Frames form shape octets text =
+    (behind : List ℕ) × MayStandBehind form behind × TellsAsFrame form shape behind octets text
 
 -- a word without `0x` in front
 abbrev pub bare : List ℕ → List ℕ

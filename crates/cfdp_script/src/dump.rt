@@ -7,9 +7,10 @@ ghost use Rattle.hex.specs.Hex.{decode_of};
 ghost use Rattle.cfdp_report.specs.Dump.Lines.{WritesLine, WritesLines};
 ghost use Rattle.cfdp_report.specs.Dump.Shape.{IsShape};
 ghost use Rattle.cfdp_report.specs.Exit.{IsFlushedAt};
-ghost use Rattle.cfdp_script.specs.Dump.{EndsDump, hex_octets, TellsLine};
+ghost use Rattle.cfdp_script.specs.Dump.{EndsDump, MayStandBehind, TellsLine, hex_octets};
 ghost use Rattle.cfdp_script.specs.Dump as dumps;
 
+use crate::carried::Carried;
 use crate::input::{read_script, write_fault};
 use crate::script::without_return;
 use crate::script::words::cut_at_first;
@@ -97,13 +98,15 @@ fn write_dump<W: Write>(
     text: &[u8],
     out: &mut W,
 ) -> io::Result<()>
+    requires { IsShape request.shape }
     ensures { OnOk result (WritesLines (TellsLine request) (dumps.lines text.now)
         (W.contents out.old) (W.contents out.new)) }
 {
+    let mut carried = Carried::new(alloc);
     let mut rest = text;
     while !rest.is_empty() {
         let (line, behind) = cut_line(rest);
-        write_line(alloc, request, line, out)?;
+        write_line(alloc, request, line, &mut carried, out)?;
         rest = behind;
     }
     Ok(())
@@ -131,8 +134,10 @@ fn write_line<W: Write>(
     alloc: Global,
     request: DumpRequest,
     line: &[u8],
+    carried: &mut Carried,
     out: &mut W,
 ) -> io::Result<()>
+    requires { IsShape request.shape }
     ensures { OnOk result (WritesLine (TellsLine request line.now)
         (W.contents out.old) (W.contents out.new)) }
 {
@@ -141,7 +146,32 @@ fn write_line<W: Write>(
     };
     match request.kind {
         DumpKind::Pdus => write_pdu(octets.as_slice(), request.form, out),
-        DumpKind::Frames => write_frame(octets.as_slice(), request.shape, request.form, out),
+        DumpKind::Frames => {
+            let DumpRequest { shape, form, .. } = request;
+            let behind = told_behind(alloc, form, octets.as_slice(), shape, carried)?;
+            write_frame(octets.as_slice(), shape, form, behind.as_str(), out)
+        }
+    }
+}
+
+/// What stands behind a frame: what it carries, in the deep form; else nothing.
+///
+/// # Errors
+///
+/// `AllocError` where there is no memory for it.
+fn told_behind(
+    alloc: Global,
+    form: DumpForm,
+    octets: &[u8],
+    shape: FrameShape,
+    carried: &mut Carried,
+) -> Result<String, AllocError>
+    requires { IsShape shape }
+    ensures { IfOk result (λ behind. MayStandBehind form behind.bytes.items) }
+{
+    match form {
+        DumpForm::Deep => carried.told(octets, shape),
+        DumpForm::Short | DumpForm::Long | DumpForm::Fields => Ok(String::new(alloc)),
     }
 }
 

@@ -3,6 +3,7 @@
 //! Tested by `tests/rows/`, through the program above.
 #![tactic(auto)]
 
+mod carried;
 mod dump;
 mod input;
 mod script;

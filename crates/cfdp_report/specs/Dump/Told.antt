@@ -12,7 +12,7 @@ use Rattle.frame_fields.specs.Fields.{insert_in, mpdu_in}
 use Rattle.aos_frame.specs.Frame.{SpellsFrame, frame_fault}
 use Rattle.mpdu.specs.MpduHeader.{pointer_of}
 use Rattle.cfdp_report.specs.declared.dump.form.DumpForm.{DumpForm}
-use Rattle.cfdp_report.specs.declared.dump.form.DumpForm.TheVariants.{Short, Long, Fields}
+use Rattle.cfdp_report.specs.declared.dump.form.DumpForm.TheVariants.{Short, Long, Fields, Deep}
 use Rattle.cfdp_report.specs.declared.dump.refusal.Refusal.TheVariants.{Pdu}
 use Rattle.cfdp_report.specs.Dump.Fields.{frame_fields, pdu_fields}
 use Rattle.cfdp_report.specs.declared.dump.shape.FrameShape.{FrameShape}
@@ -25,6 +25,7 @@ abbrev pub end_of : DumpForm → List ℕ
 end_of Short = codes ""
 end_of Long = codes ""
 end_of Fields = codes "\n"
+end_of Deep = codes ""
 
 -- a PDU: in a line, in a longer one, which ends in its CRC if it has one, or field by field, with
 -- the line behind them empty
@@ -33,6 +34,7 @@ pdu_line Short h p octets = pdu_text h.id p
 pdu_line Long h p octets =
     pdu_text h.id p ++ (long_text h p ++ part_text (codes " crc ") (crc_octets h octets))
 pdu_line Fields h p octets = pdu_fields h p octets
+pdu_line Deep h p octets = pdu_text h.id p
 
 -- a frame: a long line tells too its lane, that its count has 28 bits, and its fields beside the
 -- M_PDU
@@ -44,6 +46,7 @@ frame_line Long h pointer zone insert control check =
     ++ (lane_word h.virtual_channel ++ (cycle_word h.cycle ++ parts_text insert control check))
 frame_line Fields h pointer zone insert control check =
     frame_fields h pointer zone insert control check
+frame_line Deep h pointer zone insert control check = frame_text h pointer
 
 -- The octets are a PDU, and this text says which.
 pub record TellsPdu (form : DumpForm) (octets text : List ℕ) : Type 0 where
@@ -58,14 +61,15 @@ pub record TellsPduFault (form : DumpForm) (octets text : List ℕ) : Type 0 whe
   pub fault : pdu_fault octets ≡ Some error
   pub words : text ≡ refusal_text (Pdu error) ++ end_of form
 
--- The octets are a frame that is made so, and this text says which. Its M_PDU begins with 5 spare
--- bits and the 11 bits of the first header pointer (CCSDS 732.0-B-4, 4.1.4.2).
-pub record TellsFrame (form : DumpForm) (shape : FrameShape) (octets text : List ℕ) : Type 0 where
-  pub header : FrameHeader
-  pub spelled : SpellsFrame (channel_in octets shape) header octets
-  pub words : text ≡ frame_line form header (pointer_of (mpdu_in shape.fields octets)) shape.zone
-      (insert_in shape.fields octets) (control_octets shape.fields octets)
-      (check_octets shape.fields octets)
+-- The octets are a frame that is made so, and this text says which, with that behind it. Its M_PDU
+-- begins with 5 spare bits and the 11 bits of the first header pointer (CCSDS 732.0-B-4, 4.1.4.2).
+pub record TellsFrame (form : DumpForm) (shape : FrameShape) (behind octets text : List ℕ) : Type 0
+  where
+    pub header : FrameHeader
+    pub spelled : SpellsFrame (channel_in octets shape) header octets
+    pub words : text ≡ frame_line form header (pointer_of (mpdu_in shape.fields octets)) shape.zone
+        (insert_in shape.fields octets) (control_octets shape.fields octets)
+        (check_octets shape.fields octets) ++ behind
 
 -- The octets are no such frame, and this text says why.
 pub record TellsFrameFault (form : DumpForm) (shape : FrameShape) (octets text : List ℕ) : Type 0
@@ -78,7 +82,7 @@ pub record TellsFrameFault (form : DumpForm) (shape : FrameShape) (octets text :
 abbrev pub TellsAsPdu : DumpForm → List ℕ → List ℕ → Type 0
 TellsAsPdu form octets text = TellsPdu form octets text ⊎ TellsPduFault form octets text
 
--- The same, as a frame.
-abbrev pub TellsAsFrame : DumpForm → FrameShape → List ℕ → List ℕ → Type 0
-TellsAsFrame form shape octets text = TellsFrame form shape octets text
+-- The same, as a frame; behind a frame stands that.
+abbrev pub TellsAsFrame : DumpForm → FrameShape → (behind octets text : List ℕ) → Type 0
+TellsAsFrame form shape behind octets text = TellsFrame form shape behind octets text
     ⊎ TellsFrameFault form shape octets text

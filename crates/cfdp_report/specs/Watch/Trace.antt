@@ -1,5 +1,5 @@
 -- What a trace says of what was seen at two stations.
-use Rattle.std.specs.Prelude.{◌≡◌, ℕ, List, ◌++◌, codes, decimal, Option}
+use Rattle.std.specs.Prelude.{◌≡◌, List, [], ◌++◌, codes, decimal, Option}
 use Rattle.aos_frame.specs.declared.config.Lane.TheVariants.{Directives, Data}
 use Rattle.link_sim.specs.Stations.{entity_of, other}
 use Rattle.link_sim.specs.declared.side.Side.{Side}
@@ -30,11 +30,11 @@ deed_word Tells = codes "tells"
 -- Behind that stands what a dump says of the frame, which is made so, or of the PDU. Of the time, of a drop and of an
 -- indication the words were noted.
 abbrev pub TellsWords : Deed → FrameShape → List ℕ → List ℕ → Type 0
-TellsWords (SendsFrame lane) shape octets = TellsAsFrame Short shape octets
+TellsWords (SendsFrame lane) shape octets = TellsAsFrame Short shape [] octets
 TellsWords (SendsPdu lane) shape octets = TellsAsPdu Short octets
-TellsWords (TakesFrame lane) shape octets = TellsAsFrame Short shape octets
+TellsWords (TakesFrame lane) shape octets = TellsAsFrame Short shape [] octets
 TellsWords HearsPdu shape octets = TellsAsPdu Short octets
-TellsWords (LosesFrame lane) shape octets = TellsAsFrame Short shape octets
+TellsWords (LosesFrame lane) shape octets = TellsAsFrame Short shape [] octets
 TellsWords Ticks shape octets = λ words. words ≡ octets
 TellsWords Drops shape octets = λ words. words ≡ octets
 TellsWords Tells shape octets = λ words. words ≡ octets

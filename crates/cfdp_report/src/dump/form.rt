@@ -11,6 +11,8 @@ pub enum DumpForm {
     Long,
     /// Field by field, one a line, with an empty line at the end.
     Fields,
+    /// As in a short line, and what a frame carries in lines behind it.
+    Deep,
 }
 
 impl DumpForm {
@@ -23,6 +25,7 @@ impl DumpForm {
             DumpForm::Short => "",
             DumpForm::Long => "",
             DumpForm::Fields => "\n",
+            DumpForm::Deep => "",
         }
     }
 }

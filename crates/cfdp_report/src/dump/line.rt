@@ -40,7 +40,7 @@ impl fmt::Display for DumpedPdu<'_> {
         } = *self;
         let line = PduLine { id: header.id, pdu };
         match form {
-            DumpForm::Short => write!(f, "{line}"),
+            DumpForm::Short | DumpForm::Deep => write!(f, "{line}"),
             DumpForm::Long => {
                 let crc = PartWords(" crc ", crc_octets(header, octets));
                 write!(f, "{line}{}{crc}", LongPart { header, pdu })
@@ -353,7 +353,7 @@ impl fmt::Display for DumpedFrame<'_> {
             form,
         } = *self;
         match form {
-            DumpForm::Short => write!(f, "{frame}"),
+            DumpForm::Short | DumpForm::Deep => write!(f, "{frame}"),
             DumpForm::Long => {
                 let lane = lane_word(frame.header.virtual_channel);
                 let cycle = cycle_word(frame.header.cycle);

@@ -113,7 +113,7 @@ fn write_words<W: Write>(out: &mut W, shape: FrameShape, sighting: &Sighting) ->
     match sighting.deed {
         Deed::SendsPdu(_) | Deed::HearsPdu => write_pdu(&sighting.octets, DumpForm::Short, out),
         Deed::SendsFrame(_) | Deed::TakesFrame(_) | Deed::LosesFrame(_) => {
-            write_frame(&sighting.octets, shape, DumpForm::Short, out)
+            write_frame(&sighting.octets, shape, DumpForm::Short, "", out)
         }
         Deed::Ticks | Deed::Drops | Deed::Tells => write_line(out, &sighting.octets),
     }
