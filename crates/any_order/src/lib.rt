@@ -2,6 +2,8 @@
 //! all, and among them other octets: what of the promise of delivery holds then.
 //!
 //! Clean completion and recovery are promises of `link_sim`, whose worlds keep the order.
+//!
+//! Tested by nothing yet: what it promises is proved.
 #![tactic(auto)]
 
 mod answers;
