@@ -58,8 +58,8 @@ def shown_mistakes(program):
 
 
 def headings_of(text):
-    """The headings of a page, and the first words of its paragraphs that stand in bold."""
-    found = re.findall(r"^#+ (.*)$|^\*\*([^*]+?)[.:]?\*\*", text, re.M)
+    """The headings of a page, and the first words in bold of its paragraphs and items."""
+    found = re.findall(r"^#+ (.*)$|^(?:- )?\*\*([^*]+?)[.:]?\*\*", text, re.M)
     return ["".join(it).replace("`", "") for it in found]
 
 
