@@ -114,14 +114,18 @@ def code_mistakes():
 
 
 def option_mistakes(program):
-    """Options in the program's help that docs/FORMATS.md doesn't have."""
-    formats = text_of("docs/FORMATS.md")
-    for command in ("sim", "dump", "loop", "station", "ask"):
-        how = {"capture_output": True, "text": True, "timeout": SECONDS, "check": True}
-        text = subprocess.run([program.path, command, "--help"], **how).stdout
-        for option in sorted(set(re.findall(r"--[a-z][a-z-]+", text))):
+    """Options in the program's help that docs/FORMATS.md doesn't have, and the other way round."""
+    formats, helped = text_of("docs/FORMATS.md"), set()
+    how = {"capture_output": True, "text": True, "timeout": SECONDS, "check": True}
+    for words in ([], ["sim"], ["dump"], ["loop"], ["station"], ["ask"]):
+        text = subprocess.run([program.path, *words, "--help"], **how).stdout
+        options = set(re.findall(r"--[a-z][a-z-]+", text))
+        helped |= options
+        for option in sorted(options):
             if not re.search(rf"{option}\b", formats):
-                yield f"docs/FORMATS.md doesn't have {option} of {command}"
+                yield f"docs/FORMATS.md doesn't have {option} of {' '.join(words)}"
+    for option in sorted(set(re.findall(r"`(--[a-z][a-z-]+)", formats)) - helped):
+        yield f"docs/FORMATS.md has {option}, which no help has"
 
 
 def contract_mistakes():
