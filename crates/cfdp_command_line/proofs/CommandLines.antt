@@ -89,13 +89,13 @@ pdus_of_file = (refl, refl)
 
 plain_loop : (refusals (line (codes "loop" ∷ codes "a" ∷ codes "b" ∷ codes "x" ∷ codes "y" ∷ [])) ≡ [])
     × (asked_of (line (codes "loop" ∷ codes "a" ∷ codes "b" ∷ codes "x" ∷ codes "y" ∷ []))
-    ≡ Some (loop (record { from = codes "a"; to = codes "b"; source = codes "x"; destination = codes "y"; turns = 1000000000000; drop_every = 0; shown = nothing })))
+    ≡ Some (loop (record { from = codes "a"; to = codes "b"; source = codes "x"; destination = codes "y"; turns = 1000000000000; drop_every = 0; sets = []; shown = nothing })))
 unfolding clap_on_literals
 plain_loop = (refl, refl)
 
 lossy_loop : (refusals (line (codes "loop" ∷ codes "--drop" ∷ codes "7" ∷ codes "a" ∷ codes "b" ∷ codes "x" ∷ codes "y" ∷ codes "--turns" ∷ codes "50" ∷ [])) ≡ [])
     × (asked_of (line (codes "loop" ∷ codes "--drop" ∷ codes "7" ∷ codes "a" ∷ codes "b" ∷ codes "x" ∷ codes "y" ∷ codes "--turns" ∷ codes "50" ∷ []))
-    ≡ Some (loop (record { from = codes "a"; to = codes "b"; source = codes "x"; destination = codes "y"; turns = 50; drop_every = 7; shown = nothing })))
+    ≡ Some (loop (record { from = codes "a"; to = codes "b"; source = codes "x"; destination = codes "y"; turns = 50; drop_every = 7; sets = []; shown = nothing })))
 unfolding clap_on_literals
 lossy_loop = (refl, refl)
 
@@ -108,10 +108,26 @@ watched_loop : (refusals (line (codes "loop" ∷ codes "--trace" ∷ codes "a" �
       destination = codes "y";
       turns = 1000000000000;
       drop_every = 0;
+      sets = [];
       shown = record { explain = false; trace = true; pcap = Some (codes "c"); chart = Some (codes "d") };
     })))
 unfolding clap_on_literals
 watched_loop = (refl, refl)
+
+set_loop : (refusals (line (codes "loop" ∷ codes "a" ∷ codes "--set" ∷ codes "zone" ∷ codes "64" ∷ codes "b" ∷ codes "x" ∷ codes "--set" ∷ codes "crc" ∷ codes "1" ∷ codes "y" ∷ [])) ≡ [])
+    × (asked_of (line (codes "loop" ∷ codes "a" ∷ codes "--set" ∷ codes "zone" ∷ codes "64" ∷ codes "b" ∷ codes "x" ∷ codes "--set" ∷ codes "crc" ∷ codes "1" ∷ codes "y" ∷ []))
+    ≡ Some (loop (record {
+      from = codes "a";
+      to = codes "b";
+      source = codes "x";
+      destination = codes "y";
+      turns = 1000000000000;
+      drop_every = 0;
+      sets = codes "zone" ∷ codes "64" ∷ codes "crc" ∷ codes "1" ∷ [];
+      shown = nothing;
+    })))
+unfolding clap_on_literals
+set_loop = (refl, refl)
 
 few_words : refusals (line (codes "loop" ∷ codes "a" ∷ codes "b" ∷ codes "x" ∷ [])) ≡ MissingRequiredArgument ∷ []
 unfolding clap_on_literals

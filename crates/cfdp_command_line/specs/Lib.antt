@@ -2,3 +2,4 @@ pub mod Request
 pub mod Shown
 pub mod Looping
 pub mod Station
+pub mod Sets

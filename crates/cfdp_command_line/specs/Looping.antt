@@ -1,9 +1,10 @@
 -- What the words behind `loop` ask for.
-use Rattle.std.specs.Prelude.{ℕ, List, [], ◌∷◌, codes, Option, Some, None, option_and_then, option_map, true, if◌then◌else◌}
+use Rattle.std.specs.Prelude.{ℕ, List, [], ◌∷◌, codes, map, Option, Some, None, option_and_then, option_map, true, unwrap_or, if◌then◌else◌}
 use Rattle.std.specs.Str.Parse.{digits_value, without_leading_plus}
 use Rattle.clap.specs.ValueTests.{is_unsigned_in}
 use Rattle.clap.specs.Simple.{App, new_app, new_rule, with_rule}
-use Rattle.clap.specs.Walk.{Row, Rule, Text, first_of}
+use Rattle.clap.specs.Walk.{Row, Rule, Text, all_of, first_of}
+use Rattle.clap.specs.declared.builder.action.ArgAction.TheVariants.{Append}
 use Rattle.clap.specs.declared.builder.value_parser.ValueParser.TheVariants.{Unsigned}
 use Rattle.cfdp_command_line.specs.declared.looping.LoopRequest.{LoopRequest}
 use Rattle.cfdp_command_line.specs.declared.looping.LoopWords.{LoopWords}
@@ -22,6 +23,15 @@ number_rule name low high default = record (new_rule name) {
   value_names = 1;
   defaults = default ∷ [];
   parser = Some (Unsigned low high);
+}
+
+-- two words, as often as they are said
+abbrev pub pairs_rule : Text → Rule
+pairs_rule name = record (new_rule name) {
+  long = Some name;
+  action = Some Append;
+  range = Some (record { start_inclusive = 2; end_inclusive = 2 });
+  value_names = 1;
 }
 
 -- the most turns: 1 to 1,000,000,000,000, and the most of these where none are given
@@ -49,13 +59,17 @@ files_app =
 abbrev pub numbers_app : App
 numbers_app = with_rule (with_rule files_app turns_rule) drop_rule
 
+abbrev pub set_app : App
+set_app = with_rule numbers_app (pairs_rule (codes "set"))
+
 abbrev pub loop_app : App
-loop_app = with_shown numbers_app
+loop_app = with_shown set_app
 
 -- ---- what is asked for
 
 -- To send a file of one folder into another, both by their paths, under a name of its own there;
--- the most turns; which frames are lost; and what is shown of it.
+-- the most turns; which frames are lost; the keys of settings, each with its value behind it; and
+-- what is shown of it.
 pub record LoopAsked : Type 0 where
   pub from : Text
   pub to : Text
@@ -63,6 +77,7 @@ pub record LoopAsked : Type 0 where
   pub destination : Text
   pub turns : ℕ
   pub drop_every : ℕ
+  pub sets : List Text
   pub shown : ShownAsked
 
 -- the number in a range that decimal digits spell, which a plus sign may begin
@@ -73,6 +88,10 @@ number_of_word low high word =
 
 abbrev pub number_in : (name : Text) (low high : ℕ) → List Row → Option ℕ
 number_in name low high rows = option_and_then (number_of_word low high) (first_of name rows)
+
+-- all that was said of this name
+abbrev pub words_for : Text → List Row → List Text
+words_for name rows = unwrap_or (all_of name rows) []
 
 abbrev pub loop_of : List Row → Option LoopAsked
 loop_of rows =
@@ -85,6 +104,7 @@ loop_of rows =
       destination = destination;
       turns = turns;
       drop_every = drop_every;
+      sets = words_for (codes "set") rows;
       shown = shown_of rows;
     }) (number_in (codes "drop") 0 1000000 rows)) (number_in (codes "turns") 1 1000000000000 rows))
     (first_of (codes "destination") rows)) (first_of (codes "source") rows))
@@ -100,17 +120,19 @@ loop_asked request = record {
   destination = request.destination.bytes.items;
   turns = request.turns;
   drop_every = request.drop_every;
+  sets = map (λ word. word.bytes.items) request.sets.items;
   shown = asked_shown request.shown;
 }
 
--- words of the command line, with what is to be shown
-abbrev pub words_asked : ShownAsked → LoopWords → LoopAsked
-words_asked shown words = record {
+-- words of the command line, with what else was said
+abbrev pub words_asked : List Row → LoopWords → LoopAsked
+words_asked rows words = record {
   from = words.from.now;
   to = words.to.now;
   source = words.source.now;
   destination = words.destination.now;
   turns = words.turns;
   drop_every = words.drop_every;
-  shown = shown;
+  sets = words_for (codes "set") rows;
+  shown = shown_of rows;
 }

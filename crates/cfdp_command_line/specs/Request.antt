@@ -26,8 +26,8 @@ use Rattle.cfdp_command_line.specs.declared.arguments.Request.{Request}
 use Rattle.cfdp_command_line.specs.declared.arguments.Request.TheVariants.{Sim, Dump, Loop, Station, Ask, Version}
 use Rattle.cfdp_script.specs.declared.dump.DumpKind.{DumpKind}
 use Rattle.cfdp_script.specs.declared.dump.DumpKind.TheVariants.{Pdus, Frames}
-use Rattle.cfdp_command_line.specs.Looping.{LoopAsked, loop_app, loop_asked, loop_of, number_in, number_rule, place_rule}
-use Rattle.cfdp_command_line.specs.Station.{StationAsked, station_app, station_asked, station_of, words_for}
+use Rattle.cfdp_command_line.specs.Looping.{LoopAsked, loop_app, loop_asked, loop_of, number_in, number_rule, place_rule, words_for}
+use Rattle.cfdp_command_line.specs.Station.{StationAsked, station_app, station_asked, station_of}
 use Rattle.cfdp_command_line.specs.Shown.{ShownAsked, asked_shown, flag_rule, is_given, shown_of, with_shown}
 
 -- ---- the grammar

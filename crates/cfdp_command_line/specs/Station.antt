@@ -1,9 +1,8 @@
 -- What the words behind `station` ask for.
-use Rattle.std.specs.Prelude.{ℕ, List, [], ◌∷◌, codes, Option, Some, None, map, option_and_then, option_map, true, unwrap_or, if◌then◌else◌}
+use Rattle.std.specs.Prelude.{ℕ, List, [], ◌∷◌, codes, Option, Some, None, map, option_and_then, option_map, true, if◌then◌else◌}
 use Rattle.std.specs.Str.{bytes_eq}
 use Rattle.clap.specs.Simple.{App, new_app, new_rule, with_rule}
-use Rattle.clap.specs.Walk.{Row, Rule, Text, all_of, first_of}
-use Rattle.clap.specs.declared.builder.action.ArgAction.TheVariants.{Append}
+use Rattle.clap.specs.Walk.{Row, Rule, Text, first_of}
 use Rattle.clap.specs.declared.builder.value_parser.ValueParser.TheVariants.{Unsigned}
 use Rattle.cfdp_command_line.specs.declared.station.CarrierKind.{CarrierKind}
 use Rattle.cfdp_command_line.specs.declared.station.CarrierKind.TheVariants.{Frames, Packets, Pdus}
@@ -14,7 +13,7 @@ use Rattle.cfdp_command_line.specs.declared.station.StationRequest.{StationReque
 use Rattle.cfdp_command_line.specs.declared.station.StationWords.{StationWords}
 use Rattle.cfdp_command_line.specs.declared.station.TimeUnit.{TimeUnit}
 use Rattle.cfdp_command_line.specs.declared.station.TimeUnit.TheVariants.{Seconds, Milliseconds}
-use Rattle.cfdp_command_line.specs.Looping.{drop_rule, number_in, number_rule, tuned_rule}
+use Rattle.cfdp_command_line.specs.Looping.{drop_rule, number_in, number_rule, pairs_rule, tuned_rule, words_for}
 use Rattle.cfdp_command_line.specs.Shown.{ShownAsked, asked_shown, file_rule, flag_rule, is_given, shown_of, with_shown}
 
 -- ---- the grammar
@@ -34,15 +33,6 @@ said_number_rule name = record (said_rule name) { parser = Some (Unsigned 0 most
 -- the number of the first transaction, and 0 where none is said
 abbrev pub first_number_rule : Rule
 first_number_rule = number_rule (codes "first-number") 0 most (codes "0")
-
--- two words, as often as they are said
-abbrev pub pairs_rule : Text → Rule
-pairs_rule name = record (new_rule name) {
-  long = Some name;
-  action = Some Append;
-  range = Some (record { start_inclusive = 2; end_inclusive = 2 });
-  value_names = 1;
-}
 
 -- a word, and what stands for it where none is said
 abbrev pub named_rule : Text → Text → Rule
@@ -218,10 +208,6 @@ needed_of rows = option_and_then (λ numbers. option_and_then (λ limits. option
     (option_and_then unit_of_word (first_of (codes "unit") rows)))
     (option_and_then carrier_of_word (first_of (codes "carrier") rows)))
     (limits_of rows)) (numbers_of rows)
-
--- all that was said of this name
-abbrev pub words_for : Text → List Row → List Text
-words_for name rows = unwrap_or (all_of name rows) []
 
 abbrev pub asked_with : List Row → Needed → StationAsked
 asked_with rows needed = record {

@@ -6,12 +6,14 @@
 mod arguments;
 mod dropping;
 mod looping;
+mod sets;
 mod settings_file;
 mod shown;
 mod station;
 
 pub use arguments::{Request, SimRequest, parse, read, version_status};
 pub use looping::LoopRequest;
+pub use sets::SetError;
 pub use station::{
     CarrierKind, StationFlags, StationLimits, StationNumbers, StationRequest, TimeUnit,
 };

@@ -1,19 +1,24 @@
 //! What the words behind `loop` ask for.
-ghost use Rattle.std.specs.Prelude.{◌≡◌, ◌≤◌, false, IfOk, IfSome, option_map};
+ghost use Rattle.std.specs.Prelude.{◌≡◌, ◌≤◌, false, map, IfOk, IfSome, OnErr, option_map};
 ghost use Rattle.clap.specs.Matches.{found_of};
 ghost use Rattle.clap.specs.Walk.{rows_of, rule_of};
 ghost use Rattle.cfdp_command_line.specs.Looping.{drop_rule, files_app, folders_app, loop_app};
 ghost use Rattle.cfdp_command_line.specs.Looping.{loop_asked, loop_of, number_of_word, numbers_app};
 ghost use Rattle.cfdp_command_line.specs.Looping.{place_rule, tuned_rule, turns_rule, words_asked};
+ghost use Rattle.cfdp_command_line.specs.Looping.{set_app};
 ghost use Rattle.cfdp_command_line.specs.Looping as requests;
 ghost use Rattle.cfdp_command_line.specs.Request.{IsCommand};
-ghost use Rattle.cfdp_command_line.specs.Shown.{asked_shown, shown_of};
+ghost use Rattle.cfdp_command_line.specs.Sets.{CannotBeSet, IsSetBy};
 
 use crate::arguments::word_of;
+use crate::sets::{SetError, configuration};
 use crate::shown::{shown_by, shown_command};
+use crate::station::{owned_words, pairs};
 use cfdp_report::Shown;
 use clap::{Arg, ArgMatches, Command, value_parser};
+use link_sim::WorldConfig;
 use std::alloc::{AllocError, Global};
+use valid_config::Valid;
 
 /// A file that is to go from one folder into another.
 #[derive(Drop)]
@@ -30,11 +35,31 @@ pub struct LoopRequest {
     pub turns: u64,
     /// Each frame of that number is lost, up to 1,000,000; with 0 none is.
     pub drop_every: u64,
+    /// What is set of both stations: the key of each setting, and behind it the value.
+    pub sets: Vec<String>,
     /// What is to be shown of it.
     pub shown: Shown,
 }
 
-/// The same but for what is to be shown, in words of the command line.
+impl LoopRequest {
+    /// The configuration of both stations: that of a script with these settings, but that NAKs are
+    /// sent again up to 255 times where nothing sets that. Losses that come in step with what is
+    /// sent again pass only after some.
+    ///
+    /// # Errors
+    ///
+    /// The first word that isn't understood; else the first setting that is out of its range.
+    pub fn config(&self) -> Result<Valid<WorldConfig>, SetError<'_>>
+        ensures set { IfOk result
+            (IsSetBy (map (λ word. word.bytes.items) self.now.sets.items)) }
+        ensures refused { OnErr result
+            (CannotBeSet (map (λ word. word.bytes.items) self.now.sets.items)) }
+    {
+        configuration(self.sets.as_slice())
+    }
+}
+
+/// What has to be right of what was said, in words of the command line.
 #[derive(Clone, Copy)]
 struct LoopWords<'a> {
     from: &'a str,
@@ -53,9 +78,15 @@ of up to 2^48 octets is read as it is sent. Where a read finds that it changed,
 a line on standard error says so, and nothing comes. DST appears whole or not at
 all, in the place of a file of that name.
 In a turn both stations are told its number as the time, send, and take what
-came: 16,384 octets of the file at most. The run ends when the transfer is over
-at both, or after N turns.
+came: 16 PDUs of each at most. The run ends when the transfer is over at both,
+or after N turns.
 With --drop K, each Kth frame of both is not sent, and has to be asked for.
+With --set KEY N, as often as it is said, both are set up as by 'set KEY N' in a
+script: 'sim --help' has the keys and their defaults, of which nak_limit is 255
+here. So frames of both directions have the fields that insert_zone,
+control_field and error_control set. Times are numbers of turns. A transfer that
+is suspended stays so: say --turns where on_ack_limit, on_nak_limit or
+on_inactivity is 1 or 2.
 
 Report: as that of sim, without the files.
 --trace, --chart FILE, --pcap FILE and --explain show as those of sim what
@@ -68,16 +99,28 @@ Exit status: 0 the file was delivered, 1 it wasn't, 2 bad arguments, 3 a folder,
 a file, a socket or the output failed, or no memory (told on standard error).
 
 Example:
-  mkdir a b && echo hello > a/x && cfdp_node loop a b x y --drop 3";
+  mkdir a b && echo hello > a/x && cfdp_node loop a b x y --drop 3 --set zone 1024";
 
 /// The grammar of what stands behind `loop`.
 pub fn loop_command<'a>(alloc: Global) -> Result<Command<'a>, AllocError>
     ensures { IfOk result (IsCommand loop_app) }
 {
-    shown_command(alloc, numbers_command(alloc)?)
+    shown_command(alloc, set_command(alloc)?)
 }
 
 /// The same without what is shown beside the report.
+fn set_command<'a>(alloc: Global) -> Result<Command<'a>, AllocError>
+    ensures { IfOk result (IsCommand set_app) }
+{
+    numbers_command(alloc)?.arg(pairs(
+        alloc,
+        "set",
+        "WORD",
+        "Sets the value of a key, for both stations",
+    ))
+}
+
+/// The same without settings.
 fn numbers_command<'a>(alloc: Global) -> Result<Command<'a>, AllocError>
     ensures { IfOk result (IsCommand numbers_app) }
 {
@@ -171,13 +214,13 @@ pub fn loop_request(
         ≡ loop_of (rows_of (found_of arguments.now))) }
 {
     match loop_words(arguments) {
-        Some(words) => Ok(Some(words.kept(alloc, shown_by(alloc, arguments)?)?)),
+        Some(words) => Ok(Some(words.kept(alloc, arguments)?)),
         None => Ok(None),
     }
 }
 
 fn loop_words<'a>(arguments: &ArgMatches<'a>) -> Option<LoopWords<'a>>
-    ensures { option_map (words_asked (shown_of (rows_of (found_of arguments.now)))) result
+    ensures { option_map (words_asked (rows_of (found_of arguments.now))) result
         ≡ loop_of (rows_of (found_of arguments.now)) }
 {
     Some(LoopWords {
@@ -191,10 +234,10 @@ fn loop_words<'a>(arguments: &ArgMatches<'a>) -> Option<LoopWords<'a>>
 }
 
 impl LoopWords<'_> {
-    /// The same, in memory of its own, with what is to be shown.
-    fn kept(self, alloc: Global, shown: Shown) -> Result<LoopRequest, AllocError>
-        ensures { IfOk result (λ request.
-            loop_asked request ≡ words_asked (asked_shown shown) self.entry) }
+    /// The same, in memory of its own, with what else was found.
+    fn kept(self, alloc: Global, arguments: &ArgMatches<'_>) -> Result<LoopRequest, AllocError>
+        ensures { IfOk result (λ request. loop_asked request
+            ≡ words_asked (rows_of (found_of arguments.now)) self.entry) }
     {
         Ok(LoopRequest {
             from: String::from_str(alloc, self.from)?,
@@ -203,7 +246,8 @@ impl LoopWords<'_> {
             destination: String::from_str(alloc, self.destination)?,
             turns: self.turns,
             drop_every: self.drop_every,
-            shown,
+            sets: owned_words(alloc, arguments, "set")?,
+            shown: shown_by(alloc, arguments)?,
         })
     }
 }

@@ -2,7 +2,7 @@
 ghost use Rattle.std.specs.Prelude.{◌≡◌, [], false, map, unwrap_or, IfOk, option_map};
 ghost use Rattle.clap.specs.Matches.{found_of};
 ghost use Rattle.clap.specs.Walk.{all_of, rows_of, rule_of};
-ghost use Rattle.cfdp_command_line.specs.Looping.{number_rule};
+ghost use Rattle.cfdp_command_line.specs.Looping.{number_rule, pairs_rule};
 ghost use Rattle.cfdp_command_line.specs.Request.{IsCommand};
 ghost use Rattle.cfdp_command_line.specs.Shown.{file_rule};
 ghost use Rattle.cfdp_command_line.specs.Station.{addresses_app, carried_app, carrier_of_word};
@@ -11,7 +11,7 @@ ghost use Rattle.cfdp_command_line.specs.Station.{file_app, first_number_rule, f
 ghost use Rattle.cfdp_command_line.specs.Station.{incoming_app, limits_of, lists_app, named_rule};
 ghost use Rattle.cfdp_command_line.specs.Station.{names_app, numbered_app, numbers_of};
 ghost use Rattle.cfdp_command_line.specs.Station.{operated_app};
-ghost use Rattle.cfdp_command_line.specs.Station.{own_numbers_app, pairs_rule, said_number_rule};
+ghost use Rattle.cfdp_command_line.specs.Station.{own_numbers_app, said_number_rule};
 ghost use Rattle.cfdp_command_line.specs.Station.{said_rule, sent_app, spooled_app, station_app};
 ghost use Rattle.cfdp_command_line.specs.Station.{station_asked, station_of, stores_app};
 ghost use Rattle.cfdp_command_line.specs.Station.{told_app, unit_of_word, words_asked};
@@ -546,7 +546,7 @@ fn first_number_argument<'a>(alloc: Global) -> Arg<'a>
 }
 
 /// Two words, as often as they are said.
-fn pairs<'a>(alloc: Global, name: &'a str, shown: &'a str, help: &'a str) -> Arg<'a>
+pub fn pairs<'a>(alloc: Global, name: &'a str, shown: &'a str, help: &'a str) -> Arg<'a>
     ensures { (rule_of result ≡ pairs_rule name.now) × (result.global ≡ false) }
 {
     Arg::new(alloc, name)

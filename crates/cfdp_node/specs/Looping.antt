@@ -1,2 +1,3 @@
 -- A file that goes between two stations in turns.
 pub mod Turns
+pub mod Asked
