@@ -25,6 +25,7 @@
  *   send=K          the Kth datagram isn't sent, or with 0 none is
  *   receive=K       the Kth datagram that came is lost, or with 0 each is
  *   lose=K          the Kth datagram is lost on its way, and nothing tells of it
+ *   bent=K          the last bit of the Kth datagram is turned, or with 0 that of each
  *   swallow=K       the Kth datagram that came is thrown away, and nothing tells of it
  *   memory=N        the Nth growth of memory is refused
  *   mark            a file `refused` is made where one of the last five faults shows
@@ -33,6 +34,8 @@
  *   kept=FOLDER     what is flushed is copied into this folder, as `keep` says
  *   order           a file `order` gets a line for each file or folder that is flushed to its
  *                   device, and for each that is renamed, in the order of these calls
+ *   wire            a file `wire` gets a line for each datagram that is sent: its octets, in
+ *                   hexadecimal digits
  */
 #define _GNU_SOURCE
 #include <dirent.h>
@@ -360,16 +363,36 @@ static int is_turn(const char *name, int *calls)
     return 1;
 }
 
+/* Notes the octets of a datagram that is sent, if that is asked for. */
+static void note_datagram(const unsigned char *octets, size_t count)
+{
+    int (*next)(const char *, int, ...) = NEXT("open");
+    int wire = fault("wire") ? next("wire", O_CREAT | O_APPEND | O_WRONLY, 0600) : -1;
+    if (wire < 0)
+        return;
+    for (size_t at = 0; at < count; at++)
+        dprintf(wire, "%02X", octets[at]);
+    dprintf(wire, "\n");
+    close(wire);
+}
+
 ssize_t send(int fd, const void *from, size_t count, int flags)
 {
     ssize_t (*next)(int, const void *, size_t, int) = NEXT("send");
-    static int calls = 0, calls_lost = 0;
+    static int calls = 0, calls_lost = 0, calls_bent = 0;
     if (is_turn("send=", &calls)) {
         errno = ECONNREFUSED;
         return -1;
     }
     if (fault("lose=") && is_turn("lose=", &calls_lost))
         return (ssize_t)count;
+    unsigned char bent[8192];
+    if (fault("bent=") && count > 0 && count <= sizeof bent && is_turn("bent=", &calls_bent)) {
+        memcpy(bent, from, count);
+        bent[count - 1] ^= 1;
+        from = bent;
+    }
+    note_datagram(from, count);
     return next(fd, from, count, flags);
 }
 

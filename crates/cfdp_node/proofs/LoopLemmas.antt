@@ -14,8 +14,7 @@ use Rattle.cfdp_port.specs.Asking.{Puts}
 use Rattle.cfdp_port.specs.Calls.{WireCall}
 use Rattle.cfdp_port.specs.Pair.{PairState, RunsInPart, RunsTurns, pair}
 use Rattle.cfdp_port.specs.Port.{AtStation, PortState}
-use Rattle.cfdp_report.specs.Settings.{world_of}
-use Rattle.cfdp_node.specs.Looping.Turns.{EndsFromOne, EndsLoop, Follows, IsTold, LoopsAll, loop_settings, loop_text}
+use Rattle.cfdp_node.specs.Looping.Turns.{EndsFromOne, EndsLoop, Follows, IsTold, LoopsAll, loop_text}
 use Rattle.cfdp_report.specs.declared.exit.Exit.{Exit}
 use Rattle.cfdp_report.specs.declared.exit.Exit.TheVariants.{Complete, Incomplete, BadScript, Device}
 use Rattle.cfdp_report.specs.declared.exit.Fault.TheVariants.{Unreadable, TooLong, Unwritable, NoMemoryAtStart, NoMemory}
@@ -66,20 +65,20 @@ module _ {W : Type 0} (Steps : W → WireCall → W → Type 0) (old mid new : O
   one_kept exit one config files wire (inl none) = inl (none.0, Keeps-trans old mid new none.1 kept)
   one_kept exit one config files wire (inr two) = inr (two.0, two.1, two.2, (two.3.0, all_kept _ _ exit two.3.1))
 
-  loop_kept : (exit : Exit) (stands : Bool) (sources files : FileMap) (wires : W × W)
-      → EndsLoop Steps exit stands sources files wires source destination most old mid
-      → EndsLoop Steps exit stands sources files wires source destination most old new
-  loop_kept exit stands sources files wires (inl none) = inl (none.0, Keeps-trans old mid new none.1 kept)
-  loop_kept exit stands sources files wires (inr one) = inr (one.0, one.1, one.2, one_kept exit one.0 _ files wires.1 one.3)
+  loop_kept : (exit : Exit) (configs : WorldConfig) (stands : Bool) (sources files : FileMap) (wires : W × W)
+      → EndsLoop Steps exit configs stands sources files wires source destination most old mid
+      → EndsLoop Steps exit configs stands sources files wires source destination most old new
+  loop_kept exit configs stands sources files wires (inl none) = inl (none.0, Keeps-trans old mid new none.1 kept)
+  loop_kept exit configs stands sources files wires (inr one) = inr (one.0, one.1, one.2, one_kept exit one.0 _ files wires.1 one.3)
 
   -- it holds still once what waits in the buffer was written out
-  pub flushed_loop : (exit ended : Exit) (stands : Bool) (sources files : FileMap) (wires : W × W)
-      → IsTold exit (EndsLoop Steps exit stands sources files wires source destination most old mid)
+  pub flushed_loop : (exit ended : Exit) (configs : WorldConfig) (stands : Bool) (sources files : FileMap) (wires : W × W)
+      → IsTold exit (EndsLoop Steps exit configs stands sources files wires source destination most old mid)
       → (ended ≡ exit) ⊎ (ended ≡ Device Unwritable)
-      → IsTold ended (EndsLoop Steps ended stands sources files wires source destination most old new)
-  flushed_loop exit ended stands sources files wires told from =
-      let Ends : Exit → Type 0 = λ e. IsTold e (EndsLoop Steps e stands sources files wires source destination most old new) in
-      let now : Ends exit = told_too exit _ _ (loop_kept exit stands sources files wires) told in
+      → IsTold ended (EndsLoop Steps ended configs stands sources files wires source destination most old new)
+  flushed_loop exit ended configs stands sources files wires told from =
+      let Ends : Exit → Type 0 = λ e. IsTold e (EndsLoop Steps e configs stands sources files wires source destination most old new) in
+      let now : Ends exit = told_too exit _ _ (loop_kept exit configs stands sources files wires) told in
       ⊎_elim (λ e. subst Ends (sym e) now) (λ e. subst Ends (sym e) tt) from
 
 -- ---- the put
@@ -111,12 +110,11 @@ module _ {W : Type 0} (Steps : W → WireCall → W → Type 0) (exit : Exit) (s
       told_too exit (LoopsAll Steps source destination most (pair one two) last exit old new) (EndsFromOne Steps exit one config files wire source destination most old new)
       (λ all. inr (two, first, same, (last, all))) told
 
-  pub from_first : (one : PortState W) (configs : WorldConfig) (stands : Bool) (sources files : FileMap) (wires : W × W) → configs ≡ world_of loop_settings
+  pub from_first : (one : PortState W) (configs : WorldConfig) (stands : Bool) (sources files : FileMap) (wires : W × W)
       → IsNewAt configs.one stands sources empty one.station → one.wire ≡ wires.0
       → IsTold exit (EndsFromOne Steps exit one configs.two files wires.1 source destination most old new)
-      → IsTold exit (EndsLoop Steps exit stands sources files wires source destination most old new)
-  from_first one configs stands sources files wires same first is told =
-      let Goal : Type 0 = EndsLoop Steps exit stands sources files wires source destination most old new in
-      let Two : WorldConfig → Type 0 = λ c. EndsFromOne Steps exit one c.two files wires.1 source destination most old new in
-      told_too exit (Two configs) Goal
-      (λ ends. inr (one, subst (λ (c : WorldConfig). IsNewAt c.one stands sources empty one.station) same first, is, subst Two same ends)) told
+      → IsTold exit (EndsLoop Steps exit configs stands sources files wires source destination most old new)
+  from_first one configs stands sources files wires first is told =
+      told_too exit (EndsFromOne Steps exit one configs.two files wires.1 source destination most old new)
+      (EndsLoop Steps exit configs stands sources files wires source destination most old new)
+      (λ ends. inr (one, first, is, ends)) told

@@ -4,20 +4,18 @@ ghost use Rattle.std.specs.Io.KnownBytes.{Appends};
 ghost use Rattle.std.specs.Prelude.{◌≡◌, ◌==◌, ◌&&◌, Some, IfOk, OnOk, not};
 ghost use Rattle.cfdp_report.specs.Exit.{IsFlushedAt};
 ghost use Rattle.cfdp_node.specs.Looping.Turns.{EndsBoth, EndsFromOne, EndsLoop, IsTold, LoopRuns};
-ghost use Rattle.cfdp_node.specs.Looping.Turns.{completed, is_no_memory, loop_settings, loop_text};
+ghost use Rattle.cfdp_node.specs.Looping.Turns.{completed, is_no_memory, loop_text};
 ghost use Rattle.cfdp_node.specs.Looping.Turns.{more_failures, refusal_answer};
-ghost use Rattle.cfdp_report.specs.Settings.{world_of};
 ghost use Rattle.cfdp_report.specs.Report.Lines.{count_line};
 ghost use Rattle.cfdp_port.specs.Pair.{pair};
 
 pub mod folders;
-pub mod request;
 pub mod telling;
 
 use crate::dropping::let_go;
 use cfdp_port::{Lookout, Port, Wire, take_turns};
 use cfdp_report::{
-    Answer, Answered, Exit, Fault, Settings, own_completions, write_answer, write_indications,
+    Answer, Answered, Exit, Fault, own_completions, write_answer, write_indications,
 };
 use cfdp_station::{PutError, StationConfig};
 use cfdp_store::{Inbox, MemoryOutbox, NoInbox, Outbox};
@@ -36,6 +34,8 @@ pub struct LoopOptions {
     pub destination: Vec<u8>,
     /// The most turns that are taken.
     pub turns: u64,
+    /// How both stations are set up.
+    pub config: Valid<WorldConfig>,
 }
 
 /// Where the file goes from and to, and over what.
@@ -80,18 +80,18 @@ pub struct Ended {
 /// Who looks on sees all that passes, and that no more does before the report is written.
 pub fn run_loop<O: Outbox, I: Inbox, W: Wire, V: Write + Drop, L: Lookout>(
     alloc: Global,
-    options: LoopOptions,
+    options: &LoopOptions,
     ends: LoopEnds<O, I, W>,
     out: &mut BufWriter<V>,
     lookout: &mut L,
 ) -> Exit
-    ensures ends { IsTold result (EndsLoop W.steps result (O.stands ends.outbox)
-        (O.files ends.outbox) (I.published ends.inbox) ends.wires options.source.items
-        options.destination.items options.turns (writer_contents V.contents out.old)
-        (writer_contents V.contents out.new)) }
+    ensures ends { IsTold result (EndsLoop W.steps result options.now.config
+        (O.stands ends.outbox) (O.files ends.outbox) (I.published ends.inbox) ends.wires
+        options.now.source.items options.now.destination.items options.now.turns
+        (writer_contents V.contents out.old) (writer_contents V.contents out.new)) }
     ensures flushed { IsFlushedAt result (writer_buffer out.new) }
 {
-    run_first(alloc, &options, ends, out, lookout).flushed(out)
+    run_first(alloc, options, ends, out, lookout).flushed(out)
 }
 
 /// Makes the first station, and runs all. The writer isn't flushed.
@@ -102,15 +102,14 @@ fn run_first<O: Outbox, I: Inbox, W: Wire, V: Write, L: Lookout>(
     out: &mut V,
     lookout: &mut L,
 ) -> Exit
-    ensures { IsTold result (EndsLoop W.steps result (O.stands ends.outbox) (O.files ends.outbox)
-        (I.published ends.inbox) ends.wires options.now.source.items
+    ensures { IsTold result (EndsLoop W.steps result options.now.config (O.stands ends.outbox)
+        (O.files ends.outbox) (I.published ends.inbox) ends.wires options.now.source.items
         options.now.destination.items options.now.turns (V.contents out.old)
         (V.contents out.new)) }
 {
-    let config = loop_config();
     let (sender, receiver) = (
-        WorldConfig::station(config, Side::One),
-        WorldConfig::station(config, Side::Two),
+        WorldConfig::station(options.config, Side::One),
+        WorldConfig::station(options.config, Side::Two),
     );
     let LoopEnds {
         outbox,
@@ -165,21 +164,6 @@ fn run_second<O: Outbox, I: Inbox, J: Inbox, W: Wire, V: Write, L: Lookout>(
             exit
         }
         Err(AllocError) => Exit::Device(Fault::NoMemoryAtStart),
-    }
-}
-
-/// The settings of a script, but for NAKs, which are sent again until nothing is heard any more:
-/// losses that come in step with what is sent again pass only after some.
-pub fn loop_config() -> Valid<WorldConfig>
-    ensures { result ≡ world_of loop_settings }
-{
-    let settings = Settings {
-        nak_limit: 255,
-        ..Settings::DEFAULT
-    };
-    match settings.config() {
-        Some(config) => config,
-        None => unreachable!(),
     }
 }
 

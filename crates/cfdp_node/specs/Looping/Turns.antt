@@ -11,6 +11,7 @@ use Rattle.cfdp_entity.specs.declared.error.PutError.TheVariants as put_errors
 use Rattle.cfdp_station.specs.Station.{StationState}
 use Rattle.cfdp_station.specs.declared.config.StationConfig.{StationConfig}
 use Rattle.link_sim.specs.World.State.{IsFirstAt, IsNewAt}
+use Rattle.link_sim.specs.declared.world_config.WorldConfig.{WorldConfig}
 use Rattle.link_sim.specs.declared.event.Refusal.TheVariants.{Put}
 use Rattle.link_sim.specs.declared.recover_error.RecoverError.TheVariants.{Settle}
 use Rattle.link_sim.specs.declared.settle_error.SettleError.TheVariants as settle_errors
@@ -20,9 +21,6 @@ use Rattle.cfdp_port.specs.Pair.{PairState, RunsInPart, RunsTurns, pair}
 use Rattle.cfdp_port.specs.Port.{AtStation, PortState}
 use Rattle.cfdp_report.specs.Exit.{run_exit}
 use Rattle.cfdp_report.specs.Report.Lines.{answer_text, count_line, indication_line, is_own_completion}
-use Rattle.cfdp_report.specs.Settings.{default_settings}
-use Rattle.cfdp_report.specs.Settings.{world_of}
-use Rattle.cfdp_report.specs.declared.settings.Settings.{Settings}
 use Rattle.cfdp_report.specs.declared.report.answer.Answer.{Answer}
 use Rattle.cfdp_report.specs.declared.report.answer.Answer.TheVariants.{Refused, Ended}
 use Rattle.cfdp_report.specs.declared.exit.Exit.{Exit}
@@ -122,10 +120,6 @@ module _ {W : Type 0} (Steps : W → WireCall → W → Type 0) where
       HasRun source destination most first last
       × IsTold exit (LoopsAll source destination most first last exit old new)
 
--- the settings of a script, but that NAKs are sent again up to 255 times
-abbrev pub loop_settings : Settings
-loop_settings = record default_settings { nak_limit = 255 }
-
 -- The second station is a new one, of this setting, which published these files before. From the
 -- first one as it is a file went so, or there was no memory, and nothing is written.
 abbrev pub EndsFromOne : {W : Type 0} → (W → WireCall → W → Type 0) → Exit → PortState W
@@ -137,15 +131,14 @@ EndsFromOne Steps exit one config files wire source destination most old new =
     × ((last : PairState _) × LoopsAll Steps source destination most (pair one two) last exit
     old new))
 
--- A file went so, from two new stations, of which the first has these files to send, which stand or
--- don't, and the second published those before; or there was no memory for the stations, and
--- nothing is written.
-abbrev pub EndsLoop : {W : Type 0} → (W → WireCall → W → Type 0) → Exit → (stands : Bool)
-    → (sources files : FileMap) → (wires : W × W) → (source destination : List ℕ)
-    → (most : ℕ) → (old new : Option (List ℕ)) → Type 0
-EndsLoop Steps exit stands sources files wires source destination most old new =
+-- A file went so, from two new stations of these configurations, of which the first has these files
+-- to send, which stand or don't, and the second published those before; or there was no memory for
+-- the stations, and nothing is written.
+abbrev pub EndsLoop : {W : Type 0} → (W → WireCall → W → Type 0) → Exit → WorldConfig
+    → (stands : Bool) → (sources files : FileMap) → (wires : W × W)
+    → (source destination : List ℕ) → (most : ℕ) → (old new : Option (List ℕ)) → Type 0
+EndsLoop Steps exit configs stands sources files wires source destination most old new =
     ((exit ≡ Device NoMemoryAtStart) × Keeps old new)
-    ⊎ ((one : PortState _) × IsNewAt (world_of loop_settings).one stands sources empty one.station
+    ⊎ ((one : PortState _) × IsNewAt configs.one stands sources empty one.station
     × (one.wire ≡ wires.0)
-    × EndsFromOne Steps exit one (world_of loop_settings).two files wires.1 source destination
-    most old new)
+    × EndsFromOne Steps exit one configs.two files wires.1 source destination most old new)

@@ -1,14 +1,18 @@
 //! A file sent from one folder into another, by two stations over two sockets of this machine.
-use crate::looping::request::LoopRequest;
+ghost use Rattle.std.specs.Prelude.{IfOk};
+ghost use Rattle.cfdp_node.specs.Looping.Asked.{AreAsked, AreNamed};
+
 use crate::looping::telling::{LoopLookout, TellingInbox, TellingOutbox};
-use crate::looping::{LoopEnds, LoopOptions, loop_config, run_loop};
+use crate::looping::{LoopEnds, LoopOptions, run_loop};
 use crate::wire::udp::UdpWire;
+use cfdp_command_line::LoopRequest;
 use cfdp_host::{HeldFolder, fault_text};
 use cfdp_port::{Lookout, LossyWire, Wire};
 use cfdp_report::{
     Exit, Fault, Input, Name, Onlooker, Progress, Ran, Screen, cause_text, shown_status,
 };
 use cfdp_store::{FolderError, FolderOutbox, Inbox, Outbox, SeekingOutbox, is_folder_name};
+use link_sim::WorldConfig;
 use past::Past;
 use std::alloc::{AllocError, Global};
 use std::cell::Cell;
@@ -17,6 +21,7 @@ use std::io::{BufWriter, ErrorKind};
 use std::os::unix::fs::MetadataExt;
 use std::snapshot::Snapshot;
 use std::{fs, io};
+use valid_config::Valid;
 
 /// The exit status of bad arguments.
 const MISTAKE: u8 = 2;
@@ -27,17 +32,21 @@ const DEVICE: u8 = 3;
 /// Sends the file that is asked for, writes the report to standard output, and says on standard
 /// error what went wrong. Answers the exit status.
 ///
-/// What may be wrong is looked for in this order: both names, the folder and the file that is to be
-/// sent, the other folder, the sockets.
+/// What may be wrong is looked for in this order: what is set, both names, the folder and the file
+/// that is to be sent, the other folder, the sockets.
 pub fn loop_status(rt: &HostRuntime, request: &LoopRequest) -> u8 {
     let (told, progress) = (Cell::new(false), Progress::new(rt));
-    from_folder(rt, request, &told, &progress)
+    match options(rt, request) {
+        Ok(options) => from_folder(rt, request, &options, &told, &progress),
+        Err(status) => status,
+    }
 }
 
 /// Sends the file of its folder.
 fn from_folder(
     rt: &HostRuntime,
     request: &LoopRequest,
+    options: &LoopOptions,
     told: &Cell<bool>,
     progress: &Progress<'_>,
 ) -> u8 {
@@ -45,7 +54,7 @@ fn from_folder(
         Ok(outbox) => {
             let from = request.from.as_str();
             let outbox = TellingOutbox::over(rt, from, outbox, told, progress);
-            sent_status(rt, request, outbox, told, progress)
+            sent_status(rt, request, options, outbox, told, progress)
         }
         Err(status) => status,
     }
@@ -195,13 +204,14 @@ pub fn tell_of_file(rt: &HostRuntime, path: &str, name: &str, fault: FolderError
 fn sent_status<O: Outbox>(
     rt: &HostRuntime,
     request: &LoopRequest,
+    options: &LoopOptions,
     outbox: O,
     told: &Cell<bool>,
     progress: &Progress<'_>,
 ) -> u8 {
     match way(rt, request) {
         Ok((wires, _held)) => {
-            let ran = sent(rt, request, outbox, wires, told, progress);
+            let ran = sent(rt, request, options, outbox, wires, told, progress);
             tell_untold(rt, ran.exit, told);
             shown_status(rt, &request.shown, &ran)
         }
@@ -222,6 +232,7 @@ pub fn tell_untold(rt: &HostRuntime, exit: Exit, told: &Cell<bool>) {
 fn sent<O: Outbox, W: Wire>(
     rt: &HostRuntime,
     request: &LoopRequest,
+    options: &LoopOptions,
     outbox: O,
     wires: (W, W),
     told: &Cell<bool>,
@@ -234,7 +245,7 @@ fn sent<O: Outbox, W: Wire>(
                 inbox,
                 wires,
             };
-            sent_over(rt, request, ends, progress)
+            sent_over(rt, request, options, ends, progress)
         }
         Err(AllocError) => Ran::unseen(Exit::Device(Fault::NoMemoryAtStart)),
     }
@@ -245,6 +256,7 @@ fn sent<O: Outbox, W: Wire>(
 fn sent_over<O: Outbox, I: Inbox, W: Wire>(
     rt: &HostRuntime,
     request: &LoopRequest,
+    options: &LoopOptions,
     ends: LoopEnds<O, I, W>,
     progress: &Progress<'_>,
 ) -> Ran {
@@ -252,10 +264,10 @@ fn sent_over<O: Outbox, I: Inbox, W: Wire>(
         rt,
         progress: Some(progress),
     };
-    match Onlooker::new(screen, loop_config(), &request.shown) {
+    match Onlooker::new(screen, options.config, &request.shown) {
         Ok(onlooker) => {
             let mut lookout = LoopLookout { onlooker, progress };
-            let exit = reported(rt, request, ends, &mut lookout);
+            let exit = reported(rt, options, ends, &mut lookout);
             Ran {
                 exit,
                 seen: lookout.onlooker.into_summary(),
@@ -269,14 +281,11 @@ fn sent_over<O: Outbox, I: Inbox, W: Wire>(
 /// turn.
 fn reported<O: Outbox, I: Inbox, W: Wire, L: Lookout>(
     rt: &HostRuntime,
-    request: &LoopRequest,
+    options: &LoopOptions,
     ends: LoopEnds<O, I, W>,
     lookout: &mut L,
 ) -> Exit {
     let alloc = rt.alloc();
-    let Ok(options) = options(alloc, request) else {
-        return Exit::Device(Fault::NoMemoryAtStart);
-    };
     let Ok(mut out) = BufWriter::new(alloc, io::writer(rt)) else {
         return Exit::Device(Fault::NoMemoryAtStart);
     };
@@ -287,10 +296,38 @@ fn reported<O: Outbox, I: Inbox, W: Wire, L: Lookout>(
 }
 
 /// What is to be sent, and how.
-fn options(alloc: Global, request: &LoopRequest) -> Result<LoopOptions, AllocError> {
+///
+/// # Errors
+///
+/// The exit status, where what is set can't be, which was told on standard error, or where there is
+/// no memory.
+fn options(rt: &HostRuntime, request: &LoopRequest) -> Result<LoopOptions, u8>
+    ensures { IfOk result (AreAsked request.now) }
+{
+    match request.config() {
+        Ok(config) => match named(rt.alloc(), request, config) {
+            Ok(options) => Ok(options),
+            Err(AllocError) => Err(DEVICE),
+        },
+        Err(error) => {
+            error.tell(rt);
+            Err(MISTAKE)
+        }
+    }
+}
+
+/// What is to be sent, by stations that are set up so.
+fn named(
+    alloc: Global,
+    request: &LoopRequest,
+    config: Valid<WorldConfig>,
+) -> Result<LoopOptions, AllocError>
+    ensures { IfOk result (AreNamed request.now config) }
+{
     Ok(LoopOptions {
         source: Vec::from_slice(alloc, request.source.as_bytes())?,
         destination: Vec::from_slice(alloc, request.destination.as_bytes())?,
         turns: request.turns,
+        config,
     })
 }

@@ -1,0 +1,5 @@
+pub mod Request
+pub mod Shown
+pub mod Looping
+pub mod Station
+pub mod Sets

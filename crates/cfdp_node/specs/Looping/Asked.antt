@@ -1,0 +1,20 @@
+-- What is done of what a command line asks.
+use Rattle.std.specs.Prelude.{◌≡◌, map}
+use Rattle.link_sim.specs.declared.world_config.WorldConfig.{WorldConfig}
+use Rattle.cfdp_command_line.specs.Sets.{IsSetBy}
+use Rattle.cfdp_command_line.specs.declared.looping.LoopRequest.{LoopRequest}
+use Rattle.cfdp_node.specs.declared.looping.LoopOptions.{LoopOptions}
+
+-- A file is sent under the names that were asked for, in so many turns at most, between stations
+-- of this configuration.
+pub record AreNamed (request : LoopRequest) (config : WorldConfig) (options : LoopOptions)
+    : Type 0 where
+  pub source : options.source.items ≡ request.source.bytes.items
+  pub destination : options.destination.items ≡ request.destination.bytes.items
+  pub turns : options.turns ≡ request.turns
+  pub config : options.config ≡ config
+
+-- So it is, between stations of the configuration that was set.
+abbrev pub AreAsked : LoopRequest → LoopOptions → Type 0
+AreAsked request options = AreNamed request options.config options
+    × IsSetBy (map (λ word. word.bytes.items) request.sets.items) options.config
