@@ -106,10 +106,12 @@ abbrev pub HasTaken : CaptureState → (text : List ℕ) → ItemText → Captur
 HasTaken st text item after rest =
     TakesNext st.next st text item after rest ⊎ TakesNone st text item after rest
 
--- ---- all that a text spells, from its front to its end, or to what can't be read
-abbrev pub Spells : CaptureState → (items : List ItemText) → (text : List ℕ) → Type 0
-Spells st [] text = text ≡ []
-Spells st (item ∷ items) text =
+-- ---- what a text spells from its front on, what is known behind that, and the rest; all of it,
+-- where there is no rest
+abbrev pub SpellsTo : CaptureState → (items : List ItemText) → (text : List ℕ) → CaptureState →
+    (rest : List ℕ) → Type 0
+SpellsTo st [] text last rest = (last ≡ st) × (rest ≡ text)
+SpellsTo st (item ∷ items) text last rest =
     (0 < length text)
-    × ((after : CaptureState) × (rest : List ℕ) × HasTaken st text item after rest
-    × Spells after items rest)
+    × ((after : CaptureState) × (behind : List ℕ) × HasTaken st text item after behind
+    × SpellsTo after items behind last rest)

@@ -4,3 +4,4 @@ pub mod Records
 pub mod Blocks
 pub mod Captures
 pub mod Units
+pub mod Texts

@@ -8,6 +8,7 @@ ghost use Rattle.captures.specs.Units.{udp_fault, udp_payload, unit_fault, unit_
 
 use crate::packet::Packet;
 use cfd_bits::get;
+use std::fmt;
 
 /// Why nothing is read in a captured packet.
 #[derive(Clone, Copy, Debug, PartialEq, Eq)]
@@ -25,6 +26,26 @@ pub enum Passed {
     NotUdp(u8),
     /// A header says that there is more, or less, than there can be.
     Malformed,
+}
+
+impl fmt::Display for Passed {
+    ghost use Rattle.std.specs.Prelude.{Some};
+    ghost use Rattle.captures.specs.Texts.{passed_text};
+
+    ghost output = { λ passed. Some (passed_text passed) };
+
+    fn fmt<W: fmt::Write>(&self, f: &mut fmt::Formatter<W>) -> fmt::Result {
+        match self {
+            Passed::CutShort(captured, all) => {
+                write!(f, "error 25 SnapLength {captured} octets of {all}")
+            }
+            Passed::OtherLink(link_type) => write!(f, "error 26 OtherLink {link_type}"),
+            Passed::NotIp => f.write_str("error 27 NotIp"),
+            Passed::Fragment => f.write_str("error 28 Fragment"),
+            Passed::NotUdp(protocol) => write!(f, "error 29 NotUdp {protocol}"),
+            Passed::Malformed => f.write_str("error 30 Malformed"),
+        }
+    }
 }
 
 /// What is captured as it is: link types 147 to 162, which are free for any use. Else it is the

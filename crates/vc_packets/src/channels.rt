@@ -1,6 +1,8 @@
 //! All virtual channels whose frames were seen.
-ghost use Rattle.std.specs.Prelude.{◌≡◌, ◌≤◌, [], length, false, All, IfOk, MatchOption};
-ghost use Rattle.vc_packets.specs.Carrying.{FrameCarries, IsUnfollowed, carried_text, is_of};
+ghost use Rattle.std.specs.Prelude.{◌≡◌, ◌≤◌, ◌<◌, [], length, take, slice_index_or, true, false};
+ghost use Rattle.std.specs.Prelude.{All, IfOk, IfSome, MatchOption, None};
+ghost use Rattle.vc_packets.specs.Carrying.{FrameCarries, IsUnfollowed, carried_text, fresh};
+ghost use Rattle.vc_packets.specs.Carrying.{is_of};
 
 use crate::channel::{Carried, Channel};
 use aos_frame::FrameHeader;
@@ -43,18 +45,14 @@ impl Channels {
     /// # Errors
     ///
     /// `AllocError` where there is no memory for it.
-    pub fn take(
-        &mut self,
-        header: FrameHeader,
-        mpdu: &[u8],
-    ) -> Result<Option<Carried>, AllocError>
+    pub fn take(&mut self, header: FrameHeader, mpdu: &[u8]) -> Result<Option<Carried>, AllocError>
         requires least { 18 ≤ length mpdu.now }
         requires most { length mpdu.now ≤ 2042 }
         ensures { IfOk result (λ answer. MatchOption answer
             (IsUnfollowed self.old header self.new)
             (λ carried. FrameCarries self.old header mpdu.now (carried_text carried) self.new)) }
     {
-        match self.channels.iter().position(|channel| channel.is_of(header)) {
+        match place_of(&self.channels, header) {
             Some(place) => {
                 let carried = self.channels[place].take(self.alloc, header, mpdu)?;
                 Ok(Some(carried))
@@ -88,4 +86,15 @@ impl Channels {
         self.channels.push(channel)?;
         Ok(Some(carried))
     }
+}
+
+/// The place of the first channel that a frame is of.
+fn place_of(channels: &[Channel], header: FrameHeader) -> Option<usize>
+    ensures none { result ≡ None → All (λ channel. is_of header channel ≡ false) channels.now }
+    ensures before { IfSome result (λ place. All (λ channel. is_of header channel ≡ false)
+        (take place channels.now)) }
+    ensures there { IfSome result (λ place. (place < length channels.now)
+        × (is_of header (slice_index_or channels.now place (fresh header)) ≡ true)) }
+{
+    channels.iter().position(|channel| channel.is_of(header))
 }
