@@ -242,11 +242,11 @@ def fault_mistakes(program):
 def own_mistakes(program):
     """What is wrong where `dump` reads a capture that the program wrote: it has to tell the PDUs
     that the trace of the same run says were sent."""
-    script = "fill 1 a.txt 3000\nput 1 a.txt b.txt\nsettle\n"
+    script = "fill 1 a.txt 3000 41\nput 1 a.txt b.txt\nsettle\n"
     words = ["sim", "--pcap", "capture", "--trace"]
     status, _, err, left = program.run(words, script)
     words = [line.split(" ", 3) for line in err.splitlines()]
-    sent = [it[3] for it in words if it[2] == "sends" and not it[3].startswith(("dir ", "data "))]
+    sent = [it[3] for it in words if it[2] == "sends" and not it[3].startswith(("dir frame", "data frame"))]
     if status or "capture" not in left:
         yield f"status {status}, {err[:300]!r}"
         return

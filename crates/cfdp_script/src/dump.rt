@@ -11,6 +11,7 @@ ghost use Rattle.cfdp_script.specs.Dump.Units.{WritesUnit};
 ghost use Rattle.cfdp_script.specs.Dump as dumps;
 
 mod capture;
+mod remark;
 mod unit;
 
 use crate::dump::capture::write_capture;

@@ -10,10 +10,11 @@ use Rattle.vc_packets.specs.Carrying.{CarriedText, FrameCarries, IsUnfollowed}
 use Rattle.vc_packets.specs.declared.channel.Channel.{Channel}
 use Rattle.cfdp_report.specs.Dump.Lines.{WritesLines}
 use Rattle.cfdp_report.specs.Dump.Shape.{channel_in}
-use Rattle.cfdp_script.specs.Dump.Told.{AsFrame, AsPdu, BadCapture, PassedBy, TellsTold, Told, Unfollowed, carried_told}
+use Rattle.cfdp_script.specs.Dump.Told.{AsFrame, AsPdu, Says, TellsTold, Told, carried_told}
 use Rattle.cfdp_script.specs.declared.dump.DumpKind.{DumpKind}
 use Rattle.cfdp_script.specs.declared.dump.DumpKind.TheVariants.{Pdus, Frames}
 use Rattle.cfdp_script.specs.declared.dump.DumpRequest.{DumpRequest}
+use Rattle.cfdp_script.specs.declared.dump.remark.Remark.TheVariants.{BadCapture, PassedBy, Unfollowed}
 
 -- One thing is told, which changes nothing.
 abbrev pub TellsOne : (one : Told) → List Channel → List Told → List Channel → Type 0
@@ -35,7 +36,7 @@ pub record TellsUnfollowed (request : DumpRequest) (channels : List Channel) (oc
   pub header : FrameHeader
   pub spelled : SpellsFrame (channel_in octets request.shape) header octets
   pub unfollowed : IsUnfollowed channels header after
-  pub words : tolds ≡ AsFrame octets ∷ Unfollowed ∷ []
+  pub words : tolds ≡ AsFrame octets ∷ Says Unfollowed ∷ []
 
 -- The octets are no frame, which changes nothing.
 pub record TellsNoFrame (request : DumpRequest) (channels : List Channel) (octets : List ℕ)
@@ -72,10 +73,10 @@ abbrev pub TellsItem : (whole : ℕ) → DumpRequest → List Channel → ItemTe
 TellsItem whole request channels (Captured packet) tolds after =
     MatchOption (unit_fault packet)
     (TellsUnit request channels (unit_in packet) tolds after)
-    (λ passed. TellsOne (PassedBy passed) channels tolds after)
+    (λ passed. TellsOne (Says (PassedBy passed)) channels tolds after)
 TellsItem whole request channels PassedOver tolds after = (tolds ≡ []) × (after ≡ channels)
 TellsItem whole request channels (Faulty fault) tolds after =
-    TellsOne (BadCapture fault.cause (whole - fault.left)) channels tolds after
+    TellsOne (Says (BadCapture fault.cause (whole - fault.left))) channels tolds after
 
 -- ---- many, one after the other
 abbrev pub TellsRun : {A : Type 0} → (List Channel → A → List Told → List Channel → Type 0) →

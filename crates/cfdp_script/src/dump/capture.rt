@@ -6,7 +6,8 @@ ghost use Rattle.cfdp_script.specs.Dump.{WritesCapture};
 ghost use Rattle.cfdp_script.specs.Dump.Units.{TellsItem, WritesUnit};
 
 use crate::dump::DumpRequest;
-use crate::dump::unit::write_unit;
+use crate::dump::remark::Remark;
+use crate::dump::unit::{write_remark, write_unit};
 use captures::{Capture, Item, Packet, unit_of};
 use std::alloc::Global;
 use std::io;
@@ -58,12 +59,12 @@ fn write_item<W: Write>(
     match item {
         Item::Packet(packet) => match unit_of(packet) {
             Ok(octets) => write_unit(request, octets, channels, out),
-            Err(passed) => writeln!(out, "{passed}"),
+            Err(passed) => write_remark(request, Remark::PassedBy(passed), out),
         },
         Item::Passed => Ok(()),
         Item::Faulty(fault) => {
             let place = whole.saturating_sub(fault.left);
-            writeln!(out, "{} at octet {place}", fault.cause)
+            write_remark(request, Remark::BadCapture(fault.cause, place), out)
         }
     }
 }

@@ -1,18 +1,19 @@
 //! What one unit spells, a PDU or a frame, and what a frame carries.
-ghost use Rattle.std.specs.Prelude.{◌≡◌, ◌≤◌, length, IfSome, None, OnOk, Some};
+ghost use Rattle.std.specs.Prelude.{◌≡◌, ◌≤◌, ◌∷◌, [], length, IfSome, None, OnOk, Some};
 ghost use Rattle.std.specs.List.{flat_map};
 ghost use Rattle.aos_frame.specs.Frame.{SpellsFrame, frame_fault};
 ghost use Rattle.aos_frame.specs.declared.error.FrameError.{FrameError};
 ghost use Rattle.frame_fields.specs.Fields.{mpdu_in};
-ghost use Rattle.cfdp_report.specs.Dump.Lines.{WritesLine, WritesLines};
+ghost use Rattle.cfdp_report.specs.Dump.Lines.{WritesLines};
 ghost use Rattle.cfdp_report.specs.Dump.Shape.{IsShape, channel_in};
 ghost use Rattle.cfdp_script.specs.Dump.Told as told;
-ghost use Rattle.cfdp_script.specs.Dump.Told.{AsPacket, TellsTold, bad_told, carried_told};
+ghost use Rattle.cfdp_script.specs.Dump.Told.{Says, TellsTold, bad_told, carried_told};
 ghost use Rattle.cfdp_script.specs.Dump.Told.{cut_told, missing_told, packet_told, zone_told};
 ghost use Rattle.cfdp_script.specs.Dump.Units.{TellsDeep, TellsUnit, WritesUnit};
 ghost use Rattle.vc_packets.specs.Carrying.{carried_text};
 ghost use Rattle.mpdu.specs.Feeding.{octets_of_each};
 
+use crate::dump::remark::Remark;
 use crate::dump::{DumpKind, DumpRequest};
 use aos_frame::{ChannelConfig, FrameHeader, HEADER_LEN, decode};
 use cfd_bits::get;
@@ -65,7 +66,7 @@ fn write_deep<W: Write>(
     };
     match channels.take(header, mpdu)? {
         Some(carried) => write_carried(request, &carried, out),
-        None => writeln!(out, "unfollowed"),
+        None => write_remark(request, Remark::Unfollowed, out),
     }
 }
 
@@ -98,17 +99,13 @@ fn frame_of(octets: &[u8], shape: FrameShape) -> Option<(FrameHeader, &[u8])>
 /// # Errors
 ///
 /// That of the writer.
-fn write_carried<W: Write>(
-    request: DumpRequest,
-    carried: &Carried,
-    out: &mut W,
-) -> io::Result<()>
+fn write_carried<W: Write>(request: DumpRequest, carried: &Carried, out: &mut W) -> io::Result<()>
     ensures { OnOk result (WritesLines (TellsTold request) (carried_told (carried_text carried.now))
         (W.contents out.old) (W.contents out.new)) }
 {
     write_missing(request, carried.missing, out)?;
     if carried.only_idle {
-        writeln!(out, "idle")
+        write_remark(request, Remark::OnlyIdle, out)
     } else {
         write_zone(request, carried, out)
     }
@@ -126,7 +123,7 @@ fn write_missing<W: Write>(request: DumpRequest, frames: u32, out: &mut W) -> io
     if frames == 0 {
         Ok(())
     } else {
-        writeln!(out, "missing {frames}")
+        write_remark(request, Remark::Missing(frames), out)
     }
 }
 
@@ -153,7 +150,11 @@ fn write_cut<W: Write>(request: DumpRequest, cut_off: bool, out: &mut W) -> io::
     ensures { OnOk result (WritesLines (TellsTold request) (cut_told cut_off)
         (W.contents out.old) (W.contents out.new)) }
 {
-    if cut_off { writeln!(out, "cut") } else { Ok(()) }
+    if cut_off {
+        write_remark(request, Remark::CutOff, out)
+    } else {
+        Ok(())
+    }
 }
 
 /// Writes how many packet headers are bad, where some are.
@@ -168,7 +169,7 @@ fn write_bad<W: Write>(request: DumpRequest, headers: u8, out: &mut W) -> io::Re
     if headers == 0 {
         Ok(())
     } else {
-        writeln!(out, "bad {headers}")
+        write_remark(request, Remark::BadHeaders(headers), out)
     }
 }
 
@@ -177,11 +178,7 @@ fn write_bad<W: Write>(request: DumpRequest, headers: u8, out: &mut W) -> io::Re
 /// # Errors
 ///
 /// That of the writer.
-fn write_packets<W: Write>(
-    request: DumpRequest,
-    packets: &[Vec<u8>],
-    out: &mut W,
-) -> io::Result<()>
+fn write_packets<W: Write>(request: DumpRequest, packets: &[Vec<u8>], out: &mut W) -> io::Result<()>
     ensures { OnOk result (WritesLines (TellsTold request)
         (flat_map packet_told (octets_of_each packets.now))
         (W.contents out.old) (W.contents out.new)) }
@@ -201,7 +198,7 @@ fn write_packet<W: Write>(request: DumpRequest, packet: &[u8], out: &mut W) -> i
     ensures { OnOk result (WritesLines (TellsTold request) (packet_told packet.now)
         (W.contents out.old) (W.contents out.new)) }
 {
-    write_packet_line(request, packet, out)?;
+    write_remark(request, packet_remark(packet), out)?;
     if carries_pdu(packet) {
         write_pdu(&packet[header::HEADER_LEN..], request.form, out)
     } else {
@@ -209,32 +206,31 @@ fn write_packet<W: Write>(request: DumpRequest, packet: &[u8], out: &mut W) -> i
     }
 }
 
-/// Writes the APID of a packet, its sequence count and its octets.
+/// What is said of a packet.
+fn packet_remark(packet: &[u8]) -> Remark
+    ensures { result ≡ told.packet_remark packet.now }
+{
+    if packet.len() < header::HEADER_LEN {
+        Remark::Packet(0, 0, packet.len())
+    } else {
+        Remark::Packet(get(packet, 5, 11), get(packet, 18, 14), packet.len())
+    }
+}
+
+/// Writes what is said beside what octets spell.
 ///
 /// # Errors
 ///
 /// That of the writer.
-fn write_packet_line<W: Write>(
-    request: DumpRequest,
-    packet: &[u8],
+pub(crate) fn write_remark<W: Write>(
+    _request: DumpRequest,
+    remark: Remark,
     out: &mut W,
 ) -> io::Result<()>
-    ensures { OnOk result (WritesLine (TellsTold request (AsPacket packet.now))
+    ensures { OnOk result (WritesLines (TellsTold _request) (Says remark ∷ [])
         (W.contents out.old) (W.contents out.new)) }
 {
-    let (apid, count) = fields_of(packet);
-    writeln!(out, "packet {apid} {count} {}", packet.len())
-}
-
-/// The APID of a packet, and its sequence count: 0 each of what has no whole header.
-fn fields_of(packet: &[u8]) -> (u64, u64)
-    ensures { (result.0, result.1) ≡ told.packet_fields packet.now }
-{
-    if packet.len() < header::HEADER_LEN {
-        (0, 0)
-    } else {
-        (get(packet, 5, 11), get(packet, 18, 14))
-    }
+    writeln!(out, "{remark}")
 }
 
 /// Whether a packet has a PDU: it is no segment, and has no secondary header.
