@@ -1,5 +1,5 @@
-"""Captures, pcap and pcapng, as other programs write them: made here by the documents of the formats
-alone, and read by `dump`."""
+"""Captures, pcap and pcapng, as other programs write them: made here by the documents of the
+formats alone, and read by `dump`."""
 import ipaddress
 import struct
 
@@ -23,7 +23,8 @@ def four(datagram, protocol=17, options=b"", flags=0, offset=0, total=None, word
     header = 20 + len(options)
     words = header // 4 if words is None else words
     total = header + len(datagram) if total is None else total
-    front = struct.pack(">BBHHHBBH", 0x40 | words, 0, total, 7, flags << 13 | offset, 64, protocol, 0)
+    parts = 0x40 | words, 0, total, 7, flags << 13 | offset, 64, protocol, 0
+    front = struct.pack(">BBHHHBBH", *parts)
     ends = ipaddress.ip_address("127.0.0.1").packed * 2
     return front + ends + options + datagram
 
@@ -127,7 +128,8 @@ def carrier_mistakes(program):
         packets = over(carrier)
         for order in "<>":
             for magic in (MICRO, NANO):
-                yield from differs(program, f"{what} {order}", pcap(packets, link, order, magic), LINES)
+                file = pcap(packets, link, order, magic)
+                yield from differs(program, f"{what} {order}", file, LINES)
             blocks = section(order) + interface(order, link)
             blocks += b"".join(enhanced(packet, order) for packet in packets)
             yield from differs(program, f"{what}, blocks {order}", blocks, LINES)
@@ -168,9 +170,11 @@ def passed_mistakes(program):
                        + enhanced(good) + enhanced(good, place=1),
                        ["error 26 OtherLink 146", "error 26 OtherLink 163"])
     whole = len(good)
-    for snap, line in ((whole, LINES[0]), (whole - 1, f"error 25 SnapLength {whole - 1} octets of {whole}")):
+    short = f"error 25 SnapLength {whole - 1} octets of {whole}"
+    for snap, line in ((whole, LINES[0]), (whole - 1, short)):
         yield from differs(program, f"snap {snap}", pcap([good], snap=snap), [line])
-        blocks = section() + interface(snap=snap) + enhanced(good, snap=snap) + simple(good, snap=snap)
+        blocks = section() + interface(snap=snap)
+        blocks += enhanced(good, snap=snap) + simple(good, snap=snap)
         yield from differs(program, f"snap {snap}, blocks", blocks, [line, line])
 
 
@@ -189,8 +193,8 @@ def block_mistakes(program):
 
 
 def fault_mistakes(program):
-    """What is wrong where a file can't be read to its end: what stands before is told, and the place
-    of the fault named."""
+    """What is wrong where a file can't be read to its end: what stands before is told, and the
+    place of the fault named."""
     good = ethernet(four(udp(EOF)))
     for order in "<>":
         file = pcap([good, good], order=order)
@@ -213,7 +217,7 @@ def fault_mistakes(program):
             not whole and starts[-1] >= len(front)))
         lines += [] if whole else [f"error 20 CutOff at octet {starts[-1]}"]
         yield from differs(program, f"blocks cut at {end}", file[:end], lines)
-    at = len(front)
+    at, first = len(front), len(section())
     turned = lambda text, place, octets: text[:place] + octets + text[place + len(octets):]
     cases = (
         ("version 2.3", pcap([good], version=(2, 3)), "23 BadVersion at octet 0"),
@@ -225,13 +229,15 @@ def fault_mistakes(program):
         ("two lengths", front + struct.pack("<II4xI", 9, 16, 20), f"21 BadLength at octet {at}"),
         ("a short section", block("<", 0x0A0D0D0A, struct.pack("<I8x", 0x1A2B3C4D)),
          "21 BadLength at octet 0"),
-        ("a short interface", section() + block("<", 1, bytes(4)), f"21 BadLength at octet {len(section())}"),
-        ("no interface", section() + enhanced(good), f"24 BadInterface at octet {len(section())}"),
-        ("no first interface", section() + simple(good), f"24 BadInterface at octet {len(section())}"),
+        ("a short interface", section() + block("<", 1, bytes(4)),
+         f"21 BadLength at octet {first}"),
+        ("no interface", section() + enhanced(good), f"24 BadInterface at octet {first}"),
+        ("no first interface", section() + simple(good), f"24 BadInterface at octet {first}"),
         ("interface 1", front + enhanced(good, place=1), f"24 BadInterface at octet {at}"),
         ("a short packet block", front + block("<", 6, bytes(16)), f"21 BadLength at octet {at}"),
         ("more captured than there is",
-         front + turned(enhanced(bytes(8)), 20, struct.pack("<I", 9)), f"21 BadLength at octet {at}"),
+         front + turned(enhanced(bytes(8)), 20, struct.pack("<I", 9)),
+         f"21 BadLength at octet {at}"),
         ("a simple one that is longer",
          front + turned(simple(bytes(8)), 8, struct.pack("<I", 9)), f"21 BadLength at octet {at}"),
     )
@@ -246,7 +252,8 @@ def own_mistakes(program):
     words = ["sim", "--pcap", "capture", "--trace"]
     status, _, err, left = program.run(words, script)
     words = [line.split(" ", 3) for line in err.splitlines()]
-    sent = [it[3] for it in words if it[2] == "sends" and not it[3].startswith(("dir frame", "data frame"))]
+    frames = ("dir frame", "data frame")
+    sent = [it[3] for it in words if it[2] == "sends" and not it[3].startswith(frames)]
     if status or "capture" not in left:
         yield f"status {status}, {err[:300]!r}"
         return

@@ -50,23 +50,24 @@ pub struct DumpRequest {
     pub deep: bool,
 }
 
-/// Reads a file to its end, and writes what it spells: a capture, where it begins as one, else lines
-/// of hexadecimal digits.
+/// Reads a file to its end, and writes what it spells: a capture, where it begins as one, else
+/// lines of hexadecimal digits.
 ///
 /// Of a line it writes one that says what it spells, or with fields a line for each and an empty
-/// one. Lines end with a line feed, which the
-/// last needs not and which may have a carriage return in front; an empty line is no octets. Spaces
-/// may stand anywhere between the digits, and `0x` behind a space or at the line's beginning.
+/// one. Lines end with a line feed, which the last needs not and which may have a carriage return
+/// in front; an empty line is no octets. Spaces may stand anywhere between the digits, and `0x`
+/// behind a space or at the line's beginning.
 ///
 /// Of a capture it does the same for the payload of each UDP datagram, or for what was captured
 /// as it is, and names what it can't read.
 ///
-/// Frames have the packet zone and the fields of `shape`, and are told whatever their spacecraft and
-/// channel. Of PDUs `shape` says nothing.
+/// Frames have the packet zone and the fields of `shape`, and are told whatever their spacecraft
+/// and channel. Of PDUs `shape` says nothing. Where `deep` is true, behind a frame stands what it
+/// carries, by the frames before it.
 ///
 /// The answer is `Complete` whatever the lines say, once all have left the buffer. It is `Device`
-/// where they couldn't be read, as `read_up_to` says of 64 MiB, where a line couldn't be written, or where
-/// there was no memory. Nothing is written unless all was read, and nothing is written twice.
+/// where they couldn't be read, as `read_up_to` says of 64 MiB, where a line couldn't be written,
+/// or where there was no memory. Nothing is written unless all was read, and nothing is written twice.
 pub fn run_dump<R: Read + Drop, W: Write + Drop>(
     alloc: Global,
     request: DumpRequest,

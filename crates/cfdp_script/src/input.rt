@@ -29,8 +29,8 @@ pub fn read_script<R: Read + Drop>(alloc: Global, reader: R) -> Result<Vec<u8>, 
     read_up_to(alloc, reader, MAX_SCRIPT)
 }
 
-/// All that the reader gives, to its end, where that is no more than so many octets. Where a read is
-/// interrupted, it is asked again.
+/// All that the reader gives, to its end, where that is no more than so many octets. Where a read
+/// is interrupted, it is asked again.
 ///
 /// # Errors
 ///
