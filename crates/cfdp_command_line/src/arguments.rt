@@ -183,7 +183,7 @@ With --deep lines behind that of a frame say what it carries:
   bad N                             so many packet headers of another version
   packet APID COUNT LENGTH          a packet ends in it; behind that its PDU
   unfollowed                        64 other channels are followed already
-Errors of any line: 0 Hex (no such digits).
+Errors of any line: 0 Hex (no such digits; then the column, or 'odd digits').
 Errors of PDUs: 1 Short, 2 Version, 3 BadCrc, 4 Length, 5 Unacknowledged,
 7 Directive, 8 Truncated, 9 Trailing, 10 Tlv, 11 Condition; 6 is no longer used.
 Errors of frames: 1 Length (mostly: another --zone, or other fields, are meant),

@@ -38,7 +38,7 @@ hex_octets line = result_ok (decode_of (digits_of (without_return line)))
 -- This is told of a line.
 abbrev pub TellsLine : DumpRequest → List Channel → List ℕ → List Told → List Channel → Type 0
 TellsLine request channels line tolds after =
-    MatchOption (hex_octets line) (TellsOne BadHex channels tolds after)
+    MatchOption (hex_octets line) (TellsOne (BadHex (without_return line)) channels tolds after)
     (λ octets. TellsUnit request channels octets tolds after)
 
 -- All of a capture was told: what it spells to its end, or to what can't be read.

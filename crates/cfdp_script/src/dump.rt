@@ -7,13 +7,17 @@ ghost use Rattle.hex.specs.Hex.{decode_of};
 ghost use Rattle.cfdp_report.specs.Dump.Shape.{IsShape};
 ghost use Rattle.cfdp_report.specs.Exit.{IsFlushedAt};
 ghost use Rattle.cfdp_script.specs.Dump.{EndsDump, TellsLine, WritesFile, WritesText, hex_octets};
+ghost use Rattle.cfdp_report.specs.Dump.Lines.{WritesLine};
+ghost use Rattle.cfdp_script.specs.Dump.Told.{BadHex, TellsTold};
 ghost use Rattle.cfdp_script.specs.Dump.Units.{WritesUnit};
 ghost use Rattle.cfdp_script.specs.Dump as dumps;
 
+mod bad_hex;
 mod capture;
 mod remark;
 mod unit;
 
+use crate::dump::bad_hex::BadPlace;
 use crate::dump::capture::write_capture;
 use crate::dump::unit::write_unit;
 use crate::input::{MAX_FILE, read_up_to, write_fault};
@@ -178,10 +182,23 @@ fn write_line<W: Write>(
     ensures { OnOk result (WritesUnit (TellsLine request channels.old line.now) request
         channels.new (W.contents out.old) (W.contents out.new)) }
 {
-    let Some(octets) = parse_hex_line(alloc, line)? else {
-        return writeln!(out, "{}{}", Refusal::Hex, request.form.end());
-    };
-    write_unit(request, octets.as_slice(), channels, out)
+    match parse_hex_line(alloc, line)? {
+        Some(octets) => write_unit(request, octets.as_slice(), channels, out),
+        None => write_bad_hex(request, without_return(line), out),
+    }
+}
+
+/// Writes that a line isn't pairs of hexadecimal digits, and where.
+///
+/// # Errors
+///
+/// That of the writer.
+fn write_bad_hex<W: Write>(request: DumpRequest, line: &[u8], out: &mut W) -> io::Result<()>
+    ensures { OnOk result (WritesLine (TellsTold request (BadHex line.now))
+        (W.contents out.old) (W.contents out.new)) }
+{
+    let place = BadPlace::of(line);
+    writeln!(out, "{}{place}{}", Refusal::Hex, request.form.end())
 }
 
 /// The octets that the line's hexadecimal digits spell, in either case, with spaces between words
