@@ -69,7 +69,9 @@ frames_app =
 
 -- and how they are told; and the file with them
 abbrev pub told_app : App
-told_app = with_rule (with_rule frames_app (flag_rule (codes "long"))) (flag_rule (codes "fields"))
+told_app =
+    with_rule (with_rule (with_rule frames_app (flag_rule (codes "long")))
+    (flag_rule (codes "fields"))) (flag_rule (codes "deep"))
 
 abbrev pub dump_app : App
 dump_app = with_rule told_app input_rule
@@ -113,9 +115,10 @@ IsCommand app c = (app_of c ≡ app) × HasNoGlobals c
 
 -- ---- what is asked for
 
--- How lines are to be told: their kind, what frames are made of, and in which form.
+-- How lines are to be told: their kind, what frames are made of, in which form, and whether with
+-- what frames carry.
 abbrev pub Lines : Type 0
-Lines = DumpKind × FrameShape × DumpForm
+Lines = DumpKind × FrameShape × DumpForm × Bool
 
 -- To run a script, and what is shown of it; to tell lines, and how; to send a file, and how; to run
 -- a station, and how; to send a command to the station at an address; or the version. A file that
@@ -166,7 +169,8 @@ shape_of rows = option_and_then
 
 abbrev pub lines_of : List Row → Option Lines
 lines_of rows = option_and_then (λ kind. option_map
-    (λ shape. (kind, shape, form_of (is_given (codes "fields") rows) (is_given (codes "long") rows)))
+    (λ shape. (kind, shape, form_of (is_given (codes "fields") rows) (is_given (codes "long") rows),
+    is_given (codes "deep") rows))
     (shape_of rows))
     (option_and_then kind_of_word (first_of (codes "kind") rows))
 
@@ -201,7 +205,7 @@ refusals words = or_else (fault_of program_app words)
 -- ---- what the program makes of it
 
 abbrev pub asked_lines : DumpRequest → Lines
-asked_lines request = (request.kind, request.shape, request.form)
+asked_lines request = (request.kind, request.shape, request.form, request.deep)
 
 abbrev pub asked : Request → Asked
 asked (Sim request) = sim (asked_shown request.shown)

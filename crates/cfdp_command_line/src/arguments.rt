@@ -146,7 +146,8 @@ Example:
 const DUMP_HELP: &str = "\
 Input, from FILE or standard input: a PDU or a frame a line, as pairs of
 hexadecimal digits of either case, with spaces between or not, and with 0x in
-front of a word or not; at most 1,048,576 octets in all.
+front of a word or not; or a capture, pcap or pcapng, in which each UDP datagram
+has one, or with link types 147 to 162 each packet; at most 67,108,864 octets.
 Output: a line for each; ID is the source and the number of the transaction.
   data ID OFFSET LENGTH
   metadata ID CHECKSUM-TYPE SIZE SRC DST
@@ -175,11 +176,21 @@ That of a PDU:
 With --fields there is a line for each field instead, NAME: VALUE (SECTION), and
 an empty line behind each PDU, frame or error. SECTION is one of CCSDS
 727.0-B-5, as CFDP 5.2.4, or of CCSDS 732.0-B-4, as AOS 4.1.2.3.
-Errors of any line: 0 Hex (no such digits).
+With --deep lines behind that of a frame say what it carries:
+  missing N                         so many frames of its channel before it
+  idle                              idle data only
+  cut                               a begun packet doesn't go on in it
+  bad N                             so many packet headers of another version
+  packet APID COUNT LENGTH          a packet ends in it; behind that its PDU
+  unfollowed                        64 other channels are followed already
+Errors of any line: 0 Hex (no such digits; then the column, or 'odd digits').
 Errors of PDUs: 1 Short, 2 Version, 3 BadCrc, 4 Length, 5 Unacknowledged,
 7 Directive, 8 Truncated, 9 Trailing, 10 Tlv, 11 Condition; 6 is no longer used.
 Errors of frames: 1 Length (mostly: another --zone, or other fields, are meant),
 12 Damaged (with --error-control), 2 Version, 3 OtherProfile, 6 OnlyIdle.
+Errors of captures: 20 CutOff, 21 BadLength, 22 BadOrder, 23 BadVersion,
+24 BadInterface; of packets in them: 25 SnapLength, 26 OtherLink, 27 NotIp,
+28 Fragment, 29 NotUdp, 30 Malformed.
 
 Exit status: 0 whatever the lines say, 2 bad arguments, 3 a failed read or
 write, or no memory (told on standard error).
@@ -432,7 +443,13 @@ fn lines_asked(arguments: &ArgMatches<'_>) -> Option<DumpRequest>
     let kind = dump_kind(word_of(arguments, "kind")?)?;
     let shape = frame_shape(arguments)?;
     let form = dump_form(is_given(arguments, "fields"), is_given(arguments, "long"));
-    Some(DumpRequest { kind, shape, form })
+    let deep = is_given(arguments, "deep");
+    Some(DumpRequest {
+        kind,
+        shape,
+        form,
+        deep,
+    })
 }
 
 /// What frames are made of, `None` where a number is out of its range.
@@ -633,6 +650,11 @@ fn told_command<'a>(alloc: Global) -> Result<Command<'a>, AllocError>
             alloc,
             "fields",
             "Tells each field in a line of its own, with its section of the standard",
+        ))?
+        .arg(flag(
+            alloc,
+            "deep",
+            "Tells also the packets in frames, and the PDUs in these",
         ))
 }
 

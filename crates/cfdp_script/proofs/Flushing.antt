@@ -1,8 +1,13 @@
 -- What holds of a run's end still holds once what waits in the buffer was written out.
-use Rattle.std.proofs.Common.{◌≡◌, ◌⊎◌, ℕ, false, List, Option, None, Some, IfSome, refl, subst, sym, ⊎_elim}
+use Rattle.std.proofs.Common.{◌≡◌, ◌⊎◌, ℕ, false, List, Option, None, Some, IfSome, MatchOption, refl, subst, sym, ⊎_elim}
 use Rattle.std.specs.Io.KnownBytes.{Keeps}
 use Rattle.std.proofs.KnownBytes.{Appends-kept, Keeps-trans}
-use Rattle.cfdp_script.specs.Dump.{EndsDump, TellsLine, lines}
+use Rattle.captures.specs.Captures.{start_of}
+use Rattle.captures.specs.Packets.{CaptureState}
+use Rattle.vc_packets.specs.declared.channel.Channel.{Channel}
+use Rattle.cfdp_script.specs.Dump.{EndsDump, WritesCapture, WritesFile, WritesText}
+use Rattle.cfdp_script.specs.Dump.Told.{TellsTold, Told}
+use Rattle.cfdp_script.specs.Dump.Units.{WritesRun}
 use Rattle.cfdp_script.specs.Script.Report.{puts_asked, report_text}
 use Rattle.cfdp_script.specs.Script.Lines.{steps_of}
 use Rattle.cfdp_script.specs.Script.Simulated.{EndsScript, IsSilentAt, RunsToEnd}
@@ -67,9 +72,32 @@ module _ (old mid new : Option (List ℕ)) (kept : Keeps mid new) where
   silent_kept (Device (Unreadable kind)) silent = Keeps-trans old mid new silent kept
   silent_kept (Device TooLong) silent = Keeps-trans old mid new silent kept
 
+  run_kept : {A : Type 0} (P : List Channel → A → List Told → List Channel → Type 0) (request : DumpRequest) (units : List A) (after : List Channel)
+      → WritesRun P request units after old mid → WritesRun P request units after old new
+  run_kept P request units after all = record {
+    tolds = all.tolds;
+    told = all.told;
+    written = lines_kept (TellsTold request) all.tolds old mid new all.written kept;
+  }
+
+  file_kept_as : (request : DumpRequest) (file : List ℕ) (start : Option CaptureState)
+      → MatchOption start (WritesText request file old mid) (λ st. WritesCapture request st file old mid)
+      → MatchOption start (WritesText request file old new) (λ st. WritesCapture request st file old new)
+  file_kept_as request file None all = record { after = all.after; written = run_kept _ request _ all.after all.written }
+  file_kept_as request file (Some st) all = record {
+    items = all.items;
+    last = all.last;
+    spelled = all.spelled;
+    after = all.after;
+    written = run_kept _ request all.items all.after all.written;
+  }
+
+  file_kept : (request : DumpRequest) (file : List ℕ) → WritesFile request file old mid → WritesFile request file old new
+  file_kept request file all = file_kept_as request file (start_of file) all
+
   dump_kept : (request : DumpRequest) (left : Option (List ℕ)) (exit : Exit) → EndsDump request left old mid exit → EndsDump request left old new exit
   dump_kept request None Complete ends = ends
-  dump_kept request (Some text) Complete ends = (ends.0, lines_kept (TellsLine request) (lines text) old mid new ends.1 kept)
+  dump_kept request (Some text) Complete ends = (ends.0, file_kept request text ends.1)
   dump_kept request left Incomplete ends = absurd ends
   dump_kept request left (BadScript bad) ends = absurd ends
   dump_kept request left (Device NoMemory) ends = ends

@@ -8,3 +8,4 @@ pub mod Parts
 pub mod Gathers
 pub mod ScriptRows
 pub mod Flushing
+pub mod Runs

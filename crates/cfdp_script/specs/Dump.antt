@@ -1,31 +1,26 @@
 -- What the program's `dump` prints.
+pub mod Told
+pub mod Units
 use Rattle.std.specs.List.{flat_map}
 use Rattle.std.specs.Prelude.{◌≡◌, ℕ, ◌<◌, ◌≤◌, ◌==◌, ◌&&◌, nat_le, slice_index, drop, List, [], ◌∷◌, ◌++◌, length, if◌then◌else◌, Option, IfSome, MatchOption}
 use Rattle.std.specs.Result.{result_ok}
 use Rattle.std.specs.Io.KnownBytes.{Keeps}
 use Rattle.hex.specs.Hex.{decode_of}
-use Rattle.cfdp_report.specs.Dump.Lines.{WritesLines}
-use Rattle.cfdp_report.specs.Dump.Told.{TellsAsFrame, TellsAsPdu, end_of}
-use Rattle.cfdp_report.specs.declared.dump.form.DumpForm.{DumpForm}
-use Rattle.cfdp_report.specs.declared.dump.shape.FrameShape.{FrameShape}
-use Rattle.cfdp_report.specs.Dump.Refusal.{refusal_text}
-use Rattle.cfdp_report.specs.declared.dump.refusal.Refusal.TheVariants.{Hex}
+use Rattle.captures.specs.Captures.{SpellsTo, start_of}
+use Rattle.captures.specs.Packets.{CaptureState, ItemText}
+use Rattle.vc_packets.specs.declared.channel.Channel.{Channel}
 use Rattle.cfdp_report.specs.declared.exit.Exit.{Exit}
 use Rattle.cfdp_report.specs.declared.exit.Exit.TheVariants.{Complete, Device}
 use Rattle.cfdp_report.specs.declared.exit.Fault.TheVariants.{NoMemory, TooLong, Unwritable}
 use Rattle.cfdp_script.specs.declared.dump.DumpRequest.{DumpRequest}
-use Rattle.cfdp_script.specs.declared.dump.DumpKind.{DumpKind}
-use Rattle.cfdp_script.specs.declared.dump.DumpKind.TheVariants.{Pdus, Frames}
+use Rattle.cfdp_script.specs.Dump.Told.{BadHex, Told}
+use Rattle.cfdp_script.specs.Dump.Units.{TellsItem, TellsOne, TellsUnit, WritesRun}
 use Rattle.cfdp_script.specs.Script.Words.{onto_first, parts, without_return}
 
 -- the lines of a text: each ends with a line feed, which the last needs not
 unfoldable pub lines : List ℕ → List (List ℕ)
 lines [] = []
 lines (octet ∷ rest) = if octet == 10 then [] ∷ lines rest else onto_first octet (lines rest)
-
-abbrev pub TellsAs : DumpKind → DumpForm → FrameShape → List ℕ → List ℕ → Type 0
-TellsAs Pdus form shape = TellsAsPdu form
-TellsAs Frames form shape = TellsAsFrame form shape
 
 -- a word without `0x` in front
 abbrev pub bare : List ℕ → List ℕ
@@ -40,26 +35,47 @@ digits_of line = flat_map bare (parts 32 line)
 abbrev pub hex_octets : List ℕ → Option (List ℕ)
 hex_octets line = result_ok (decode_of (digits_of (without_return line)))
 
--- This text is written for this line.
-abbrev pub TellsLine : DumpRequest → List ℕ → List ℕ → Type 0
-TellsLine request line text =
-    MatchOption (hex_octets line) (text ≡ refusal_text Hex ++ end_of request.form)
-    (λ octets. TellsAs request.kind request.form request.shape octets text)
+-- This is told of a line.
+abbrev pub TellsLine : DumpRequest → List Channel → List ℕ → List Told → List Channel → Type 0
+TellsLine request channels line tolds after =
+    MatchOption (hex_octets line) (TellsOne (BadHex (without_return line)) channels tolds after)
+    (λ octets. TellsUnit request channels octets tolds after)
 
--- A text isn't too long to be read, where it is known.
+-- All of a capture was told: what it spells to its end, or to what can't be read.
+pub record WritesCapture (request : DumpRequest) (start : CaptureState) (file : List ℕ)
+    (old new : Option (List ℕ)) : Type 0 where
+  pub items : List ItemText
+  pub last : CaptureState
+  pub spelled : SpellsTo start items file last []
+  pub after : List Channel
+  pub written : WritesRun (TellsItem (length file) request) request items after old new
+
+-- All of the lines of a text were told.
+pub record WritesText (request : DumpRequest) (text : List ℕ) (old new : Option (List ℕ))
+    : Type 0 where
+  pub after : List Channel
+  pub written : WritesRun (TellsLine request) request (lines text) after old new
+
+-- A file is read as a capture where it begins as one, else as lines.
+abbrev pub WritesFile : DumpRequest → (file : List ℕ) → (old new : Option (List ℕ)) → Type 0
+WritesFile request file old new =
+    MatchOption (start_of file) (WritesText request file old new)
+    (λ start. WritesCapture request start file old new)
+
+-- A file isn't too long to be read, where it is known.
 abbrev pub IsShort : Option (List ℕ) → Type 0
-IsShort left = IfSome left (λ text. length text ≤ 1048576)
+IsShort left = IfSome left (λ file. length file ≤ 67108864)
 
 -- How a dump ends, by what the reader has left and what the writer holds before and after. Complete
--- says that each line was told. Where the lines couldn't be read, or are too many, nothing is
+-- says that all was told. Where the lines couldn't be read, or are too many, nothing is
 -- written. Where a line couldn't be written, or there was no memory for it, all had been read; of
 -- what was written nothing is said, as no writer says what it took of a text before it failed.
 abbrev pub EndsDump : DumpRequest → (left old new : Option (List ℕ)) → Exit → Type 0
 EndsDump request left old new Complete = IsShort left
-    × IfSome left (λ text. WritesLines (TellsLine request) (lines text) old new)
+    × IfSome left (λ file. WritesFile request file old new)
 EndsDump request left old new (Device Unwritable) = IsShort left
 EndsDump request left old new (Device NoMemory) = IsShort left
-EndsDump request left old new (Device TooLong) = IfSome left (λ text. 1048576 < length text)
+EndsDump request left old new (Device TooLong) = IfSome left (λ file. 67108864 < length file)
     × Keeps old new
 EndsDump request left old new (Device fault) = Keeps old new
 EndsDump request left old new _ = ⊥

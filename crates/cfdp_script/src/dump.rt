@@ -1,23 +1,35 @@
-//! Dumps: what lines of hexadecimal digits spell.
+//! Dumps: what lines of hexadecimal digits spell, or what the packets of a capture carry.
 ghost use Rattle.std.specs.Prelude.{◌≡◌, ◌<◌, ◌∷◌, length, IfOk, OnOk};
 ghost use Rattle.std.specs.Io.Buffered.{writer_buffer, writer_contents};
 ghost use Rattle.std.specs.Option.{option_map};
 ghost use Rattle.std.specs.Result.{result_ok};
 ghost use Rattle.hex.specs.Hex.{decode_of};
-ghost use Rattle.cfdp_report.specs.Dump.Lines.{WritesLine, WritesLines};
 ghost use Rattle.cfdp_report.specs.Dump.Shape.{IsShape};
 ghost use Rattle.cfdp_report.specs.Exit.{IsFlushedAt};
-ghost use Rattle.cfdp_script.specs.Dump.{EndsDump, hex_octets, TellsLine};
+ghost use Rattle.cfdp_script.specs.Dump.{EndsDump, TellsLine, WritesFile, WritesText, hex_octets};
+ghost use Rattle.cfdp_report.specs.Dump.Lines.{WritesLine};
+ghost use Rattle.cfdp_script.specs.Dump.Told.{BadHex, TellsTold};
+ghost use Rattle.cfdp_script.specs.Dump.Units.{WritesUnit};
 ghost use Rattle.cfdp_script.specs.Dump as dumps;
 
-use crate::input::{read_script, write_fault};
+mod bad_hex;
+mod capture;
+mod remark;
+mod unit;
+
+use crate::dump::bad_hex::BadPlace;
+use crate::dump::capture::write_capture;
+use crate::dump::unit::write_unit;
+use crate::input::{MAX_FILE, read_up_to, write_fault};
 use crate::script::without_return;
 use crate::script::words::cut_at_first;
-use cfdp_report::{DumpForm, Exit, FrameShape, Refusal, write_frame, write_pdu};
+use captures::Capture;
+use cfdp_report::{DumpForm, Exit, FrameShape, Refusal};
 use hex::FromHexError;
 use std::alloc::{AllocError, Global};
 use std::io;
 use std::io::{BufWriter, Read, Write};
+use vc_packets::Channels;
 
 /// What the lines of a dump are to spell.
 #[derive(Clone, Copy)]
@@ -38,19 +50,28 @@ pub struct DumpRequest {
     pub shape: FrameShape,
     /// How they are told.
     pub form: DumpForm,
+    /// Whether what frames carry is told, too: their packets, and the PDUs in these.
+    pub deep: bool,
 }
 
-/// Reads lines of hexadecimal digits to their end, and writes for each a line that says what it
-/// spells, or with fields a line for each and an empty one. Lines end with a line feed, which the
-/// last needs not and which may have a carriage return in front; an empty line is no octets. Spaces
-/// may stand anywhere between the digits, and `0x` behind a space or at the line's beginning.
+/// Reads a file to its end, and writes what it spells: a capture, where it begins as one, else
+/// lines of hexadecimal digits.
 ///
-/// Frames have the packet zone and the fields of `shape`, and are told whatever their spacecraft and
-/// channel. Of PDUs `shape` says nothing.
+/// Of a line it writes one that says what it spells, or with fields a line for each and an empty
+/// one. Lines end with a line feed, which the last needs not and which may have a carriage return
+/// in front; an empty line is no octets. Spaces may stand anywhere between the digits, and `0x`
+/// behind a space or at the line's beginning.
+///
+/// Of a capture it does the same for the payload of each UDP datagram, or for what was captured
+/// as it is, and names what it can't read.
+///
+/// Frames have the packet zone and the fields of `shape`, and are told whatever their spacecraft
+/// and channel. Of PDUs `shape` says nothing. Where `deep` is true, behind a frame stands what it
+/// carries, by the frames before it.
 ///
 /// The answer is `Complete` whatever the lines say, once all have left the buffer. It is `Device`
-/// where they couldn't be read, as `read_script` says, where a line couldn't be written, or where
-/// there was no memory. Nothing is written unless all was read, and nothing is written twice.
+/// where they couldn't be read, as `read_up_to` says of 64 MiB, where a line couldn't be written,
+/// or where there was no memory. Nothing is written unless all was read, and nothing is written twice.
 pub fn run_dump<R: Read + Drop, W: Write + Drop>(
     alloc: Global,
     request: DumpRequest,
@@ -76,17 +97,17 @@ pub fn dump_lines<R: Read + Drop, W: Write>(
     ensures { EndsDump request (R.remaining reader) (W.contents out.old) (W.contents out.new)
         result }
 {
-    let text = match read_script(alloc, reader) {
-        Ok(text) => text,
+    let file = match read_up_to(alloc, reader, MAX_FILE) {
+        Ok(file) => file,
         Err(fault) => return Exit::Device(fault),
     };
-    match write_dump(alloc, request, text.as_slice(), out) {
+    match write_dump(alloc, request, file.as_slice(), out) {
         Ok(()) => Exit::Complete,
         Err(error) => Exit::Device(write_fault(&error)),
     }
 }
 
-/// Writes a line for each line of the text.
+/// Writes what a file spells: a capture, where it begins as one, else lines.
 ///
 /// # Errors
 ///
@@ -94,16 +115,39 @@ pub fn dump_lines<R: Read + Drop, W: Write>(
 fn write_dump<W: Write>(
     alloc: Global,
     request: DumpRequest,
+    file: &[u8],
+    out: &mut W,
+) -> io::Result<()>
+    requires { IsShape request.shape }
+    ensures { OnOk result (WritesFile request file.now
+        (W.contents out.old) (W.contents out.new)) }
+{
+    match Capture::of(alloc, file) {
+        Some(mut capture) => write_capture(alloc, request, &mut capture, file, out),
+        None => write_lines(alloc, request, file, out),
+    }
+}
+
+/// Writes what each line of a text spells.
+///
+/// # Errors
+///
+/// That of the writer, or `OutOfMemory`.
+fn write_lines<W: Write>(
+    alloc: Global,
+    request: DumpRequest,
     text: &[u8],
     out: &mut W,
 ) -> io::Result<()>
-    ensures { OnOk result (WritesLines (TellsLine request) (dumps.lines text.now)
+    requires { IsShape request.shape }
+    ensures { OnOk result (WritesText request text.now
         (W.contents out.old) (W.contents out.new)) }
 {
+    let mut channels = Channels::new(alloc);
     let mut rest = text;
     while !rest.is_empty() {
         let (line, behind) = cut_line(rest);
-        write_line(alloc, request, line, out)?;
+        write_line(alloc, request, line, &mut channels, out)?;
         rest = behind;
     }
     Ok(())
@@ -131,18 +175,30 @@ fn write_line<W: Write>(
     alloc: Global,
     request: DumpRequest,
     line: &[u8],
+    channels: &mut Channels,
     out: &mut W,
 ) -> io::Result<()>
-    ensures { OnOk result (WritesLine (TellsLine request line.now)
+    requires { IsShape request.shape }
+    ensures { OnOk result (WritesUnit (TellsLine request channels.old line.now) request
+        channels.new (W.contents out.old) (W.contents out.new)) }
+{
+    match parse_hex_line(alloc, line)? {
+        Some(octets) => write_unit(request, octets.as_slice(), channels, out),
+        None => write_bad_hex(request, without_return(line), out),
+    }
+}
+
+/// Writes that a line isn't pairs of hexadecimal digits, and where.
+///
+/// # Errors
+///
+/// That of the writer.
+fn write_bad_hex<W: Write>(request: DumpRequest, line: &[u8], out: &mut W) -> io::Result<()>
+    ensures { OnOk result (WritesLine (TellsTold request (BadHex line.now))
         (W.contents out.old) (W.contents out.new)) }
 {
-    let Some(octets) = parse_hex_line(alloc, line)? else {
-        return writeln!(out, "{}{}", Refusal::Hex, request.form.end());
-    };
-    match request.kind {
-        DumpKind::Pdus => write_pdu(octets.as_slice(), request.form, out),
-        DumpKind::Frames => write_frame(octets.as_slice(), request.shape, request.form, out),
-    }
+    let place = BadPlace::of(line);
+    writeln!(out, "{}{place}{}", Refusal::Hex, request.form.end())
 }
 
 /// The octets that the line's hexadecimal digits spell, in either case, with spaces between words

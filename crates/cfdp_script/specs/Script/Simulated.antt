@@ -79,12 +79,16 @@ EndsFrom exit config files steps old new =
 -- Reading ended with this fault, where a reader had this left: a read failed, there was no memory,
 -- or
 -- there was too much of it.
+abbrev pub EndsReadingUpTo : (most : ℕ) → Fault → Option (List ℕ) → Type 0
+EndsReadingUpTo most (Unreadable kind) left = ⊤
+EndsReadingUpTo most NoMemoryAtStart left = ⊤
+EndsReadingUpTo most TooLong left = IfSome left (λ text. most < length text)
+EndsReadingUpTo most NoMemory left = ⊥
+EndsReadingUpTo most Unwritable left = ⊥
+
+-- the same of a script
 abbrev pub EndsReading : Fault → Option (List ℕ) → Type 0
-EndsReading (Unreadable kind) left = ⊤
-EndsReading NoMemoryAtStart left = ⊤
-EndsReading TooLong left = IfSome left IsTooLong
-EndsReading NoMemory left = ⊥
-EndsReading Unwritable left = ⊥
+EndsReading fault left = EndsReadingUpTo 1048576 fault left
 
 -- Where the script is bad or couldn't be read, or there was no memory at the start, nothing is
 -- written.

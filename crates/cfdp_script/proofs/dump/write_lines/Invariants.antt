@@ -1,12 +1,11 @@
 use Rattle.std.proofs.Common.{length}
-use Rattle.cfdp_script.proofs.DumpedLines.{WritesFront}
-use Rattle.cfdp_script.specs.Dump.{TellsLine}
-use Rattle.cfdp_script.proofs.dump.write_dump.Given as goal
+use Rattle.cfdp_script.proofs.Runs.{LinesFront}
+use Rattle.cfdp_script.proofs.dump.write_lines.Given as goal
 
 -- the lines in front of what is left are told
 abbrev pub invariant-loop-rest : goal.invariant-loop-rest
 invariant-loop-rest g l =
-    WritesFront (TellsLine l.request) l.text l.rest (g.W.Write.contents l.initial.out) (g.W.Write.contents l.out)
+    LinesFront l.request l.text l.rest l.channels (g.W.Write.contents l.initial.out) (g.W.Write.contents l.out)
 
 -- what is left gets shorter
 abbrev pub decreases-loop-rest : goal.decreases-loop-rest

@@ -1,0 +1,21 @@
+//! What a capture has of a packet.
+
+/// An interface on which packets were captured.
+#[derive(Clone, Copy, Debug, PartialEq, Eq)]
+pub struct Interface {
+    /// The link type: which headers stand in front of a packet.
+    pub link_type: u16,
+    /// The most octets of a packet that were captured; 0 where there was no such limit.
+    pub snap_len: u32,
+}
+
+/// A packet that was captured.
+#[derive(Clone, Copy, Debug)]
+pub struct Packet<'a> {
+    /// The link type of its interface.
+    pub link_type: u16,
+    /// How many octets it had on the wire.
+    pub original: u32,
+    /// Those that were captured.
+    pub octets: &'a [u8],
+}

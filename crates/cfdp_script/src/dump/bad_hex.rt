@@ -1,0 +1,56 @@
+//! What is wrong with a line that isn't pairs of hexadecimal digits.
+ghost use Rattle.std.specs.Prelude.{◌≡◌, ◌<◌, length, Some};
+ghost use Rattle.cfdp_script.specs.Dump.Told as told;
+ghost use Rattle.cfdp_script.specs.Dump.Told.{IsSaidOf, place_text};
+
+use std::fmt;
+
+/// The place of the first octet of a line that may not stand there, if there is one; else the digits
+/// are odd in number.
+#[derive(Clone, Copy)]
+pub(crate) struct BadPlace(Option<usize>);
+
+impl fmt::Display for BadPlace {
+    ghost output = { λ place. Some (place_text place.0) };
+
+    fn fmt<W: fmt::Write>(&self, f: &mut fmt::Formatter<W>) -> fmt::Result {
+        match self.0 {
+            Some(place) => write!(f, " column {}", place.saturating_add(1)),
+            None => f.write_str(" odd digits"),
+        }
+    }
+}
+
+impl BadPlace {
+    /// That of a line.
+    pub(crate) fn of(line: &[u8]) -> BadPlace
+        ensures { IsSaidOf line.now result.0 }
+    {
+        for place in 0..line.len() {
+            if !may_stand(line, place) {
+                return BadPlace(Some(place));
+            }
+        }
+        BadPlace(None)
+    }
+}
+
+/// Whether the octet at a place of a line may stand there.
+fn may_stand(line: &[u8], place: usize) -> bool
+    requires { place < length line.now }
+    ensures { result ≡ told.may_stand line.now place }
+{
+    match line[place] {
+        b'0'..=b'9' | b'A'..=b'F' | b'a'..=b'f' | b' ' => true,
+        b'x' => place >= 1 && line[place - 1] == b'0' && begins_word(line, place - 1),
+        _ => false,
+    }
+}
+
+/// Whether a word begins at a place of a line.
+fn begins_word(line: &[u8], place: usize) -> bool
+    requires { place < length line.now }
+    ensures { result ≡ told.begins_word line.now place }
+{
+    place == 0 || line[place - 1] == b' '
+}

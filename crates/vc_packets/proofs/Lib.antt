@@ -1,0 +1,2 @@
+mod Missing
+mod Places

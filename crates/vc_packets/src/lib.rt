@@ -1,0 +1,25 @@
+//! The packets in the frames of any virtual channels, whatever spacecraft they are of: for whoever
+//! reads frames as they passed, without a link of which they are.
+//!
+//! [`Channels`] takes the frames one after the other, and answers of each what it carries: how many
+//! frames of its channel are missing before it, what is out of order in its packet zone, and the
+//! packets that end in it.
+//!
+//! ```
+//! let mut channels = Channels::new(alloc);
+//! for frame in frames {
+//!     let (header, mpdu) = decode(frame, &config)?;
+//!     if let Some(carried) = channels.take(header, mpdu)? {
+//!         println!(rt; "{} packets", carried.packets.len())?;
+//!     }
+//! }
+//! ```
+//!
+//! Tested by `tests/rows/dumps.rows`, through the program.
+#![tactic(auto)]
+
+mod channel;
+mod channels;
+
+pub use channel::Carried;
+pub use channels::{Channels, MOST_CHANNELS};
