@@ -10,5 +10,6 @@ mod Numbers
 mod Coming
 mod Happening
 mod Leading
+mod Onward
 mod Sources
 mod Beginning
