@@ -1,5 +1,2 @@
-pub mod Request
-pub mod Shown
 pub mod Wire
 pub mod Looping
-pub mod Station

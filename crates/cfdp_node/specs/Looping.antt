@@ -1,3 +1,2 @@
 -- A file that goes between two stations in turns.
 pub mod Turns
-pub mod Request

@@ -11,7 +11,6 @@ ghost use Rattle.cfdp_report.specs.Report.Lines.{count_line};
 ghost use Rattle.cfdp_port.specs.Pair.{pair};
 
 pub mod folders;
-pub mod request;
 pub mod telling;
 
 use crate::dropping::let_go;

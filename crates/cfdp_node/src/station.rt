@@ -7,8 +7,6 @@ pub mod exchange;
 pub mod notices;
 pub mod operation;
 pub mod operator;
-pub mod request;
-pub mod settings_file;
 pub mod setup;
 pub mod state_file;
 
@@ -19,10 +17,10 @@ use crate::station::beacon::Beacon;
 use crate::station::console_door::door;
 use crate::station::exchange::Exchange;
 use crate::station::operation::{Context, StationParts, StationSpool, ran};
-use crate::station::request::{CarrierKind, StationNumbers, StationRequest, TimeUnit};
 use crate::station::setup::{StationSetup, key_hint};
 use crate::station::state_file::{Reservation, StateError};
 use crate::wire::peer_socket::{Pace, PeerSocket, Unit, Unusable};
+use cfdp_command_line::{CarrierKind, StationNumbers, StationRequest, TimeUnit};
 use cfdp_host::carrier::Carrier;
 use cfdp_host::{
     FolderSpool, HeldFolder, LineSources, StandardErrorTeller, address_cause, try_folder,

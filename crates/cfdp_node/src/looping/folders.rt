@@ -1,8 +1,8 @@
 //! A file sent from one folder into another, by two stations over two sockets of this machine.
-use crate::looping::request::LoopRequest;
 use crate::looping::telling::{LoopLookout, TellingInbox, TellingOutbox};
 use crate::looping::{LoopEnds, LoopOptions, loop_config, run_loop};
 use crate::wire::udp::UdpWire;
+use cfdp_command_line::LoopRequest;
 use cfdp_host::{HeldFolder, fault_text};
 use cfdp_port::{Lookout, LossyWire, Wire};
 use cfdp_report::{

@@ -1,5 +1,5 @@
 //! The console's address, and the token that it wants.
-use crate::station::request::StationRequest;
+use cfdp_command_line::StationRequest;
 use cfdp_host::{DoorError, WebDoor};
 use cfdp_report::cause_text;
 use std::fs;

@@ -4,9 +4,9 @@ use crate::looping::telling::{LoopLookout, TellingInbox, TellingNoInbox, Telling
 use crate::station::exchange::Exchange;
 use crate::station::notices::Notices;
 use crate::station::operator::{OperatorConsole, OperatorPost};
-use crate::station::request::{CarrierKind, StationRequest};
 use crate::station::{outbox_of, side_of};
 use crate::wire::peer_socket::PeerSocket;
+use cfdp_command_line::{CarrierKind, StationRequest};
 use cfdp_console::LogLines;
 use cfdp_host::carrier::{Carrier, CarrierWire};
 use cfdp_host::{

@@ -1,7 +1,7 @@
 //! What the words behind `--set` set.
 ghost use Rattle.std.specs.Prelude.{IfSome};
 
-use crate::station::request::CarrierKind;
+use cfdp_command_line::CarrierKind;
 use cfdp_host::carrier::{Carrier, PacketForm};
 use cfdp_report::{Keys, Nearest, Setting, Settings, consider_keys, parse_setting};
 use cfdp_station::LinkConfig;

@@ -1,0 +1,289 @@
+-- What command lines ask for, worked out: rows of the definitions in specs/Request.
+use Rattle.std.proofs.Common.{◌≡◌, ℕ, true, false, List, [], ◌∷◌, codes, None, Some, refl}
+use Rattle.clap.specs.Walk.{Text}
+use Rattle.clap.specs.declared.error.kind.ErrorKind.TheVariants.{DisplayHelp, DisplayHelpOnMissingArgumentOrSubcommand, InvalidValue, MissingRequiredArgument, UnknownArgument, ValueValidation}
+use Rattle.clap.proofs.OnLiterals.{clap_on_literals}
+use Rattle.cfdp_command_line.specs.Request.{ask, asked_of, dump, loop, play, refusals, sim, station, version}
+use Rattle.cfdp_command_line.specs.Shown.{ShownAsked}
+use Rattle.cfdp_command_line.specs.Station.{StationAsked}
+use Rattle.cfdp_command_line.specs.declared.station.CarrierKind.TheVariants.{Frames as FramesCarried, Packets, Pdus as PdusCarried}
+use Rattle.cfdp_command_line.specs.declared.station.StationFlags.{StationFlags}
+use Rattle.cfdp_command_line.specs.declared.station.StationLimits.{StationLimits}
+use Rattle.cfdp_command_line.specs.declared.station.TimeUnit.TheVariants.{Milliseconds, Seconds}
+use Rattle.frame_fields.specs.Fields.{no_fields}
+use Rattle.cfdp_report.specs.declared.dump.form.DumpForm.TheVariants.{Short, Long, Fields}
+use Rattle.cfdp_report.specs.declared.dump.shape.FrameShape.{FrameShape}
+use Rattle.cfdp_script.specs.declared.dump.DumpKind.TheVariants.{Pdus, Frames}
+
+-- words behind the program's name
+abbrev line : List Text → List Text
+line words = codes "cfdp_node" ∷ words
+
+-- what is shown without any option
+abbrev nothing : ShownAsked
+nothing = record { explain = false; trace = false; pcap = None; chart = None }
+
+-- ---- sim
+
+plain_sim : (refusals (line (codes "sim" ∷ [])) ≡ []) × (asked_of (line (codes "sim" ∷ [])) ≡ Some (sim nothing None))
+unfolding clap_on_literals
+plain_sim = (refl, refl)
+
+explained : (refusals (line (codes "sim" ∷ codes "--explain" ∷ [])) ≡ [])
+    × (asked_of (line (codes "sim" ∷ codes "--explain" ∷ [])) ≡ Some (sim (record nothing { explain = true }) None))
+unfolding clap_on_literals
+explained = (refl, refl)
+
+traced : (refusals (line (codes "sim" ∷ codes "--pcap" ∷ codes "a" ∷ codes "--trace" ∷ [])) ≡ [])
+    × (asked_of (line (codes "sim" ∷ codes "--pcap" ∷ codes "a" ∷ codes "--trace" ∷ [])) ≡ Some (sim (record nothing { trace = true; pcap = Some (codes "a") }) None))
+unfolding clap_on_literals
+traced = (refl, refl)
+
+drawn_of_file : (refusals (line (codes "sim" ∷ codes "a" ∷ codes "--chart" ∷ codes "b" ∷ [])) ≡ [])
+    × (asked_of (line (codes "sim" ∷ codes "a" ∷ codes "--chart" ∷ codes "b" ∷ [])) ≡ Some (sim (record nothing { chart = Some (codes "b") }) (Some (codes "a"))))
+unfolding clap_on_literals
+drawn_of_file = (refl, refl)
+
+-- ---- dump
+
+-- frames with packet zones of so many octets and no fields beside the M_PDU
+abbrev bare : ℕ → FrameShape
+bare zone = record { zone = zone; fields = no_fields }
+
+plain_pdus : (refusals (line (codes "dump" ∷ codes "pdus" ∷ [])) ≡ []) × (asked_of (line (codes "dump" ∷ codes "pdus" ∷ [])) ≡ Some (dump (Pdus, bare 256, Short) None))
+unfolding clap_on_literals
+plain_pdus = (refl, refl)
+
+plain_frames : (refusals (line (codes "dump" ∷ codes "frames" ∷ [])) ≡ [])
+    × (asked_of (line (codes "dump" ∷ codes "frames" ∷ [])) ≡ Some (dump (Frames, bare 256, Short) None))
+unfolding clap_on_literals
+plain_frames = (refl, refl)
+
+zoned_frames : (refusals (line (codes "dump" ∷ codes "frames" ∷ codes "--zone" ∷ codes "300" ∷ [])) ≡ [])
+    × (asked_of (line (codes "dump" ∷ codes "frames" ∷ codes "--zone" ∷ codes "300" ∷ [])) ≡ Some (dump (Frames, bare 300, Short) None))
+unfolding clap_on_literals
+zoned_frames = (refl, refl)
+
+filled_frames : (refusals (line (codes "dump" ∷ codes "frames" ∷ codes "--error-control" ∷ codes "--insert-zone" ∷ codes "8" ∷ [])) ≡ [])
+    × (asked_of (line (codes "dump" ∷ codes "frames" ∷ codes "--error-control" ∷ codes "--insert-zone" ∷ codes "8" ∷ []))
+    ≡ Some (dump (Frames, record { zone = 256; fields = record { insert_zone = 8; control_field = false; error_control = true } }, Short) None))
+unfolding clap_on_literals
+filled_frames = (refl, refl)
+
+long_pdus : (refusals (line (codes "dump" ∷ codes "--long" ∷ codes "pdus" ∷ [])) ≡ [])
+    × (asked_of (line (codes "dump" ∷ codes "--long" ∷ codes "pdus" ∷ [])) ≡ Some (dump (Pdus, bare 256, Long) None))
+unfolding clap_on_literals
+long_pdus = (refl, refl)
+
+fields_of_frames : (refusals (line (codes "dump" ∷ codes "--fields" ∷ codes "frames" ∷ codes "--long" ∷ [])) ≡ [])
+    × (asked_of (line (codes "dump" ∷ codes "--fields" ∷ codes "frames" ∷ codes "--long" ∷ [])) ≡ Some (dump (Frames, bare 256, Fields) None))
+unfolding clap_on_literals
+fields_of_frames = (refl, refl)
+
+pdus_of_file : (refusals (line (codes "dump" ∷ codes "pdus" ∷ codes "a" ∷ [])) ≡ [])
+    × (asked_of (line (codes "dump" ∷ codes "pdus" ∷ codes "a" ∷ [])) ≡ Some (dump (Pdus, bare 256, Short) (Some (codes "a"))))
+unfolding clap_on_literals
+pdus_of_file = (refl, refl)
+
+-- ---- loop
+
+plain_loop : (refusals (line (codes "loop" ∷ codes "a" ∷ codes "b" ∷ codes "x" ∷ codes "y" ∷ [])) ≡ [])
+    × (asked_of (line (codes "loop" ∷ codes "a" ∷ codes "b" ∷ codes "x" ∷ codes "y" ∷ []))
+    ≡ Some (loop (record { from = codes "a"; to = codes "b"; source = codes "x"; destination = codes "y"; turns = 1000000000000; drop_every = 0; shown = nothing })))
+unfolding clap_on_literals
+plain_loop = (refl, refl)
+
+lossy_loop : (refusals (line (codes "loop" ∷ codes "--drop" ∷ codes "7" ∷ codes "a" ∷ codes "b" ∷ codes "x" ∷ codes "y" ∷ codes "--turns" ∷ codes "50" ∷ [])) ≡ [])
+    × (asked_of (line (codes "loop" ∷ codes "--drop" ∷ codes "7" ∷ codes "a" ∷ codes "b" ∷ codes "x" ∷ codes "y" ∷ codes "--turns" ∷ codes "50" ∷ []))
+    ≡ Some (loop (record { from = codes "a"; to = codes "b"; source = codes "x"; destination = codes "y"; turns = 50; drop_every = 7; shown = nothing })))
+unfolding clap_on_literals
+lossy_loop = (refl, refl)
+
+watched_loop : (refusals (line (codes "loop" ∷ codes "--trace" ∷ codes "a" ∷ codes "b" ∷ codes "--pcap" ∷ codes "c" ∷ codes "x" ∷ codes "y" ∷ codes "--chart" ∷ codes "d" ∷ [])) ≡ [])
+    × (asked_of (line (codes "loop" ∷ codes "--trace" ∷ codes "a" ∷ codes "b" ∷ codes "--pcap" ∷ codes "c" ∷ codes "x" ∷ codes "y" ∷ codes "--chart" ∷ codes "d" ∷ []))
+    ≡ Some (loop (record {
+      from = codes "a";
+      to = codes "b";
+      source = codes "x";
+      destination = codes "y";
+      turns = 1000000000000;
+      drop_every = 0;
+      shown = record { explain = false; trace = true; pcap = Some (codes "c"); chart = Some (codes "d") };
+    })))
+unfolding clap_on_literals
+watched_loop = (refl, refl)
+
+few_words : refusals (line (codes "loop" ∷ codes "a" ∷ codes "b" ∷ codes "x" ∷ [])) ≡ MissingRequiredArgument ∷ []
+unfolding clap_on_literals
+few_words = refl
+
+no_turn : refusals (line (codes "loop" ∷ codes "a" ∷ codes "b" ∷ codes "x" ∷ codes "y" ∷ codes "--turns" ∷ codes "0" ∷ [])) ≡ ValueValidation ∷ []
+unfolding clap_on_literals
+no_turn = refl
+
+-- ---- station
+
+-- what is meant where no option says else
+abbrev plain_limits : StationLimits
+plain_limits = record { retries = 3; at_once = 4; most_size = 0; most_open = 0 }
+
+abbrev no_flags : StationFlags
+no_flags = record { remove_sent = false; no_overwrite = false; commands = false; no_time = false; json = false }
+
+-- words that say who the station is
+abbrev named : List Text → List Text
+named words = line (codes "station" ∷ codes "--id" ∷ codes "1" ∷ codes "--peer" ∷ codes "2" ∷ codes "--listen" ∷ codes "a" ∷ codes "--to" ∷ codes "b" ∷ words)
+
+abbrev plain : StationAsked
+plain = record {
+  numbers = record { id = 1; peer = 2; idle = 0; first_number = 0; rate = 1000; drop_every = 0 };
+  limits = plain_limits;
+  flags = no_flags;
+  carrier = FramesCarried;
+  unit = Seconds;
+  listen = codes "a";
+  to = codes "b";
+  inbox = None;
+  outbox = None;
+  spool = None;
+  state = None;
+  control = None;
+  console = None;
+  console_token = None;
+  puts = [];
+  sets = [];
+  shown = nothing;
+}
+
+plain_station : (refusals (named []) ≡ []) × (asked_of (named []) ≡ Some (station plain))
+unfolding clap_on_literals
+plain_station = (refl, refl)
+
+-- each default said gives what nothing said gives
+abbrev defaults : List Text
+defaults = codes "--idle" ∷ codes "0" ∷ codes "--first-number" ∷ codes "0" ∷ codes "--rate" ∷ codes "1000" ∷ codes "--drop" ∷ codes "0" ∷ codes "--carrier" ∷ codes "frames" ∷ codes "--unit" ∷
+    codes "s" ∷ codes "--retries" ∷ codes "3" ∷ codes "--at-once" ∷ codes "4" ∷ codes "--most-size" ∷ codes "0" ∷ codes "--most-open" ∷ codes "0" ∷ []
+
+defaults_said : (refusals (named defaults) ≡ []) × (asked_of (named defaults) ≡ Some (station plain))
+unfolding clap_on_literals
+defaults_said = (refl, refl)
+
+sending_station : (refusals (line (codes "station" ∷ codes "--put" ∷ codes "x" ∷ codes "y" ∷ codes "--id" ∷ codes "3" ∷ codes "--peer" ∷ codes "4" ∷ codes "--set" ∷ codes "zone" ∷ codes "512" ∷ codes
+    "--listen" ∷ codes "a" ∷ codes "--to" ∷ codes "b" ∷ codes "--put" ∷ codes "v" ∷ codes "w" ∷ codes "--outbox" ∷ codes "o" ∷ codes "--state" ∷ codes "s" ∷ codes "--idle" ∷ codes "9" ∷ [])) ≡ [])
+    × (asked_of (line (codes "station" ∷ codes "--put" ∷ codes "x" ∷ codes "y" ∷ codes "--id" ∷ codes "3" ∷ codes "--peer" ∷ codes "4" ∷ codes "--set" ∷ codes "zone" ∷ codes "512" ∷ codes "--listen" ∷
+    codes "a" ∷ codes "--to" ∷ codes "b" ∷ codes "--put" ∷ codes "v" ∷ codes "w" ∷ codes "--outbox" ∷ codes "o" ∷ codes "--state" ∷ codes "s" ∷ codes "--idle" ∷ codes "9" ∷ []))
+    ≡ Some (station (record plain {
+      numbers = record { id = 3; peer = 4; idle = 9; first_number = 0; rate = 1000; drop_every = 0 };
+      outbox = Some (codes "o");
+      state = Some (codes "s");
+      puts = codes "x" ∷ codes "y" ∷ codes "v" ∷ codes "w" ∷ [];
+      sets = codes "zone" ∷ codes "512" ∷ [];
+    })))
+unfolding clap_on_literals
+sending_station = (refl, refl)
+
+abbrev operating : List Text
+operating = codes "--spool" ∷ codes "s" ∷ codes "--remove-sent" ∷ codes "--retries" ∷ codes "0" ∷ codes "--at-once" ∷ codes "3072" ∷ codes "--most-size" ∷ codes "281474976710656" ∷ codes "--most-open" ∷
+    codes "4096" ∷ codes "--no-overwrite" ∷ codes "--commands" ∷ codes "--control" ∷ codes "c" ∷ codes "--no-time" ∷ codes "--json" ∷ codes "--carrier" ∷ codes "pdus" ∷ codes "--unit" ∷ codes "ms" ∷ []
+
+operated_station : (refusals (named operating) ≡ [])
+    × (asked_of (named operating)
+    ≡ Some (station (record plain {
+      limits = record { retries = 0; at_once = 3072; most_size = 281474976710656; most_open = 4096 };
+      flags = record { remove_sent = true; no_overwrite = true; commands = true; no_time = true; json = true };
+      carrier = PdusCarried;
+      unit = Milliseconds;
+      spool = Some (codes "s");
+      control = Some (codes "c");
+    })))
+unfolding clap_on_literals
+operated_station = (refl, refl)
+
+packets_carried : (refusals (named (codes "--carrier=packets" ∷ [])) ≡ []) × (asked_of (named (codes "--carrier=packets" ∷ [])) ≡ Some (station (record plain { carrier = Packets })))
+unfolding clap_on_literals
+packets_carried = (refl, refl)
+
+other_carrier : refusals (named (codes "--carrier" ∷ codes "Frames" ∷ [])) ≡ InvalidValue ∷ []
+unfolding clap_on_literals
+other_carrier = refl
+
+other_unit : refusals (named (codes "--unit" ∷ codes "us" ∷ [])) ≡ InvalidValue ∷ []
+unfolding clap_on_literals
+other_unit = refl
+
+none_at_once : refusals (named (codes "--at-once" ∷ codes "0" ∷ [])) ≡ ValueValidation ∷ []
+unfolding clap_on_literals
+none_at_once = refl
+
+many_retries : refusals (named (codes "--retries" ∷ codes "1001" ∷ [])) ≡ ValueValidation ∷ []
+unfolding clap_on_literals
+many_retries = refl
+
+no_peer : refusals (line (codes "station" ∷ codes "--id" ∷ codes "1" ∷ codes "--listen" ∷ codes "a" ∷ codes "--to" ∷ codes "b" ∷ [])) ≡ MissingRequiredArgument ∷ []
+unfolding clap_on_literals
+no_peer = refl
+
+-- ---- play
+
+plain_play : (refusals (line (codes "play" ∷ [])) ≡ [])
+    × (asked_of (line (codes "play" ∷ [])) ≡ Some (play (codes "127.0.0.1:8090")))
+unfolding clap_on_literals
+plain_play = (refl, refl)
+
+play_elsewhere : (refusals (line (codes "play" ∷ codes "--listen" ∷ codes "a" ∷ [])) ≡ [])
+    × (asked_of (line (codes "play" ∷ codes "--listen" ∷ codes "a" ∷ [])) ≡ Some (play (codes "a")))
+unfolding clap_on_literals
+play_elsewhere = (refl, refl)
+
+play_of_a_file : refusals (line (codes "play" ∷ codes "a" ∷ [])) ≡ UnknownArgument ∷ []
+unfolding clap_on_literals
+play_of_a_file = refl
+
+-- ---- ask
+
+asked_list : (refusals (line (codes "ask" ∷ codes "a" ∷ codes "list" ∷ [])) ≡ []) × (asked_of (line (codes "ask" ∷ codes "a" ∷ codes "list" ∷ [])) ≡ Some (ask (codes "a") (codes "list" ∷ [])))
+unfolding clap_on_literals
+asked_list = (refl, refl)
+
+asked_put : (refusals (line (codes "ask" ∷ codes "a" ∷ codes "put" ∷ codes "x" ∷ codes "y" ∷ [])) ≡ [])
+    × (asked_of (line (codes "ask" ∷ codes "a" ∷ codes "put" ∷ codes "x" ∷ codes "y" ∷ [])) ≡ Some (ask (codes "a") (codes "put" ∷ codes "x" ∷ codes "y" ∷ [])))
+unfolding clap_on_literals
+asked_put = (refl, refl)
+
+asked_nothing : refusals (line (codes "ask" ∷ codes "a" ∷ [])) ≡ MissingRequiredArgument ∷ []
+unfolding clap_on_literals
+asked_nothing = refl
+
+-- ---- the program alone, and mistakes
+
+alone : refusals (line []) ≡ DisplayHelpOnMissingArgumentOrSubcommand ∷ []
+unfolding clap_on_literals
+alone = refl
+
+only_version : (refusals (line (codes "--version" ∷ [])) ≡ []) × (asked_of (line (codes "--version" ∷ [])) ≡ Some version)
+unfolding clap_on_literals
+only_version = (refl, refl)
+
+helped : refusals (line (codes "dump" ∷ codes "--help" ∷ [])) ≡ DisplayHelp ∷ []
+unfolding clap_on_literals
+helped = refl
+
+no_kind : refusals (line (codes "dump" ∷ [])) ≡ MissingRequiredArgument ∷ []
+unfolding clap_on_literals
+no_kind = refl
+
+other_kind : refusals (line (codes "dump" ∷ codes "pdu" ∷ [])) ≡ InvalidValue ∷ []
+unfolding clap_on_literals
+other_kind = refl
+
+small_zone : refusals (line (codes "dump" ∷ codes "frames" ∷ codes "--zone" ∷ codes "15" ∷ [])) ≡ ValueValidation ∷ []
+unfolding clap_on_literals
+small_zone = refl
+
+large_zone : refusals (line (codes "dump" ∷ codes "frames" ∷ codes "--zone" ∷ codes "2041" ∷ [])) ≡ ValueValidation ∷ []
+unfolding clap_on_literals
+large_zone = refl
+
+flag_of_another : refusals (line (codes "sim" ∷ codes "--long" ∷ [])) ≡ UnknownArgument ∷ []
+unfolding clap_on_literals
+flag_of_another = refl

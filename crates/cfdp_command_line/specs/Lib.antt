@@ -1,0 +1,4 @@
+pub mod Request
+pub mod Shown
+pub mod Looping
+pub mod Station

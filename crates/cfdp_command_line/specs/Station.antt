@@ -1,0 +1,282 @@
+-- What the words behind `station` ask for.
+use Rattle.std.specs.Prelude.{ℕ, List, [], ◌∷◌, codes, Option, Some, None, map, option_and_then, option_map, true, unwrap_or, if◌then◌else◌}
+use Rattle.std.specs.Str.{bytes_eq}
+use Rattle.clap.specs.Simple.{App, new_app, new_rule, with_rule}
+use Rattle.clap.specs.Walk.{Row, Rule, Text, all_of, first_of}
+use Rattle.clap.specs.declared.builder.action.ArgAction.TheVariants.{Append}
+use Rattle.clap.specs.declared.builder.value_parser.ValueParser.TheVariants.{Unsigned}
+use Rattle.cfdp_command_line.specs.declared.station.CarrierKind.{CarrierKind}
+use Rattle.cfdp_command_line.specs.declared.station.CarrierKind.TheVariants.{Frames, Packets, Pdus}
+use Rattle.cfdp_command_line.specs.declared.station.StationFlags.{StationFlags}
+use Rattle.cfdp_command_line.specs.declared.station.StationLimits.{StationLimits}
+use Rattle.cfdp_command_line.specs.declared.station.StationNumbers.{StationNumbers}
+use Rattle.cfdp_command_line.specs.declared.station.StationRequest.{StationRequest}
+use Rattle.cfdp_command_line.specs.declared.station.StationWords.{StationWords}
+use Rattle.cfdp_command_line.specs.declared.station.TimeUnit.{TimeUnit}
+use Rattle.cfdp_command_line.specs.declared.station.TimeUnit.TheVariants.{Seconds, Milliseconds}
+use Rattle.cfdp_command_line.specs.Looping.{drop_rule, number_in, number_rule, tuned_rule}
+use Rattle.cfdp_command_line.specs.Shown.{ShownAsked, asked_shown, file_rule, flag_rule, is_given, shown_of, with_shown}
+
+-- ---- the grammar
+
+-- a word that has to be said behind its option
+abbrev pub said_rule : Text → Rule
+said_rule name = record (new_rule name) { long = Some name; value_names = 1; required = true }
+
+-- the greatest number of eight octets
+abbrev pub most : ℕ
+most = 18446744073709551615
+
+-- a number that has to be said
+abbrev pub said_number_rule : Text → Rule
+said_number_rule name = record (said_rule name) { parser = Some (Unsigned 0 most) }
+
+-- the number of the first transaction, and 0 where none is said
+abbrev pub first_number_rule : Rule
+first_number_rule = number_rule (codes "first-number") 0 most (codes "0")
+
+-- two words, as often as they are said
+abbrev pub pairs_rule : Text → Rule
+pairs_rule name = record (new_rule name) {
+  long = Some name;
+  action = Some Append;
+  range = Some (record { start_inclusive = 2; end_inclusive = 2 });
+  value_names = 1;
+}
+
+-- a word, and what stands for it where none is said
+abbrev pub named_rule : Text → Text → Rule
+named_rule name default = record (new_rule name) {
+  long = Some name;
+  value_names = 1;
+  defaults = default ∷ [];
+}
+
+-- the most octets of a file
+abbrev pub most_octets : ℕ
+most_octets = 281474976710656
+
+abbrev pub names_app : App
+names_app = with_rule (with_rule (new_app (codes "station")) (said_number_rule (codes "id")))
+    (said_number_rule (codes "peer"))
+
+abbrev pub addresses_app : App
+addresses_app = with_rule (with_rule names_app (said_rule (codes "listen")))
+    (said_rule (codes "to"))
+
+abbrev pub numbered_app : App
+numbered_app = with_rule (with_rule addresses_app (tuned_rule (codes "idle") (codes "0")))
+    first_number_rule
+
+abbrev pub own_numbers_app : App
+own_numbers_app = with_rule (with_rule numbered_app (tuned_rule (codes "rate") (codes "1000")))
+    drop_rule
+
+abbrev pub carried_app : App
+carried_app =
+    with_rule (with_rule own_numbers_app (named_rule (codes "carrier") (codes "frames")))
+    (named_rule (codes "unit") (codes "s"))
+
+abbrev pub stores_app : App
+stores_app = with_rule (with_rule (with_rule carried_app (file_rule (codes "inbox")))
+    (file_rule (codes "outbox"))) (file_rule (codes "state"))
+
+abbrev pub lists_app : App
+lists_app = with_rule (with_rule stores_app (pairs_rule (codes "put"))) (pairs_rule (codes "set"))
+
+abbrev pub spooled_app : App
+spooled_app = with_rule (with_rule lists_app (file_rule (codes "spool")))
+    (flag_rule (codes "remove-sent"))
+
+abbrev pub sent_app : App
+sent_app = with_rule
+    (with_rule spooled_app (number_rule (codes "retries") 0 1000 (codes "3")))
+    (number_rule (codes "at-once") 1 3072 (codes "4"))
+
+abbrev pub held_app : App
+held_app = with_rule
+    (with_rule sent_app (number_rule (codes "most-size") 0 most_octets (codes "0")))
+    (number_rule (codes "most-open") 0 4096 (codes "0"))
+
+abbrev pub incoming_app : App
+incoming_app = with_rule held_app (flag_rule (codes "no-overwrite"))
+
+abbrev pub operated_app : App
+operated_app = with_rule (with_rule incoming_app (flag_rule (codes "commands")))
+    (file_rule (codes "control"))
+
+abbrev pub consoled_app : App
+consoled_app = with_rule (with_rule operated_app (file_rule (codes "console")))
+    (file_rule (codes "console-token"))
+
+abbrev pub told_app : App
+told_app = with_rule (with_rule consoled_app (flag_rule (codes "no-time")))
+    (flag_rule (codes "json"))
+
+abbrev pub file_app : App
+file_app = with_rule (with_rule told_app (file_rule (codes "config")))
+    (flag_rule (codes "print-config"))
+
+abbrev pub station_app : App
+station_app = with_shown file_app
+
+-- ---- what is asked for
+
+-- To run a station: who it is, and how it runs; how much it does at a time, and what it takes; its
+-- flags; what a datagram carries, and the unit of times; its address and its peer's; the folders
+-- that files come to and lie in, and that whose files are sent as they come there; the file that
+-- keeps which numbers are reserved; the addresses on which commands are taken and a browser is
+-- shown it, and the file with what that has to show; the names of files to
+-- send, each with its name at the peer behind it; the keys of settings, each with its value behind
+-- it; and what is shown.
+pub record StationAsked : Type 0 where
+  pub numbers : StationNumbers
+  pub limits : StationLimits
+  pub flags : StationFlags
+  pub carrier : CarrierKind
+  pub unit : TimeUnit
+  pub listen : Text
+  pub to : Text
+  pub inbox : Option Text
+  pub outbox : Option Text
+  pub spool : Option Text
+  pub state : Option Text
+  pub control : Option Text
+  pub console : Option Text
+  pub console_token : Option Text
+  pub puts : List Text
+  pub sets : List Text
+  pub shown : ShownAsked
+
+abbrev pub numbers_of : List Row → Option StationNumbers
+numbers_of rows =
+    option_and_then (λ id. option_and_then (λ peer. option_and_then (λ idle.
+    option_and_then (λ first_number. option_and_then (λ rate. option_map (λ drop_every. record {
+      id = id;
+      peer = peer;
+      idle = idle;
+      first_number = first_number;
+      rate = rate;
+      drop_every = drop_every;
+    }) (number_in (codes "drop") 0 1000000 rows)) (number_in (codes "rate") 0 1000000 rows))
+    (number_in (codes "first-number") 0 most rows)) (number_in (codes "idle") 0 1000000 rows))
+    (number_in (codes "peer") 0 most rows)) (number_in (codes "id") 0 most rows)
+
+abbrev pub limits_of : List Row → Option StationLimits
+limits_of rows =
+    option_and_then (λ retries. option_and_then (λ at_once. option_and_then (λ most_size.
+    option_map (λ most_open. record {
+      retries = retries;
+      at_once = at_once;
+      most_size = most_size;
+      most_open = most_open;
+    }) (number_in (codes "most-open") 0 4096 rows))
+    (number_in (codes "most-size") 0 most_octets rows)) (number_in (codes "at-once") 1 3072 rows))
+    (number_in (codes "retries") 0 1000 rows)
+
+abbrev pub flags_of : List Row → StationFlags
+flags_of rows = record {
+  remove_sent = is_given (codes "remove-sent") rows;
+  no_overwrite = is_given (codes "no-overwrite") rows;
+  commands = is_given (codes "commands") rows;
+  no_time = is_given (codes "no-time") rows;
+  json = is_given (codes "json") rows;
+}
+
+-- what a word says of what a datagram carries
+abbrev pub carrier_of_word : Text → Option CarrierKind
+carrier_of_word word =
+    if bytes_eq word (codes "frames") then Some Frames
+    else (if bytes_eq word (codes "packets") then Some Packets
+    else (if bytes_eq word (codes "pdus") then Some Pdus else None))
+
+-- what a word says of the unit of times
+abbrev pub unit_of_word : Text → Option TimeUnit
+unit_of_word word =
+    if bytes_eq word (codes "s") then Some Seconds
+    else (if bytes_eq word (codes "ms") then Some Milliseconds else None)
+
+-- what has to be right of what was said
+pub record Needed : Type 0 where
+  pub numbers : StationNumbers
+  pub limits : StationLimits
+  pub carrier : CarrierKind
+  pub unit : TimeUnit
+  pub listen : Text
+  pub to : Text
+
+abbrev pub needed_of : List Row → Option Needed
+needed_of rows = option_and_then (λ numbers. option_and_then (λ limits. option_and_then (λ carrier.
+    option_and_then (λ unit. option_and_then (λ listen. option_map (λ to. record {
+      numbers = numbers;
+      limits = limits;
+      carrier = carrier;
+      unit = unit;
+      listen = listen;
+      to = to;
+    }) (first_of (codes "to") rows)) (first_of (codes "listen") rows))
+    (option_and_then unit_of_word (first_of (codes "unit") rows)))
+    (option_and_then carrier_of_word (first_of (codes "carrier") rows)))
+    (limits_of rows)) (numbers_of rows)
+
+-- all that was said of this name
+abbrev pub words_for : Text → List Row → List Text
+words_for name rows = unwrap_or (all_of name rows) []
+
+abbrev pub asked_with : List Row → Needed → StationAsked
+asked_with rows needed = record {
+  numbers = needed.numbers;
+  limits = needed.limits;
+  flags = flags_of rows;
+  carrier = needed.carrier;
+  unit = needed.unit;
+  listen = needed.listen;
+  to = needed.to;
+  inbox = first_of (codes "inbox") rows;
+  outbox = first_of (codes "outbox") rows;
+  spool = first_of (codes "spool") rows;
+  state = first_of (codes "state") rows;
+  control = first_of (codes "control") rows;
+  console = first_of (codes "console") rows;
+  console_token = first_of (codes "console-token") rows;
+  puts = words_for (codes "put") rows;
+  sets = words_for (codes "set") rows;
+  shown = shown_of rows;
+}
+
+abbrev pub station_of : List Row → Option StationAsked
+station_of rows = option_map (asked_with rows) (needed_of rows)
+
+-- ---- what the program makes of it
+
+abbrev pub station_asked : StationRequest → StationAsked
+station_asked request = record {
+  numbers = request.numbers;
+  limits = request.limits;
+  flags = request.flags;
+  carrier = request.carrier;
+  unit = request.unit;
+  listen = request.listen.bytes.items;
+  to = request.to.bytes.items;
+  inbox = option_map (λ folder. folder.bytes.items) request.inbox;
+  outbox = option_map (λ folder. folder.bytes.items) request.outbox;
+  spool = option_map (λ folder. folder.bytes.items) request.spool;
+  state = option_map (λ file. file.bytes.items) request.state;
+  control = option_map (λ address. address.bytes.items) request.control;
+  console = option_map (λ address. address.bytes.items) request.console;
+  console_token = option_map (λ file. file.bytes.items) request.console_token;
+  puts = map (λ name. name.bytes.items) request.puts.items;
+  sets = map (λ word. word.bytes.items) request.sets.items;
+  shown = asked_shown request.shown;
+}
+
+-- what has to be right, in words of the command line, with what else was said
+abbrev pub words_asked : List Row → StationWords → StationAsked
+words_asked rows words = asked_with rows (record {
+  numbers = words.numbers;
+  limits = words.limits;
+  carrier = words.carrier;
+  unit = words.unit;
+  listen = words.listen.now;
+  to = words.to.now;
+})

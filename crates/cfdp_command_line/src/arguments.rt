@@ -1,0 +1,868 @@
+ghost use Rattle.std.specs.Prelude.{◌≡◌, ◌⊎◌, ◌≤◌, false, map, IfErr, IfOk, IfSome, Some};
+ghost use Rattle.std.specs.Prelude.{option_map};
+ghost use Rattle.clap.specs.Kinds.{FailsBy};
+ghost use Rattle.clap.specs.Faults.{fault_of};
+ghost use Rattle.clap.specs.Simple.{app_of, with_rule, with_subcommand};
+ghost use Rattle.clap.specs.Matches.{found_of};
+ghost use Rattle.clap.specs.Values.{kind_of};
+ghost use Rattle.clap.specs.Walk.{first_of, rows_of, rule_of};
+ghost use Rattle.clap.specs.Simple.{subcommand_rows_of};
+ghost use Rattle.cfdp_command_line.specs.Request.{HasNoGlobals, HasShape, IsCommand, IsStatusOf};
+ghost use Rattle.cfdp_command_line.specs.Request.{RefusedBy, asked, asked_by, asked_of, dump_app};
+ghost use Rattle.cfdp_command_line.specs.Request.{dump_of, kind_of_word, kind_rule, input_rule};
+ghost use Rattle.cfdp_command_line.specs.Request.{asked_lines, address_app, address_rule, ask_app};
+ghost use Rattle.cfdp_command_line.specs.Request.{ask_of, lines_of, program_app, refusals, sim_app};
+ghost use Rattle.cfdp_command_line.specs.Request.{sim_of, words_rule, fields_of, form_of};
+ghost use Rattle.cfdp_command_line.specs.Request.{frames_app, insert_rule, lines_app, shape_of};
+ghost use Rattle.cfdp_command_line.specs.Request.{told_app, top_app, zone_of_word, zone_rule};
+ghost use Rattle.cfdp_command_line.specs.Request.{listen_rule, play_app, play_of};
+ghost use Rattle.cfdp_command_line.specs.Request as asks;
+ghost use Rattle.cfdp_report.specs.Dump.Shape.{IsShape};
+ghost use Rattle.cfdp_command_line.specs.Looping.{loop_app, loop_of};
+ghost use Rattle.cfdp_command_line.specs.Station.{station_app, station_of};
+ghost use Rattle.cfdp_command_line.specs.Shown.{file_rule, flag_rule};
+ghost use Rattle.cfdp_command_line.specs.Shown as showing;
+
+use crate::dropping::let_go;
+use crate::looping::{LoopRequest, loop_command, loop_request, number_in};
+use crate::settings_file::with_settings;
+use crate::shown::{shown_by, shown_command};
+use crate::station::{StationRequest, owned_words, station_command, station_request};
+use aos_frame::{FrameFields, LEAST_ZONE, MOST_ZONE};
+use cfdp_report::{DumpForm, FrameShape, SettingsHelp, Shown};
+use cfdp_script::{DumpKind, DumpRequest};
+use clap::error::ErrorKind;
+use clap::{Arg, ArgAction, ArgMatches, Command, Error, value_parser};
+use std::alloc::{AllocError, Global};
+use std::{env, io};
+
+/// What the words behind the program's name ask for.
+#[derive(Drop)]
+pub enum Request {
+    /// To run a script.
+    Sim(SimRequest),
+    /// To tell what the lines of this file, or else of standard input, spell.
+    Dump {
+        lines: DumpRequest,
+        file: Option<String>,
+    },
+    /// To send a file from one folder into another.
+    Loop(LoopRequest),
+    /// To run one station over a socket.
+    Station(StationRequest),
+    /// To send a command to a station that takes commands on this TCP address.
+    Ask {
+        address: String,
+        /// The command, one or more words.
+        words: Vec<String>,
+    },
+    /// To serve a page in which two stations can be tried, at this TCP address.
+    Play {
+        address: String,
+    },
+    /// To print the version.
+    Version,
+}
+
+/// How a script is to be run.
+#[derive(Drop)]
+pub struct SimRequest {
+    /// What is to be shown of the run.
+    pub shown: Shown,
+    /// The file that the script is read from; standard input without one.
+    pub file: Option<String>,
+}
+
+const VERSION: &str = "0.1.0";
+
+const MISTAKE: u8 = 2;
+
+const NO_MEMORY: u8 = 3;
+
+// What stands before the settings in the help of `sim`, and what stands behind them.
+const SIM_COMMANDS: &str = "\
+The script is read from FILE, or from standard input: at most 1,048,576 octets
+in lines of at most 4,096 that end with LF or CR LF, ASCII, one command a line,
+words with one space between. Empty lines and lines that begin with # are
+skipped. S is the station, 1 or 2; ID is a transaction, SOURCE:NUMBER.
+First, what the stations have:
+  set KEY N             a setting of both stations, see below
+  file S NAME TEXT      a file in the outbox of S; TEXT is the rest of the line
+  fill S NAME N HH      a file of N octets, each hexadecimal HH; N to 1048576
+Then, what happens:
+  put S SRC DST         S sends its file SRC to the other station, as DST
+  cancel S ID           S gives the transaction up
+  suspend S ID          S sends nothing more of it, until resume S ID
+  prompt S ID nak       S asks the receiver of its file what it misses, or, with
+                        keep for nak, how far it has come
+  poll S                S sends its next PDU, and all frames that are full then
+  flush S               S fills up the begun frame of each lane and sends it
+  spread S              S polls until nothing is due, with a flush after each PDU
+  burst S               S polls until nothing is due, then flushes once
+  tick S N              S is told that the time is N
+  deliver S [N]         the N oldest frames that S sent arrive (default 1)
+  strike S [N]          the N oldest frames that S sent are lost (default 1)
+  deliver S LANE [N], strike S LANE [N]
+                        the same of a lane: data, whose frames carry file data,
+                        or dir, whose frames carry all other PDUs
+  damage S [LANE] AT HH the oldest frame that S sent comes with the octet HH
+                        behind its first AT octets; the other station drops it,
+                        if error_control is set
+  settle                both poll and flush and all arrives, until nothing is due
+  recover               settle, then tick the station whose timer is next, again
+                        and again, until no timer but for inactivity is left
+
+Settings, with their defaults:
+";
+
+const SIM_REPORT: &str = "
+Report: a line for each command that could not do its work, what each station
+tells its user, the files received with their checksums, and how many of the
+puts were completed. A command that could not do its work is told as
+  line N Nothing        there was nothing to do
+  line N NoSuchFile     or Name, TooLarge, TableFull, NumbersSpent: a put refused
+  line N Unknown        or WrongSide, AlreadyClosed, AlreadySo: a call refused
+  line N LossRunTooLong too many frames lost in a row
+  line N NotDamaged     the other station would not see that it is damaged
+  line N NoMemory       or StoreFailed, TableFull: it ended early
+  line N StillArmed     after 24576 ticks of recover a timer is left
+Conditions, as in 'fault ID 7': 0 none, 1 no ACK came, 4 the store failed,
+5 checksum, 6 size, 7 NAKs were of no use, 8 silence, 11 unknown checksum type,
+14 suspended, 15 cancelled. --explain tells them in words.
+
+With --explain, on standard error at the end: what the conditions say that came
+up, and what each station sent, what of that was lost, and what it dropped.
+With --trace, a line for each thing that a station did, on standard error: the
+line of the script and the number of the event, as 3.10, the station, and what
+it did: ticks (it was told the time), sends, takes a frame or hears a PDU, which
+arrive, loses a frame that it sent, drops, tells its user. In front of a frame
+stands its lane.
+With --chart FILE, the same as a sequence diagram in Mermaid's text.
+With --pcap FILE, the PDUs that are sent go to FILE for Wireshark, with the
+number of the event as time and the lane as interface. There, in Preferences,
+Protocols, DLT_USER, User 0 (DLT=147) is to have the payload dissector cfdp.
+
+Exit status: 0 all puts completed, 1 some not, 2 bad script or arguments,
+3 a failed read, write or store, or no memory (told on standard error).
+
+Example:
+  printf 'file 1 a.txt hello\\nput 1 a.txt b.txt\\nsettle\\n' | cfdp_node sim";
+
+const DUMP_HELP: &str = "\
+Input, from FILE or standard input: a PDU or a frame a line, as pairs of
+hexadecimal digits of either case, with spaces between or not, and with 0x in
+front of a word or not; at most 1,048,576 octets in all.
+Output: a line for each; ID is the source and the number of the transaction.
+  data ID OFFSET LENGTH
+  metadata ID CHECKSUM-TYPE SIZE SRC DST
+  eof ID CONDITION CHECKSUM SIZE
+  finished ID CONDITION DELIVERY STATUS
+  ack ID OF CONDITION STATUS        OF is 4 for an EOF, 5 for a Finished
+  nak ID START END A-B ..           a pair for each range that is asked for
+  prompt ID nak, prompt ID keep
+  keepalive ID N
+  frame SPACECRAFT CHANNEL COUNT POINTER
+  error N NAME                      why it is none
+With --long a line goes on. That of a frame:
+  dir, data                         its lane, where CHANNEL is one of those that
+                                    scripts use: 5 and 6 dir, 7 and 8 data
+  cycle                             its COUNT has 28 bits; else it has 24
+  insert VV.., control VV.., check VV..
+                                    its insert zone, its operational control
+                                    field, its frame error control field
+That of a PDU:
+  toward receiver destination N     or sender; N is the entity that receives the
+                                    file, whichever way the PDU goes
+  large                             sizes and offsets have 8 octets; else 4
+  fault-location N                  the entity that a fault location names
+  tlv TT:VV..                       each option, type and value in hexadecimal
+  crc VVVV                          its CRC, where it has one
+With --fields there is a line for each field instead, NAME: VALUE (SECTION), and
+an empty line behind each PDU, frame or error. SECTION is one of CCSDS
+727.0-B-5, as CFDP 5.2.4, or of CCSDS 732.0-B-4, as AOS 4.1.2.3.
+Errors of any line: 0 Hex (no such digits).
+Errors of PDUs: 1 Short, 2 Version, 3 BadCrc, 4 Length, 5 Unacknowledged,
+7 Directive, 8 Truncated, 9 Trailing, 10 Tlv, 11 Condition; 6 is no longer used.
+Errors of frames: 1 Length (mostly: another --zone, or other fields, are meant),
+12 Damaged (with --error-control), 2 Version, 3 OtherProfile, 6 OnlyIdle.
+
+Exit status: 0 whatever the lines say, 2 bad arguments, 3 a failed read or
+write, or no memory (told on standard error).
+
+Example, which prints 'eof 1:1 0 D7656C6C 5':
+  echo 20000A1300010000000100020400D7656C6C00000005 | cfdp_node dump pdus";
+
+const ASK_HELP: &str = "\
+Connects to a station that runs with '--control ADDR', and sends it the words as
+one line. What it answers goes to standard output.
+
+Exit status: 0 it answered, 1 it refused the command, 2 bad arguments, 3 nothing
+answers there (told on standard error).
+
+Example:
+  cfdp_node ask 127.0.0.1:5101 list";
+
+const PLAY_HELP: &str = "\
+Writes the address of a page, and serves it until it is ended (Ctrl-C). In the
+page two stations and the link between them run a script, which grows by what is
+clicked: what 'cfdp_node sim' writes for that script, the page shows. It has all
+that it needs in itself. Nothing is kept from one request to the next. Nobody
+but this machine reaches it.
+
+Exit status: 2 bad arguments, 3 the address can't be had (told on standard
+error).";
+
+/// Reads the process's arguments.
+///
+/// # Errors
+///
+/// The status with which the process ends, where there is nothing to do: help or a settings file,
+/// which went to standard output, or a mistake, which was told on standard error.
+pub fn read(rt: &HostRuntime) -> Result<Request, u8>
+    ensures zone { IfOk result HasShape }
+    ensures status { IfErr result (λ status. (status ≡ 0) ⊎ (status ≡ 2) ⊎ (status ≡ 3)) }
+{
+    let words: Vec<String> = match env::args(rt) {
+        Ok(args) => match args.collect(rt.alloc()) {
+            Ok(words) => words,
+            Err(AllocError) => return Err(NO_MEMORY),
+        },
+        Err(error) => return Err(unread_status(rt, &error)),
+    };
+    let words = with_settings(rt, words)?;
+    match with_line_apart(rt.alloc(), words) {
+        Ok(words) => request_of(rt, words.as_slice()),
+        Err(AllocError) => Err(NO_MEMORY),
+    }
+}
+
+/// The words of a command line, with `--` in front of those that `ask` sends: so none of these is
+/// taken for an option of the program.
+fn with_line_apart(alloc: Global, mut words: Vec<String>) -> Result<Vec<String>, AllocError> {
+    if words.len() > 3 && words[1].as_str() == "ask" && words[3].as_str() != "--" {
+        words.insert(3, String::from_str(alloc, "--")?)?;
+    }
+    Ok(words)
+}
+
+/// What these words ask for. The first is the program's name. Help and mistakes are told.
+///
+/// # Errors
+///
+/// The status with which the process ends, by what is wrong with the words.
+fn request_of(rt: &HostRuntime, words: &[String]) -> Result<Request, u8>
+    ensures asked { IfOk result (λ request. asked_of (map (λ word. word.bytes.items) words.now)
+        ≡ Some (asked request)) }
+    ensures refused { IfErr result (RefusedBy
+        (refusals (map (λ word. word.bytes.items) words.now))) }
+    ensures status { IfErr result (λ status. (status ≡ 0) ⊎ (status ≡ 2) ⊎ (status ≡ 3)) }
+    ensures zone { IfOk result HasShape }
+{
+    match parse(rt.alloc(), words) {
+        Ok(request) => Ok(request),
+        Err(error) => Err(answered(rt, &error)),
+    }
+}
+
+/// Prints the version, and gives the status of the process.
+pub fn version_status(rt: &HostRuntime) -> u8
+    ensures { (result ≡ 0) ⊎ (result ≡ NO_MEMORY) }
+{
+    match println!(rt; "cfdp_node {VERSION}") {
+        Ok(()) => 0,
+        Err(_) => NO_MEMORY,
+    }
+}
+
+/// What these words ask for. The first is the program's name.
+///
+/// # Errors
+///
+/// The help that they ask for, their mistake, or `OutOfMemory`.
+pub fn parse<'a>(alloc: Global, words: &'a [String]) -> Result<Request, Error>
+    ensures asked { IfOk result (λ request. asked_of (map (λ word. word.bytes.items) words.now)
+        ≡ Some (asked request)) }
+    ensures refused { FailsBy (refusals (map (λ word. word.bytes.items) words.now)) result }
+    ensures zone { IfOk result HasShape }
+{
+    let help = sim_help(alloc)?;
+    let mut command = grammar(alloc, help.as_str())?;
+    parse_by(alloc, &mut command, words)
+}
+
+/// What these words ask for by the program's grammar.
+///
+/// # Errors
+///
+/// The same as those of `parse`.
+fn parse_by<'a>(
+    alloc: Global,
+    command: &mut Command<'a>,
+    words: &'a [String],
+) -> Result<Request, Error>
+    requires { IsCommand program_app command.old }
+    ensures asked { IfOk result (λ request. asked_of (map (λ word. word.bytes.items) words.now)
+        ≡ Some (asked request)) }
+    ensures refused { FailsBy (refusals (map (λ word. word.bytes.items) words.now)) result }
+    ensures zone { IfOk result HasShape }
+{
+    match matched(alloc, command, words)? {
+        Some(request) => Ok(request),
+        None => Err(command.error(ErrorKind::InvalidValue, misfit(words))?),
+    }
+}
+
+/// What the words have to say in the place of one that says nothing. The first is the program's
+/// name, the second that of a command.
+fn misfit(words: &[String]) -> &'static str {
+    match words {
+        [_, command, ..] if command.as_str() == "station" => {
+            "--carrier is frames, packets or pdus, and --unit is s or ms"
+        }
+        _ => "KIND is pdus or frames: cfdp_node dump KIND [FILE]",
+    }
+}
+
+/// What these words ask for by the program's grammar, `None` where KIND, a carrier or a unit is
+/// none.
+///
+/// # Errors
+///
+/// What the grammar refuses, help, or `OutOfMemory`.
+fn matched<'a>(
+    alloc: Global,
+    command: &mut Command<'a>,
+    words: &'a [String],
+) -> Result<Option<Request>, Error>
+    requires { IsCommand program_app command.old }
+    ensures asked { IfOk result (λ found. option_map asked found
+        ≡ asked_of (map (λ word. word.bytes.items) words.now)) }
+    ensures refused { FailsBy (fault_of program_app (map (λ word. word.bytes.items) words.now))
+        result }
+    ensures zone { IfOk result (λ found. IfSome found HasShape) }
+{
+    let matches = command.try_get_matches_from_mut(words)?;
+    Ok(requested(alloc, &matches)?)
+}
+
+/// What the words that were found ask for, `None` where KIND, a carrier or a unit is none.
+fn requested(alloc: Global, matches: &ArgMatches<'_>) -> Result<Option<Request>, AllocError>
+    ensures asked { IfOk result (λ found. option_map asked found
+        ≡ asked_by (subcommand_rows_of matches.now)) }
+    ensures zone { IfOk result (λ found. IfSome found HasShape) }
+{
+    match matches.subcommand() {
+        Some(("sim", arguments)) => sim_request(alloc, arguments),
+        Some(("dump", arguments)) => dump_request(alloc, arguments),
+        Some(("loop", arguments)) => transfer_request(alloc, arguments),
+        Some(("station", arguments)) => serving_request(alloc, arguments),
+        Some(("ask", arguments)) => ask_request(alloc, arguments),
+        Some(("play", arguments)) => play_request(alloc, arguments),
+        Some(_) => Ok(None),
+        None => Ok(Some(Request::Version)),
+    }
+}
+
+/// What the words behind `sim` ask for.
+fn sim_request(alloc: Global, arguments: &ArgMatches<'_>) -> Result<Option<Request>, AllocError>
+    ensures asked { IfOk result (λ found. option_map asked found
+        ≡ Some (sim_of (rows_of (found_of arguments.now)))) }
+    ensures zone { IfOk result (λ found. IfSome found HasShape) }
+{
+    let request = SimRequest {
+        shown: shown_by(alloc, arguments)?,
+        file: owned_word(alloc, arguments, "file")?,
+    };
+    Ok(Some(Request::Sim(request)))
+}
+
+/// What the words behind `loop` ask for, `None` where a number is out of its range.
+fn transfer_request(
+    alloc: Global,
+    arguments: &ArgMatches<'_>,
+) -> Result<Option<Request>, AllocError>
+    ensures asked { IfOk result (λ found. option_map asked found
+        ≡ option_map asks.loop (loop_of (rows_of (found_of arguments.now)))) }
+    ensures zone { IfOk result (λ found. IfSome found HasShape) }
+{
+    Ok(loop_request(alloc, arguments)?.map(Request::Loop))
+}
+
+/// What the words behind `ask` ask for.
+fn ask_request(alloc: Global, arguments: &ArgMatches<'_>) -> Result<Option<Request>, AllocError>
+    ensures asked { IfOk result (λ found. option_map asked found
+        ≡ ask_of (rows_of (found_of arguments.now))) }
+    ensures zone { IfOk result (λ found. IfSome found HasShape) }
+{
+    let words = owned_words(alloc, arguments, "words")?;
+    match owned_word(alloc, arguments, "address")? {
+        Some(address) => Ok(Some(Request::Ask { address, words })),
+        None => Ok(None),
+    }
+}
+
+/// What the words behind `play` ask for.
+fn play_request(alloc: Global, arguments: &ArgMatches<'_>) -> Result<Option<Request>, AllocError>
+    ensures asked { IfOk result (λ found. option_map asked found
+        ≡ play_of (rows_of (found_of arguments.now))) }
+    ensures zone { IfOk result (λ found. IfSome found HasShape) }
+{
+    match owned_word(alloc, arguments, "listen")? {
+        Some(address) => Ok(Some(Request::Play { address })),
+        None => Ok(None),
+    }
+}
+
+/// What the words behind `station` ask for, `None` where a number is out of its range, or a carrier
+/// or a unit is none.
+fn serving_request(alloc: Global, arguments: &ArgMatches<'_>) -> Result<Option<Request>, AllocError>
+    ensures asked { IfOk result (λ found. option_map asked found
+        ≡ option_map asks.station (station_of (rows_of (found_of arguments.now)))) }
+    ensures zone { IfOk result (λ found. IfSome found HasShape) }
+{
+    Ok(station_request(alloc, arguments)?.map(Request::Station))
+}
+
+/// A copy of the word that was found for this argument, if there is one.
+pub fn owned_word(
+    alloc: Global,
+    arguments: &ArgMatches<'_>,
+    name: &str,
+) -> Result<Option<String>, AllocError>
+    ensures { IfOk result (λ word. option_map (λ text. text.bytes.items) word
+        ≡ first_of name.now (rows_of (found_of arguments.now))) }
+{
+    match word_of(arguments, name) {
+        Some(word) => Ok(Some(String::from_str(alloc, word)?)),
+        None => Ok(None),
+    }
+}
+
+/// What the words behind `dump` ask for, `None` where KIND is no kind.
+fn dump_request(alloc: Global, arguments: &ArgMatches<'_>) -> Result<Option<Request>, AllocError>
+    ensures asked { IfOk result (λ found. option_map asked found
+        ≡ dump_of (rows_of (found_of arguments.now))) }
+    ensures zone { IfOk result (λ found. IfSome found HasShape) }
+{
+    let file = owned_word(alloc, arguments, "file")?;
+    match lines_asked(arguments) {
+        Some(lines) => Ok(Some(Request::Dump { lines, file })),
+        None => Ok(None),
+    }
+}
+
+/// How lines are to be told, `None` where KIND is no kind.
+fn lines_asked(arguments: &ArgMatches<'_>) -> Option<DumpRequest>
+    ensures asked { option_map (λ lines. asked_lines lines) result
+        ≡ lines_of (rows_of (found_of arguments.now)) }
+    ensures zone { IfSome result (λ lines. IsShape lines.shape) }
+{
+    let kind = dump_kind(word_of(arguments, "kind")?)?;
+    let shape = frame_shape(arguments)?;
+    let form = dump_form(is_given(arguments, "fields"), is_given(arguments, "long"));
+    Some(DumpRequest { kind, shape, form })
+}
+
+/// What frames are made of, `None` where a number is out of its range.
+fn frame_shape(arguments: &ArgMatches<'_>) -> Option<FrameShape>
+    ensures asked { result ≡ shape_of (rows_of (found_of arguments.now)) }
+    ensures range { IfSome result IsShape }
+{
+    Some(FrameShape {
+        zone: zone_octets(word_of(arguments, "zone")?)?,
+        fields: frame_fields(arguments)?,
+    })
+}
+
+/// The fields of frames, `None` where an insert zone is too long.
+fn frame_fields(arguments: &ArgMatches<'_>) -> Option<FrameFields>
+    ensures asked { result ≡ fields_of (rows_of (found_of arguments.now)) }
+    ensures range { IfSome result (λ fields. fields.insert_zone ≤ 64) }
+{
+    Some(FrameFields {
+        insert_zone: number_in(arguments, "insert-zone", 0, 64)? as u8,
+        control_field: is_given(arguments, "control-field"),
+        error_control: is_given(arguments, "error-control"),
+    })
+}
+
+/// The form that these two options ask for: fields, where both do.
+fn dump_form(fields: bool, long: bool) -> DumpForm
+    ensures { result ≡ form_of fields long }
+{
+    if fields {
+        DumpForm::Fields
+    } else if long {
+        DumpForm::Long
+    } else {
+        DumpForm::Short
+    }
+}
+
+/// The word that was found for this argument, or stands for it where none is given.
+pub fn word_of<'a>(arguments: &ArgMatches<'a>, name: &str) -> Option<&'a str>
+    ensures { option_map (λ word. word.now) result
+        ≡ first_of name.now (rows_of (found_of arguments.now)) }
+{
+    arguments.get_str(name)
+}
+
+/// Whether a flag was found.
+pub fn is_given(arguments: &ArgMatches<'_>, name: &str) -> bool
+    ensures { result ≡ showing.is_given name.now (rows_of (found_of arguments.now)) }
+{
+    match word_of(arguments, name) {
+        Some(word) => word == "true",
+        None => false,
+    }
+}
+
+/// What this word says of the kind of the lines.
+fn dump_kind(word: &str) -> Option<DumpKind>
+    ensures { result ≡ kind_of_word word.now }
+{
+    if word == "pdus" {
+        Some(DumpKind::Pdus)
+    } else if word == "frames" {
+        Some(DumpKind::Frames)
+    } else {
+        None
+    }
+}
+
+/// The octets of a packet zone that this word says, if they are 16 to 2,040.
+fn zone_octets(word: &str) -> Option<u16>
+    ensures zone { result ≡ zone_of_word word.now }
+    ensures range { IfSome result (λ zone. (16 ≤ zone) × (zone ≤ 2040)) }
+{
+    match word.parse::<u16>() {
+        Ok(zone) if LEAST_ZONE <= zone && zone <= MOST_ZONE => Some(zone),
+        _ => None,
+    }
+}
+
+/// What stands behind the arguments in the help of `sim`.
+fn sim_help(alloc: Global) -> Result<String, AllocError> {
+    format!(in alloc; "{SIM_COMMANDS}{SettingsHelp}{SIM_REPORT}")
+}
+
+/// The grammar of command lines, with this help of `sim`.
+fn grammar<'a>(alloc: Global, sim_help: &'a str) -> Result<Command<'a>, AllocError>
+    ensures { IfOk result (IsCommand program_app) }
+{
+    let told = asking_grammar(alloc, sim_help)?;
+    match play_command(alloc) {
+        Ok(play) => told.subcommand(play),
+        Err(AllocError) => {
+            let_go(told);
+            Err(AllocError)
+        }
+    }
+}
+
+/// The same without `play`.
+fn asking_grammar<'a>(alloc: Global, sim_help: &'a str) -> Result<Command<'a>, AllocError>
+    ensures { IfOk result (IsCommand (with_subcommand (with_subcommand (with_subcommand
+        (with_subcommand (with_subcommand top_app sim_app.top) dump_app.top) loop_app.top)
+        station_app.top) ask_app.top)) }
+{
+    let told = stations_grammar(alloc, sim_help)?;
+    match ask_command(alloc) {
+        Ok(ask) => told.subcommand(ask),
+        Err(AllocError) => {
+            let_go(told);
+            Err(AllocError)
+        }
+    }
+}
+
+/// The same without `ask`.
+fn stations_grammar<'a>(alloc: Global, sim_help: &'a str) -> Result<Command<'a>, AllocError>
+    ensures { IfOk result (IsCommand (with_subcommand (with_subcommand (with_subcommand
+        (with_subcommand top_app sim_app.top) dump_app.top) loop_app.top) station_app.top)) }
+{
+    let told = files_grammar(alloc, sim_help)?;
+    match station_command(alloc) {
+        Ok(station) => told.subcommand(station),
+        Err(AllocError) => {
+            let_go(told);
+            Err(AllocError)
+        }
+    }
+}
+
+/// The same without `station` too.
+fn files_grammar<'a>(alloc: Global, sim_help: &'a str) -> Result<Command<'a>, AllocError>
+    ensures { IfOk result (IsCommand (with_subcommand (with_subcommand (with_subcommand top_app
+        sim_app.top) dump_app.top) loop_app.top)) }
+{
+    let told = lines_grammar(alloc, sim_help)?;
+    match loop_command(alloc) {
+        Ok(looped) => told.subcommand(looped),
+        Err(AllocError) => {
+            let_go(told);
+            Err(AllocError)
+        }
+    }
+}
+
+/// The same with `sim` and `dump` alone.
+fn lines_grammar<'a>(alloc: Global, sim_help: &'a str) -> Result<Command<'a>, AllocError>
+    ensures { IfOk result (IsCommand (with_subcommand (with_subcommand top_app sim_app.top)
+        dump_app.top)) }
+{
+    let told = script_grammar(alloc, sim_help)?;
+    match dump_command(alloc) {
+        Ok(dump) => told.subcommand(dump),
+        Err(AllocError) => {
+            let_go(told);
+            Err(AllocError)
+        }
+    }
+}
+
+/// The same with `sim` alone.
+fn script_grammar<'a>(alloc: Global, sim_help: &'a str) -> Result<Command<'a>, AllocError>
+    ensures { IfOk result (IsCommand (with_subcommand top_app sim_app.top)) }
+{
+    let top = top_command(alloc)?;
+    match sim_command(alloc, sim_help) {
+        Ok(sim) => top.subcommand(sim),
+        Err(AllocError) => {
+            let_go(top);
+            Err(AllocError)
+        }
+    }
+}
+
+fn top_command<'a>(alloc: Global) -> Result<Command<'a>, AllocError>
+    ensures { IfOk result (IsCommand top_app) }
+{
+    Command::new(alloc, "cfdp_node")
+        .bin_name("cfdp_node")?
+        .about("Sends files by the CCSDS File Delivery Protocol, between two stations or as one")
+        .after_help(
+            "'cfdp_node sim --help' shows the commands of a script, 'cfdp_node dump --help' the lines of a dump, 'cfdp_node loop --help' what is sent how, 'cfdp_node station --help' how one station runs, 'cfdp_node ask --help' how a station that runs is told what to do.",
+        )
+        .arg_required_else_help(true)
+        .arg(flag(alloc, "version", "Prints the version"))
+}
+
+fn sim_command<'a>(alloc: Global, help: &'a str) -> Result<Command<'a>, AllocError>
+    ensures { IfOk result (IsCommand sim_app) }
+{
+    let plain = Command::new(alloc, "sim")
+        .about("Runs a script of two stations, and reports on standard output")
+        .after_help(help);
+    shown_command(alloc, plain)?.arg(input_argument(alloc))
+}
+
+fn dump_command<'a>(alloc: Global) -> Result<Command<'a>, AllocError>
+    ensures { IfOk result (IsCommand dump_app) }
+{
+    told_command(alloc)?.arg(input_argument(alloc))
+}
+
+/// `dump` with what the lines are, and how they are told.
+fn told_command<'a>(alloc: Global) -> Result<Command<'a>, AllocError>
+    ensures { IfOk result (IsCommand told_app) }
+{
+    frames_command(alloc)?
+        .arg(flag(
+            alloc,
+            "long",
+            "Tells also direction, destination, fault location and options of a PDU",
+        ))?
+        .arg(flag(
+            alloc,
+            "fields",
+            "Tells each field in a line of its own, with its section of the standard",
+        ))
+}
+
+/// `dump` with what the lines are, and which fields frames have.
+fn frames_command<'a>(alloc: Global) -> Result<Command<'a>, AllocError>
+    ensures { IfOk result (IsCommand frames_app) }
+{
+    lines_command(alloc)?
+        .arg(insert_argument(alloc))?
+        .arg(flag(
+            alloc,
+            "control-field",
+            "Frames have an operational control field",
+        ))?
+        .arg(flag(
+            alloc,
+            "error-control",
+            "Frames have a frame error control field",
+        ))
+}
+
+/// `dump` with what the lines are.
+fn lines_command<'a>(alloc: Global) -> Result<Command<'a>, AllocError>
+    ensures { IfOk result (IsCommand lines_app) }
+{
+    Command::new(alloc, "dump")
+        .about("Tells on standard output what lines spell")
+        .after_help(DUMP_HELP)
+        .arg(kind_argument(alloc))?
+        .arg(zone_argument(alloc))
+}
+
+fn ask_command<'a>(alloc: Global) -> Result<Command<'a>, AllocError>
+    ensures { IfOk result (IsCommand ask_app) }
+{
+    address_command(alloc)?.arg(words_argument(alloc))
+}
+
+fn play_command<'a>(alloc: Global) -> Result<Command<'a>, AllocError>
+    ensures { IfOk result (IsCommand play_app) }
+{
+    Command::new(alloc, "play")
+        .about("Serves a page in a browser in which two stations can be tried")
+        .after_help(PLAY_HELP)
+        .arg(listen_argument(alloc))
+}
+
+/// `ask` without the words of a command.
+fn address_command<'a>(alloc: Global) -> Result<Command<'a>, AllocError>
+    ensures { IfOk result (IsCommand address_app) }
+{
+    Command::new(alloc, "ask")
+        .about("Sends a command to a station, and prints what it answers")
+        .after_help(ASK_HELP)
+        .arg(address_argument(alloc))
+}
+
+/// Where the page is.
+fn listen_argument<'a>(alloc: Global) -> Arg<'a>
+    ensures { (rule_of result ≡ listen_rule) × (result.global ≡ false) }
+{
+    Arg::new(alloc, "listen")
+        .long("listen")
+        .value_name("ADDR")
+        .default_value("127.0.0.1:8090")
+        .help("The TCP address of the page, on this machine: HOST:PORT")
+}
+
+/// A command with one argument more.
+pub fn with_argument<'a>(command: Command<'a>, argument: Arg<'a>) -> Result<Command<'a>, AllocError>
+    requires command { HasNoGlobals command }
+    requires argument { argument.global ≡ false }
+    ensures { IfOk result (IsCommand (with_rule (app_of command.entry) (rule_of argument.entry))) }
+{
+    command.arg(argument)
+}
+
+/// An argument that is there or not.
+pub fn flag<'a>(alloc: Global, name: &'a str, help: &'a str) -> Arg<'a>
+    ensures { (rule_of result ≡ flag_rule name.now) × (result.global ≡ false) }
+{
+    Arg::new(alloc, name)
+        .long(name)
+        .help(help)
+        .action(ArgAction::SetTrue)
+}
+
+/// A file that something is written to.
+pub fn file_for<'a>(alloc: Global, name: &'a str, help: &'a str) -> Arg<'a>
+    ensures { (rule_of result ≡ file_rule name.now) × (result.global ≡ false) }
+{
+    Arg::new(alloc, name)
+        .long(name)
+        .value_name("FILE")
+        .help(help)
+}
+
+fn input_argument<'a>(alloc: Global) -> Arg<'a>
+    ensures { (rule_of result ≡ input_rule) × (result.global ≡ false) }
+{
+    Arg::new(alloc, "file")
+        .value_name("FILE")
+        .help("What is read; standard input without it")
+}
+
+fn address_argument<'a>(alloc: Global) -> Arg<'a>
+    ensures { (rule_of result ≡ address_rule) × (result.global ≡ false) }
+{
+    Arg::new(alloc, "address")
+        .value_name("ADDR")
+        .help("The address of --control of that station")
+        .required(true)
+}
+
+fn words_argument<'a>(alloc: Global) -> Arg<'a>
+    ensures { (rule_of result ≡ words_rule) × (result.global ≡ false) }
+{
+    Arg::new(alloc, "words")
+        .value_name("WORD")
+        .help("The words of the command; help lists all commands")
+        .action(ArgAction::Append)
+        .num_args(1..)
+        .required(true)
+}
+
+fn kind_argument<'a>(alloc: Global) -> Arg<'a>
+    ensures { (rule_of result ≡ kind_rule) × (result.global ≡ false) }
+{
+    Arg::new(alloc, "kind")
+        .value_name("KIND")
+        .help("What the lines are: pdus or frames")
+        .required(true)
+}
+
+fn zone_argument<'a>(alloc: Global) -> Arg<'a>
+    ensures { (rule_of result ≡ zone_rule) × (result.global ≡ false) }
+{
+    Arg::new(alloc, "zone")
+        .long("zone")
+        .value_name("Z")
+        .help("Octets of a frame's packet zone, 16 to 2040")
+        .value_parser(value_parser!(u64).range(LEAST_ZONE as i64..=MOST_ZONE as i64))
+        .default_value("256")
+}
+
+fn insert_argument<'a>(alloc: Global) -> Arg<'a>
+    ensures { (rule_of result ≡ insert_rule) × (result.global ≡ false) }
+{
+    Arg::new(alloc, "insert-zone")
+        .long("insert-zone")
+        .value_name("I")
+        .help("Octets of a frame's insert zone, 0 to 64")
+        .value_parser(value_parser!(u64).range(0..=64))
+        .default_value("0")
+}
+
+/// Prints what the parser has to say, and gives the status that goes with it, which is that of
+/// memory too where help can't be printed.
+fn answered(rt: &HostRuntime, error: &Error) -> u8
+    ensures kind { IsStatusOf (kind_of error.now) result }
+    ensures status { (result ≡ 0) ⊎ (result ≡ 2) ⊎ (result ≡ 3) }
+{
+    if error.kind() == ErrorKind::OutOfMemory {
+        return NO_MEMORY;
+    }
+    let printed = error.print(rt);
+    if error.kind() == ErrorKind::ValueValidation {
+        let _ = eprintln!(rt; "A number is a whole one from 0 to 18446744073709551615, in digits.");
+    }
+    if error.use_stderr() {
+        MISTAKE
+    } else if printed.is_ok() {
+        0
+    } else {
+        NO_MEMORY
+    }
+}
+
+/// Tells that the words can't be read, and gives the status that goes with it.
+fn unread_status(rt: &HostRuntime, error: &io::Error) -> u8
+    ensures { (result ≡ MISTAKE) ⊎ (result ≡ NO_MEMORY) }
+{
+    if error.kind() == io::ErrorKind::InvalidData {
+        let _ = eprintln!(rt; "error: an argument isn't UTF-8");
+        MISTAKE
+    } else {
+        NO_MEMORY
+    }
+}

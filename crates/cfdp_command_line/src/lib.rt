@@ -1,0 +1,17 @@
+//! What the words of a command line ask of the program, what it says of them, and its help.
+//!
+//! Tested by `tests/rows/` and `tests/settings.py`, through the program above.
+#![tactic(auto)]
+
+mod arguments;
+mod dropping;
+mod looping;
+mod settings_file;
+mod shown;
+mod station;
+
+pub use arguments::{Request, SimRequest, parse, read, version_status};
+pub use looping::LoopRequest;
+pub use station::{
+    CarrierKind, StationFlags, StationLimits, StationNumbers, StationRequest, TimeUnit,
+};

@@ -1,0 +1,229 @@
+//! What the words behind `loop` ask for.
+ghost use Rattle.std.specs.Prelude.{◌≡◌, ◌≤◌, false, IfOk, IfSome, option_map};
+ghost use Rattle.clap.specs.Matches.{found_of};
+ghost use Rattle.clap.specs.Walk.{rows_of, rule_of};
+ghost use Rattle.cfdp_command_line.specs.Looping.{drop_rule, files_app, folders_app, loop_app};
+ghost use Rattle.cfdp_command_line.specs.Looping.{loop_asked, loop_of, number_of_word, numbers_app};
+ghost use Rattle.cfdp_command_line.specs.Looping.{place_rule, tuned_rule, turns_rule, words_asked};
+ghost use Rattle.cfdp_command_line.specs.Looping as requests;
+ghost use Rattle.cfdp_command_line.specs.Request.{IsCommand};
+ghost use Rattle.cfdp_command_line.specs.Shown.{asked_shown, shown_of};
+
+use crate::arguments::word_of;
+use crate::shown::{shown_by, shown_command};
+use cfdp_report::Shown;
+use clap::{Arg, ArgMatches, Command, value_parser};
+use std::alloc::{AllocError, Global};
+
+/// A file that is to go from one folder into another.
+#[derive(Drop)]
+pub struct LoopRequest {
+    /// The path of the folder that it lies in.
+    pub from: String,
+    /// The path of the folder that it is to come to.
+    pub to: String,
+    /// Its name in the first folder.
+    pub source: String,
+    /// Its name in the second one.
+    pub destination: String,
+    /// The most turns, 1 to 1,000,000,000,000: they carry more than the longest file.
+    pub turns: u64,
+    /// Each frame of that number is lost, up to 1,000,000; with 0 none is.
+    pub drop_every: u64,
+    /// What is to be shown of it.
+    pub shown: Shown,
+}
+
+/// The same but for what is to be shown, in words of the command line.
+#[derive(Clone, Copy)]
+struct LoopWords<'a> {
+    from: &'a str,
+    to: &'a str,
+    source: &'a str,
+    destination: &'a str,
+    turns: u64,
+    drop_every: u64,
+}
+
+const LOOP_HELP: &str = "\
+Two stations of this process, over two UDP sockets of 127.0.0.1: the first
+sends the file SRC of the folder FROM, the second puts it into the folder TO,
+as DST. A name is 1 to 64 of A-Z a-z 0-9 . _ - and begins with no point. A file
+of up to 2^48 octets is read as it is sent. Where a read finds that it changed,
+a line on standard error says so, and nothing comes. DST appears whole or not at
+all, in the place of a file of that name.
+In a turn both stations are told its number as the time, send, and take what
+came: 16,384 octets of the file at most. The run ends when the transfer is over
+at both, or after N turns.
+With --drop K, each Kth frame of both is not sent, and has to be asked for.
+
+Report: as that of sim, without the files.
+--trace, --chart FILE, --pcap FILE and --explain show as those of sim what
+passes, and what went wrong; in the place of a script's line stands the number
+of the turn, 0 for the put.
+Where standard error is a terminal, one line on it says how far the transfer is:
+octets received, gaps between them, and PDUs that both stations sent.
+
+Exit status: 0 the file was delivered, 1 it wasn't, 2 bad arguments, 3 a folder,
+a file, a socket or the output failed, or no memory (told on standard error).
+
+Example:
+  mkdir a b && echo hello > a/x && cfdp_node loop a b x y --drop 3";
+
+/// The grammar of what stands behind `loop`.
+pub fn loop_command<'a>(alloc: Global) -> Result<Command<'a>, AllocError>
+    ensures { IfOk result (IsCommand loop_app) }
+{
+    shown_command(alloc, numbers_command(alloc)?)
+}
+
+/// The same without what is shown beside the report.
+fn numbers_command<'a>(alloc: Global) -> Result<Command<'a>, AllocError>
+    ensures { IfOk result (IsCommand numbers_app) }
+{
+    files_command(alloc)?
+        .arg(turns_argument(alloc))?
+        .arg(drop_argument(alloc))
+}
+
+/// The same without options.
+fn files_command<'a>(alloc: Global) -> Result<Command<'a>, AllocError>
+    ensures { IfOk result (IsCommand files_app) }
+{
+    folders_command(alloc)?
+        .arg(place(alloc, "source", "SRC", "Its name in FROM"))?
+        .arg(place(alloc, "destination", "DST", "Its name in TO"))
+}
+
+/// The same with both folders alone.
+fn folders_command<'a>(alloc: Global) -> Result<Command<'a>, AllocError>
+    ensures { IfOk result (IsCommand folders_app) }
+{
+    Command::new(alloc, "loop")
+        .about("Sends a file from one folder to another, by two stations over two UDP sockets")
+        .after_help(LOOP_HELP)
+        .arg(place(alloc, "from", "FROM", "The folder that the file lies in"))?
+        .arg(place(alloc, "to", "TO", "The folder that it is to come to"))
+}
+
+/// A word that has to be said.
+fn place<'a>(alloc: Global, name: &'a str, shown: &'a str, help: &'a str) -> Arg<'a>
+    ensures { (rule_of result ≡ place_rule name.now) × (result.global ≡ false) }
+{
+    Arg::new(alloc, name)
+        .value_name(shown)
+        .help(help)
+        .required(true)
+}
+
+fn turns_argument<'a>(alloc: Global) -> Arg<'a>
+    ensures { (rule_of result ≡ turns_rule) × (result.global ≡ false) }
+{
+    Arg::new(alloc, "turns")
+        .long("turns")
+        .value_name("N")
+        .help("The most turns, 1 to 1000000000000")
+        .value_parser(value_parser!(u64).range(1..=1000000000000))
+        .default_value("1000000000000")
+}
+
+/// Which frames are lost for a trial.
+pub fn drop_argument<'a>(alloc: Global) -> Arg<'a>
+    ensures { (rule_of result ≡ drop_rule) × (result.global ≡ false) }
+{
+    tuned(
+        alloc,
+        "drop",
+        "K",
+        "0",
+        "Loses each Kth frame, up to 1000000; 0 loses none",
+    )
+}
+
+/// A number up to 1,000,000, and the one that stands for it where none is said.
+pub fn tuned<'a>(
+    alloc: Global,
+    name: &'a str,
+    shown: &'a str,
+    default: &'a str,
+    help: &'a str,
+) -> Arg<'a>
+    ensures { (rule_of result ≡ tuned_rule name.now default.now) × (result.global ≡ false) }
+{
+    Arg::new(alloc, name)
+        .long(name)
+        .value_name(shown)
+        .help(help)
+        .value_parser(value_parser!(u64).range(0..=1000000))
+        .default_value(default)
+}
+
+/// What the words behind `loop` ask for.
+///
+/// # Errors
+///
+/// `AllocError` where there is no memory for the words.
+pub fn loop_request(
+    alloc: Global,
+    arguments: &ArgMatches<'_>,
+) -> Result<Option<LoopRequest>, AllocError>
+    ensures { IfOk result (λ found. option_map loop_asked found
+        ≡ loop_of (rows_of (found_of arguments.now))) }
+{
+    match loop_words(arguments) {
+        Some(words) => Ok(Some(words.kept(alloc, shown_by(alloc, arguments)?)?)),
+        None => Ok(None),
+    }
+}
+
+fn loop_words<'a>(arguments: &ArgMatches<'a>) -> Option<LoopWords<'a>>
+    ensures { option_map (words_asked (shown_of (rows_of (found_of arguments.now)))) result
+        ≡ loop_of (rows_of (found_of arguments.now)) }
+{
+    Some(LoopWords {
+        from: word_of(arguments, "from")?,
+        to: word_of(arguments, "to")?,
+        source: word_of(arguments, "source")?,
+        destination: word_of(arguments, "destination")?,
+        turns: number_in(arguments, "turns", 1, 1_000_000_000_000)?,
+        drop_every: number_in(arguments, "drop", 0, 1_000_000)?,
+    })
+}
+
+impl LoopWords<'_> {
+    /// The same, in memory of its own, with what is to be shown.
+    fn kept(self, alloc: Global, shown: Shown) -> Result<LoopRequest, AllocError>
+        ensures { IfOk result (λ request.
+            loop_asked request ≡ words_asked (asked_shown shown) self.entry) }
+    {
+        Ok(LoopRequest {
+            from: String::from_str(alloc, self.from)?,
+            to: String::from_str(alloc, self.to)?,
+            source: String::from_str(alloc, self.source)?,
+            destination: String::from_str(alloc, self.destination)?,
+            turns: self.turns,
+            drop_every: self.drop_every,
+            shown,
+        })
+    }
+}
+
+/// The number that was found for this argument, if it lies between these two or is one of them.
+pub fn number_in(arguments: &ArgMatches<'_>, name: &str, low: u64, high: u64) -> Option<u64>
+    ensures number { result
+        ≡ requests.number_in name.now low high (rows_of (found_of arguments.now)) }
+    ensures range { IfSome result (λ number. number ≤ high) }
+{
+    number_of(word_of(arguments, name)?, low, high)
+}
+
+/// The number that this word says, if it lies between these two or is one of them.
+fn number_of(word: &str, low: u64, high: u64) -> Option<u64>
+    ensures number { result ≡ number_of_word low high word.now }
+    ensures range { IfSome result (λ number. number ≤ high) }
+{
+    match word.parse::<u64>() {
+        Ok(number) if low <= number && number <= high => Some(number),
+        _ => None,
+    }
+}

@@ -1,0 +1,72 @@
+//! The words that ask what is to be shown of a run beside its report.
+ghost use Rattle.std.specs.Prelude.{◌≡◌, IfOk};
+ghost use Rattle.clap.specs.Matches.{found_of};
+ghost use Rattle.clap.specs.Simple.{app_of};
+ghost use Rattle.clap.specs.Walk.{rows_of};
+ghost use Rattle.cfdp_command_line.specs.Request.{HasNoGlobals, IsCommand};
+ghost use Rattle.cfdp_command_line.specs.Shown.{asked_shown, shown_of, with_shown, with_told};
+
+use crate::arguments::{file_for, flag, is_given, owned_word, with_argument};
+use cfdp_report::Shown;
+use clap::{ArgMatches, Command};
+use std::alloc::{AllocError, Global};
+
+/// A subcommand with the arguments that say what is to be shown.
+pub fn shown_command<'a>(alloc: Global, command: Command<'a>) -> Result<Command<'a>, AllocError>
+    requires { HasNoGlobals command }
+    ensures { IfOk result (IsCommand (with_shown (app_of command.entry))) }
+{
+    let told = told_command(alloc, command)?;
+    let captured = with_argument(
+        told,
+        file_for(
+            alloc,
+            "pcap",
+            "Writes the PDUs of both directions to FILE, as a capture",
+        ),
+    )?;
+    with_argument(
+        captured,
+        file_for(
+            alloc,
+            "chart",
+            "Writes what passes to FILE, as a sequence diagram in Mermaid's text",
+        ),
+    )
+}
+
+/// The same with those alone that say what is told on standard error.
+fn told_command<'a>(alloc: Global, command: Command<'a>) -> Result<Command<'a>, AllocError>
+    requires { HasNoGlobals command }
+    ensures { IfOk result (IsCommand (with_told (app_of command.entry))) }
+{
+    command
+        .arg(flag(
+            alloc,
+            "explain",
+            "Says what conditions say, and what was sent, lost and dropped",
+        ))?
+        .arg(flag(
+            alloc,
+            "trace",
+            "Tells what passes on standard error, in the order of events",
+        ))
+}
+
+/// What the words behind a subcommand ask to be shown.
+///
+/// # Errors
+///
+/// `AllocError` where there is no memory for the files' names.
+pub fn shown_by(alloc: Global, arguments: &ArgMatches<'_>) -> Result<Shown, AllocError>
+    ensures { IfOk result (λ shown. asked_shown shown
+        ≡ shown_of (rows_of (found_of arguments.now))) }
+{
+    Ok(Shown {
+        explain: is_given(arguments, "explain"),
+        trace: is_given(arguments, "trace"),
+        pcap: owned_word(alloc, arguments, "pcap")?,
+        chart: owned_word(alloc, arguments, "chart")?,
+        keeps: false,
+    })
+}

@@ -1,0 +1,708 @@
+//! What the words behind `station` ask for.
+ghost use Rattle.std.specs.Prelude.{◌≡◌, [], false, map, unwrap_or, IfOk, option_map};
+ghost use Rattle.clap.specs.Matches.{found_of};
+ghost use Rattle.clap.specs.Walk.{all_of, rows_of, rule_of};
+ghost use Rattle.cfdp_command_line.specs.Looping.{number_rule};
+ghost use Rattle.cfdp_command_line.specs.Request.{IsCommand};
+ghost use Rattle.cfdp_command_line.specs.Shown.{file_rule};
+ghost use Rattle.cfdp_command_line.specs.Station.{addresses_app, carried_app, carrier_of_word};
+ghost use Rattle.cfdp_command_line.specs.Station.{consoled_app};
+ghost use Rattle.cfdp_command_line.specs.Station.{file_app, first_number_rule, flags_of, held_app};
+ghost use Rattle.cfdp_command_line.specs.Station.{incoming_app, limits_of, lists_app, named_rule};
+ghost use Rattle.cfdp_command_line.specs.Station.{names_app, numbered_app, numbers_of};
+ghost use Rattle.cfdp_command_line.specs.Station.{operated_app};
+ghost use Rattle.cfdp_command_line.specs.Station.{own_numbers_app, pairs_rule, said_number_rule};
+ghost use Rattle.cfdp_command_line.specs.Station.{said_rule, sent_app, spooled_app, station_app};
+ghost use Rattle.cfdp_command_line.specs.Station.{station_asked, station_of, stores_app};
+ghost use Rattle.cfdp_command_line.specs.Station.{told_app, unit_of_word, words_asked};
+
+use crate::arguments::{file_for, flag, is_given, owned_word, word_of};
+use crate::looping::{drop_argument, number_in, tuned};
+use crate::shown::{shown_by, shown_command};
+use cfdp_report::Shown;
+use clap::builder::ValueParser;
+use clap::{Arg, ArgAction, ArgMatches, Command, value_parser};
+use std::alloc::{AllocError, Global};
+
+/// A station that is to run, and what it is to send.
+#[derive(Drop)]
+pub struct StationRequest {
+    /// Who it is, and how it runs.
+    pub numbers: StationNumbers,
+    /// How much it does at a time, and what it takes.
+    pub limits: StationLimits,
+    /// What is said by a flag.
+    pub flags: StationFlags,
+    /// What a datagram carries.
+    pub carrier: CarrierKind,
+    /// The unit of the times that `--set` sets; `--idle` stays in seconds.
+    pub unit: TimeUnit,
+    /// The address at which it listens.
+    pub listen: String,
+    /// The address of its peer.
+    pub to: String,
+    /// The path of the folder that received files come to.
+    pub inbox: Option<String>,
+    /// The path of the folder that the files lie in which it sends.
+    pub outbox: Option<String>,
+    /// The path of the folder whose files it sends as they come there.
+    pub spool: Option<String>,
+    /// The path of the file that keeps which numbers are reserved, where it is said.
+    pub state: Option<String>,
+    /// The TCP address on which commands are taken.
+    pub control: Option<String>,
+    /// The TCP address at which a browser is shown it.
+    pub console: Option<String>,
+    /// The path of the file with the token that the console wants.
+    pub console_token: Option<String>,
+    /// The files that it sends: the name of each in that folder, and behind it the one that it is
+    /// to have at the peer.
+    pub puts: Vec<String>,
+    /// What is set: the key of each setting, and behind it the value.
+    pub sets: Vec<String>,
+    /// What is to be shown of it.
+    pub shown: Shown,
+}
+
+/// Who a station is, and how it runs.
+#[derive(Clone, Copy)]
+pub struct StationNumbers {
+    /// The id of its entity.
+    pub id: u64,
+    /// The id of its peer's.
+    pub peer: u64,
+    /// The seconds after which it ends in which nothing came and nothing was open, up to 1,000,000;
+    /// with 0 it never does.
+    pub idle: u64,
+    /// The number of its first transaction; with 0 it begins behind those that are reserved.
+    pub first_number: u64,
+    /// The most frames that leave in a second, up to 1,000,000; with 0 any number.
+    pub rate: u64,
+    /// Each frame of that number is lost, up to 1,000,000; with 0 none is.
+    pub drop_every: u64,
+}
+
+/// How much a station does at a time, and what it takes.
+#[derive(Clone, Copy)]
+pub struct StationLimits {
+    /// How often a file of the spool is sent anew after a fault that may pass, up to 1,000.
+    pub retries: u64,
+    /// The most puts that are open at a time, 1 to 3,072.
+    pub at_once: u64,
+    /// The most octets of a file that comes, up to 2^48; greater ones are refused. With 0 there is
+    /// no limit.
+    pub most_size: u64,
+    /// The most files that come at a time, up to 4,096; with 0 there is no limit.
+    pub most_open: u64,
+}
+
+/// What is said of a station by a flag, which is there or not.
+#[derive(Clone, Copy)]
+pub struct StationFlags {
+    /// A file of the spool that was sent is removed, and not kept in the spool's folder `.sent`.
+    pub remove_sent: bool,
+    /// A file that comes under a name that is there is refused.
+    pub no_overwrite: bool,
+    /// Commands are read from standard input.
+    pub commands: bool,
+    /// Lines begin with no time.
+    pub no_time: bool,
+    /// Each line is a JSON object.
+    pub json: bool,
+}
+
+/// What a datagram carries.
+#[derive(Clone, Copy, PartialEq, Eq)]
+pub enum CarrierKind {
+    /// An AOS transfer frame.
+    Frames,
+    /// A space packet.
+    Packets,
+    /// A PDU of the file delivery protocol.
+    Pdus,
+}
+
+/// The unit of times that are set.
+#[derive(Clone, Copy, PartialEq, Eq)]
+pub enum TimeUnit {
+    /// A second.
+    Seconds,
+    /// A millisecond.
+    Milliseconds,
+}
+
+/// What has to be right of what was said, in words of the command line.
+#[derive(Clone, Copy)]
+struct StationWords<'a> {
+    numbers: StationNumbers,
+    limits: StationLimits,
+    carrier: CarrierKind,
+    unit: TimeUnit,
+    listen: &'a str,
+    to: &'a str,
+}
+
+const STATION_HELP: &str = "\
+One station over a UDP socket: it sends the files that --put names and those that
+come to the folder of --spool, and puts those that come from its peer into the
+folder of --inbox. The system drops datagrams that come from other addresses than
+the peer's. ADDR is as in 127.0.0.1:5001. The names of files in folders are 1 to
+64 of A-Z a-z 0-9 . _ - and begin with no point. Files of up to 2^48 octets are
+read as they are sent, and written as they come. One that is sent is as it was
+when its put was made: where a read finds that it changed, a line on standard
+error says so, the peer publishes nothing of it, and the other puts go on.
+
+A datagram is one AOS frame, with --carrier packets one space packet, and with
+--carrier pdus one PDU. Both stations have to say the same.
+
+It ends once all puts are made and all its transactions are closed, those that it
+receives too, and no frame of the link came for as many seconds as --idle says;
+without --idle it never does. Let that be longer than all times of both stations,
+since so long an answer that was lost is waited for.
+4096 transactions can be open at once. A put waits while --at-once others are
+open, or while only 1024 more could be: these are for what the peer sends. What
+is over is let go.
+
+A file that is moved into the folder of --spool is sent, under its own name. One
+that is still written has to have a name that begins with a point, as .a.part:
+such a file is left alone. Rename it once it is whole. What was sent is moved to
+.sent in that folder, or removed with --remove-sent. After a fault that may pass,
+as silence, it is sent anew, --retries times; else it is moved to .failed.
+
+--most-size, --most-open and --no-overwrite say which files are refused that the
+peer sends; without --no-overwrite one takes the place of another of its name.
+
+--commands reads a command a line from standard input while it runs, and
+--control takes them on a TCP address, as 'cfdp_node ask' sends them. The command
+help lists them all. Whoever can reach that address can give commands: let it be
+one of this machine, as 127.0.0.1:5101.
+
+--console shows the station to a browser, as at http://127.0.0.1:8080/, with its
+link, transactions and log, and buttons for put, cancel, suspend, resume, freeze
+and thaw; the same as JSON and for Prometheus (docs/CONSOLE.md). Without
+--console-token the address has to be one of this machine, and whoever reaches it
+commands the station. With it, each request has to show the token that stands in
+FILE: 16 to 256 visible ASCII characters.
+
+--config takes from a TOML file what the command line doesn't say, by the names
+of the options: a number as at-once = 4, a word as inbox = 'RECEIVED', a flag as
+json = true, pairs as put = [['a.bin', 'b.bin']], and in a table [set] the keys
+of --set, as zone = 1024. An option that is said counts in place of the file's,
+but --put and --set add to it. --print-config prints such a file with all
+options, what each means, and the values that hold where nothing is said.
+
+Numbers of transactions are reserved in a file before they are used, so that none
+comes back when a station is killed and started anew: FOLDER.state beside the
+folder of --outbox or --spool, else of --inbox. --state names another file, and
+--first-number a number, for which you answer then.
+--rate N sends a frame each 1/N seconds; with 0 as fast as it can. The system
+drops what a socket has no room for, and it is sent again.
+
+What is wrong with the link is told on standard error at once, and then once a
+minute at most, as 'note: ..': where the peer is set up otherwise, what was
+dropped, and what is waited for.
+
+Keys of --set, beside those of 'sim --help', which hold for this station alone:
+  spacecraft 42            of both directions, 0 to 255
+  virtual_channel 5, data_virtual_channel 7, apid 100
+                           of the frames that it sends, with directives and with
+                           file data: 0 to 62, and 0 to 2046
+  peer_virtual_channel 6, peer_data_virtual_channel 8, peer_apid 101
+                           of those that it takes
+  insert_zone 0, control_field 0, error_control 0
+                           of the frames that it sends: octets of the insert
+                           zone, 0 to 64; 1 with an operational control field;
+                           1 with a frame error control field (CRC-16)
+  peer_insert_zone 0, peer_control_field 0, peer_error_control 0
+                           of those that it takes
+Of the two stations that with the greater id has channels and APIDs exchanged.
+  packet_type 0            of packets that leave by --carrier packets: 0 telemetry,
+                           1 telecommands
+  secondary_header 0, peer_secondary_header 0
+                           octets of the secondary header of those, all zero, and
+                           of those that come, which are passed over: 0 to 63
+number_width is 8 here. Times are in seconds, or with --unit ms in milliseconds.
+
+Report, as it happens: what the station tells its user, as in that of sim, with
+its id in front, and 'line N NAME' where the Nth put was refused. Last
+comes 'complete K of N'. Each line begins with the time, without --no-time; with
+--json it is a JSON object.
+--trace, --chart FILE and --pcap FILE show as it passes, and --explain at the end,
+as those of sim, what passed; in the place of a script's line stands the number of
+the turn. There 1 is the station with the lesser id.
+Where standard error is a terminal, one line on it says how far the transfer is:
+octets and gaps of the file that began to come last, and PDUs sent.
+
+Exit status: 0 all puts completed, 1 some not, 2 bad arguments or a bad settings
+file, 3 a folder, a file, a socket or the output failed, or no memory (told on
+standard error).
+
+Example, on two terminals:
+  cfdp_node station --id 2 --peer 1 --listen 127.0.0.1:5002 --to 127.0.0.1:5001 \\
+    --inbox RECEIVED --idle 30
+  cfdp_node station --id 1 --peer 2 --listen 127.0.0.1:5001 --to 127.0.0.1:5002 \\
+    --outbox FILES --put a.bin b.bin --put log.txt log.txt --idle 30
+And one that runs on:
+  cfdp_node station --print-config > station.toml
+  cfdp_node station --config station.toml --id 1 --peer 2 --spool SEND \\
+    --listen 127.0.0.1:5001 --to 127.0.0.1:5002 --control 127.0.0.1:5101";
+
+/// The grammar of what stands behind `station`.
+pub fn station_command<'a>(alloc: Global) -> Result<Command<'a>, AllocError>
+    ensures { IfOk result (IsCommand station_app) }
+{
+    shown_command(alloc, file_command(alloc)?)
+}
+
+/// The same without what is shown beside the report.
+fn file_command<'a>(alloc: Global) -> Result<Command<'a>, AllocError>
+    ensures { IfOk result (IsCommand file_app) }
+{
+    told_command(alloc)?
+        .arg(file_for(alloc, "config", "Takes from this TOML file what isn't said"))?
+        .arg(flag(
+            alloc,
+            "print-config",
+            "Prints such a file, with all options, and does nothing else",
+        ))
+}
+
+/// The same without a file of settings.
+fn told_command<'a>(alloc: Global) -> Result<Command<'a>, AllocError>
+    ensures { IfOk result (IsCommand told_app) }
+{
+    consoled_command(alloc)?
+        .arg(flag(alloc, "no-time", "Begins lines with no time"))?
+        .arg(flag(alloc, "json", "Writes an object a line, in JSON"))
+}
+
+/// The same without what says how lines are written.
+fn consoled_command<'a>(alloc: Global) -> Result<Command<'a>, AllocError>
+    ensures { IfOk result (IsCommand consoled_app) }
+{
+    operated_command(alloc)?
+        .arg(word_for(
+            alloc,
+            "console",
+            "ADDR",
+            "Shows itself to a browser on this TCP address",
+        ))?
+        .arg(file_for(
+            alloc,
+            "console-token",
+            "The file with the token that its console wants",
+        ))
+}
+
+/// The same without a console.
+fn operated_command<'a>(alloc: Global) -> Result<Command<'a>, AllocError>
+    ensures { IfOk result (IsCommand operated_app) }
+{
+    incoming_command(alloc)?
+        .arg(flag(alloc, "commands", "Reads commands from standard input"))?
+        .arg(word_for(
+            alloc,
+            "control",
+            "ADDR",
+            "Takes commands on this TCP address",
+        ))
+}
+
+/// The same without commands.
+fn incoming_command<'a>(alloc: Global) -> Result<Command<'a>, AllocError>
+    ensures { IfOk result (IsCommand incoming_app) }
+{
+    held_command(alloc)?.arg(flag(
+        alloc,
+        "no-overwrite",
+        "Refuses a file whose name is there already",
+    ))
+}
+
+/// The same where a file may come in the place of another.
+fn held_command<'a>(alloc: Global) -> Result<Command<'a>, AllocError>
+    ensures { IfOk result (IsCommand held_app) }
+{
+    sent_command(alloc)?
+        .arg(ranged(
+            alloc,
+            "most-size",
+            "0",
+            0,
+            281474976710656,
+            "Refuses files that come of more than N octets, up to 2^48; 0 any size",
+        ))?
+        .arg(ranged(
+            alloc,
+            "most-open",
+            "0",
+            0,
+            4096,
+            "Refuses a file while N others come, up to 4096; 0 any number",
+        ))
+}
+
+/// The same without limits of what comes.
+fn sent_command<'a>(alloc: Global) -> Result<Command<'a>, AllocError>
+    ensures { IfOk result (IsCommand sent_app) }
+{
+    spooled_command(alloc)?
+        .arg(ranged(
+            alloc,
+            "retries",
+            "3",
+            0,
+            1000,
+            "Sends a file of the spool up to N times more after a fault that may pass",
+        ))?
+        .arg(ranged(
+            alloc,
+            "at-once",
+            "4",
+            1,
+            3072,
+            "Has up to N puts open at a time, 1 to 3072",
+        ))
+}
+
+/// The same without numbers of what is sent.
+fn spooled_command<'a>(alloc: Global) -> Result<Command<'a>, AllocError>
+    ensures { IfOk result (IsCommand spooled_app) }
+{
+    lists_command(alloc)?
+        .arg(word_for(
+            alloc,
+            "spool",
+            "FOLDER",
+            "The folder whose files are sent as they come there",
+        ))?
+        .arg(flag(
+            alloc,
+            "remove-sent",
+            "Removes a file of the spool that was sent, in place of keeping it",
+        ))
+}
+
+/// The same without a spool.
+fn lists_command<'a>(alloc: Global) -> Result<Command<'a>, AllocError>
+    ensures { IfOk result (IsCommand lists_app) }
+{
+    stores_command(alloc)?
+        .arg(pairs(alloc, "put", "NAME", "Sends the first file as the second"))?
+        .arg(pairs(alloc, "set", "WORD", "Sets the value of a key"))
+}
+
+/// The same without what may be said more than once.
+fn stores_command<'a>(alloc: Global) -> Result<Command<'a>, AllocError>
+    ensures { IfOk result (IsCommand stores_app) }
+{
+    carried_command(alloc)?
+        .arg(file_for(alloc, "inbox", "The folder that files come to"))?
+        .arg(file_for(alloc, "outbox", "The folder that files lie in"))?
+        .arg(file_for(
+            alloc,
+            "state",
+            "The file that keeps which numbers were used",
+        ))
+}
+
+/// The same without stores.
+fn carried_command<'a>(alloc: Global) -> Result<Command<'a>, AllocError>
+    ensures { IfOk result (IsCommand carried_app) }
+{
+    own_numbers_command(alloc)?
+        .arg(named(
+            alloc,
+            "carrier",
+            "frames",
+            "What a datagram carries: frames, packets or pdus",
+        ))?
+        .arg(named(
+            alloc,
+            "unit",
+            "s",
+            "The unit of the times that --set sets: s or ms",
+        ))
+}
+
+/// The same without what a datagram carries and the unit of times.
+fn own_numbers_command<'a>(alloc: Global) -> Result<Command<'a>, AllocError>
+    ensures { IfOk result (IsCommand own_numbers_app) }
+{
+    numbered_command(alloc)?
+        .arg(tuned(
+            alloc,
+            "rate",
+            "N",
+            "1000",
+            "Sends N frames a second at most; 0 any number",
+        ))?
+        .arg(drop_argument(alloc))
+}
+
+/// The same without what says which frames leave.
+fn numbered_command<'a>(alloc: Global) -> Result<Command<'a>, AllocError>
+    ensures { IfOk result (IsCommand numbered_app) }
+{
+    addresses_command(alloc)?
+        .arg(tuned(
+            alloc,
+            "idle",
+            "N",
+            "0",
+            "Ends after N seconds in which nothing came or was open; 0 never",
+        ))?
+        .arg(first_number_argument(alloc))
+}
+
+/// The same with ids and addresses alone.
+fn addresses_command<'a>(alloc: Global) -> Result<Command<'a>, AllocError>
+    ensures { IfOk result (IsCommand addresses_app) }
+{
+    names_command(alloc)?
+        .arg(said(alloc, "listen", "ADDR", "The address at which it listens"))?
+        .arg(said(alloc, "to", "ADDR", "The address of its peer"))
+}
+
+/// The same with ids alone.
+fn names_command<'a>(alloc: Global) -> Result<Command<'a>, AllocError>
+    ensures { IfOk result (IsCommand names_app) }
+{
+    Command::new(alloc, "station")
+        .about("Sends and receives files over UDP, as one of two stations")
+        .after_help(STATION_HELP)
+        .arg(said_number(alloc, "id", "The id of its entity"))?
+        .arg(said_number(alloc, "peer", "The id of its peer"))
+}
+
+/// A number that has to be said.
+fn said_number<'a>(alloc: Global, name: &'a str, help: &'a str) -> Arg<'a>
+    ensures { (rule_of result ≡ said_number_rule name.now) × (result.global ≡ false) }
+{
+    said(alloc, name, "N", help).value_parser(value_parser!(u64))
+}
+
+/// A word that has to be said behind its option.
+fn said<'a>(alloc: Global, name: &'a str, shown: &'a str, help: &'a str) -> Arg<'a>
+    ensures { (rule_of result ≡ said_rule name.now) × (result.global ≡ false) }
+{
+    Arg::new(alloc, name)
+        .long(name)
+        .value_name(shown)
+        .help(help)
+        .required(true)
+}
+
+/// A word that may be said behind its option.
+fn word_for<'a>(alloc: Global, name: &'a str, shown: &'a str, help: &'a str) -> Arg<'a>
+    ensures { (rule_of result ≡ file_rule name.now) × (result.global ≡ false) }
+{
+    Arg::new(alloc, name)
+        .long(name)
+        .value_name(shown)
+        .help(help)
+}
+
+/// A word that may be said, and the one that stands for it where none is.
+fn named<'a>(alloc: Global, name: &'a str, default: &'a str, help: &'a str) -> Arg<'a>
+    ensures { (rule_of result ≡ named_rule name.now default.now) × (result.global ≡ false) }
+{
+    Arg::new(alloc, name)
+        .long(name)
+        .value_name("WORD")
+        .help(help)
+        .default_value(default)
+}
+
+/// A number between these two or one of them, and the one that stands for it where none is said.
+fn ranged<'a>(
+    alloc: Global,
+    name: &'a str,
+    default: &'a str,
+    low: u64,
+    high: u64,
+    help: &'a str,
+) -> Arg<'a>
+    ensures { (rule_of result ≡ number_rule name.now low high default.now)
+        × (result.global ≡ false) }
+{
+    Arg::new(alloc, name)
+        .long(name)
+        .value_name("N")
+        .help(help)
+        .value_parser(ValueParser::unsigned(low, high))
+        .default_value(default)
+}
+
+fn first_number_argument<'a>(alloc: Global) -> Arg<'a>
+    ensures { (rule_of result ≡ first_number_rule) × (result.global ≡ false) }
+{
+    Arg::new(alloc, "first-number")
+        .long("first-number")
+        .value_name("N")
+        .help("The number of its first transaction; 0 the next that was never used")
+        .value_parser(value_parser!(u64))
+        .default_value("0")
+}
+
+/// Two words, as often as they are said.
+fn pairs<'a>(alloc: Global, name: &'a str, shown: &'a str, help: &'a str) -> Arg<'a>
+    ensures { (rule_of result ≡ pairs_rule name.now) × (result.global ≡ false) }
+{
+    Arg::new(alloc, name)
+        .long(name)
+        .value_name(shown)
+        .help(help)
+        .action(ArgAction::Append)
+        .num_args(2)
+}
+
+/// What the words behind `station` ask for.
+///
+/// # Errors
+///
+/// `AllocError` where there is no memory for the words.
+pub fn station_request(
+    alloc: Global,
+    arguments: &ArgMatches<'_>,
+) -> Result<Option<StationRequest>, AllocError>
+    ensures { IfOk result (λ found. option_map station_asked found
+        ≡ station_of (rows_of (found_of arguments.now))) }
+{
+    match station_words(arguments) {
+        Some(words) => Ok(Some(words.kept(alloc, arguments)?)),
+        None => Ok(None),
+    }
+}
+
+fn station_words<'a>(arguments: &ArgMatches<'a>) -> Option<StationWords<'a>>
+    ensures { option_map (words_asked (rows_of (found_of arguments.now))) result
+        ≡ station_of (rows_of (found_of arguments.now)) }
+{
+    Some(StationWords {
+        numbers: station_numbers(arguments)?,
+        limits: station_limits(arguments)?,
+        carrier: carrier_of(word_of(arguments, "carrier")?)?,
+        unit: unit_of(word_of(arguments, "unit")?)?,
+        listen: word_of(arguments, "listen")?,
+        to: word_of(arguments, "to")?,
+    })
+}
+
+fn station_numbers(arguments: &ArgMatches<'_>) -> Option<StationNumbers>
+    ensures { result ≡ numbers_of (rows_of (found_of arguments.now)) }
+{
+    Some(StationNumbers {
+        id: number_in(arguments, "id", 0, u64::MAX)?,
+        peer: number_in(arguments, "peer", 0, u64::MAX)?,
+        idle: number_in(arguments, "idle", 0, 1_000_000)?,
+        first_number: number_in(arguments, "first-number", 0, u64::MAX)?,
+        rate: number_in(arguments, "rate", 0, 1_000_000)?,
+        drop_every: number_in(arguments, "drop", 0, 1_000_000)?,
+    })
+}
+
+fn station_limits(arguments: &ArgMatches<'_>) -> Option<StationLimits>
+    ensures { result ≡ limits_of (rows_of (found_of arguments.now)) }
+{
+    Some(StationLimits {
+        retries: number_in(arguments, "retries", 0, 1000)?,
+        at_once: number_in(arguments, "at-once", 1, 3072)?,
+        most_size: number_in(arguments, "most-size", 0, 281474976710656)?,
+        most_open: number_in(arguments, "most-open", 0, 4096)?,
+    })
+}
+
+fn station_flags(arguments: &ArgMatches<'_>) -> StationFlags
+    ensures { result ≡ flags_of (rows_of (found_of arguments.now)) }
+{
+    StationFlags {
+        remove_sent: is_given(arguments, "remove-sent"),
+        no_overwrite: is_given(arguments, "no-overwrite"),
+        commands: is_given(arguments, "commands"),
+        no_time: is_given(arguments, "no-time"),
+        json: is_given(arguments, "json"),
+    }
+}
+
+/// What this word says of what a datagram carries.
+fn carrier_of(word: &str) -> Option<CarrierKind>
+    ensures { result ≡ carrier_of_word word.now }
+{
+    if word == "frames" {
+        Some(CarrierKind::Frames)
+    } else if word == "packets" {
+        Some(CarrierKind::Packets)
+    } else if word == "pdus" {
+        Some(CarrierKind::Pdus)
+    } else {
+        None
+    }
+}
+
+/// What this word says of the unit of times.
+fn unit_of(word: &str) -> Option<TimeUnit>
+    ensures { result ≡ unit_of_word word.now }
+{
+    if word == "s" {
+        Some(TimeUnit::Seconds)
+    } else if word == "ms" {
+        Some(TimeUnit::Milliseconds)
+    } else {
+        None
+    }
+}
+
+impl StationWords<'_> {
+    /// The same, in memory of its own, with what else was found.
+    fn kept(self, alloc: Global, arguments: &ArgMatches<'_>) -> Result<StationRequest, AllocError>
+        ensures { IfOk result (λ request. station_asked request
+            ≡ words_asked (rows_of (found_of arguments.now)) self.entry) }
+    {
+        Ok(StationRequest {
+            numbers: self.numbers,
+            limits: self.limits,
+            flags: station_flags(arguments),
+            carrier: self.carrier,
+            unit: self.unit,
+            listen: String::from_str(alloc, self.listen)?,
+            to: String::from_str(alloc, self.to)?,
+            inbox: owned_word(alloc, arguments, "inbox")?,
+            outbox: owned_word(alloc, arguments, "outbox")?,
+            spool: owned_word(alloc, arguments, "spool")?,
+            state: owned_word(alloc, arguments, "state")?,
+            control: owned_word(alloc, arguments, "control")?,
+            console: owned_word(alloc, arguments, "console")?,
+            console_token: owned_word(alloc, arguments, "console-token")?,
+            puts: owned_words(alloc, arguments, "put")?,
+            sets: owned_words(alloc, arguments, "set")?,
+            shown: shown_by(alloc, arguments)?,
+        })
+    }
+}
+
+/// Copies of all words that were found for this argument.
+pub fn owned_words(
+    alloc: Global,
+    arguments: &ArgMatches<'_>,
+    name: &str,
+) -> Result<Vec<String>, AllocError>
+    ensures { IfOk result (λ words. map (λ word. word.bytes.items) words.items
+        ≡ unwrap_or (all_of name.now (rows_of (found_of arguments.now))) []) }
+{
+    match arguments.get_strs(name) {
+        Some(words) => copied(alloc, words),
+        None => Ok(Vec::new(alloc)),
+    }
+}
+
+fn copied(alloc: Global, words: &[&str]) -> Result<Vec<String>, AllocError>
+    ensures { IfOk result (λ copies. map (λ word. word.bytes.items) copies.items
+        ≡ map (λ word. word.now) words.now) }
+{
+    let mut copies = Vec::new(alloc);
+    for word in words {
+        copies.push(String::from_str(alloc, word)?)?;
+    }
+    Ok(copies)
+}

@@ -1,2 +1,0 @@
--- A station that serves its peer.
-pub mod Request
