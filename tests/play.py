@@ -171,8 +171,9 @@ def bound_mistakes(program):
             status, _, _ = it.posts("/run", "#" * length)
             if status != 413:
                 yield f"a script of {length} octets is answered {status}"
-        if it.runs("#" * MOST_BODY)["error"] is None:
-            yield "a line that is too long is none"
+        longest = "#" * MOST_BODY
+        if it.runs(longest)["status"] != simulated(program, longest)[0]:
+            yield "the longest script isn't run as by sim"
 
 
 def asked_mistakes(program):

@@ -1,5 +1,5 @@
 -- What is asked of frames and PDUs, and what is told of them.
-use Rattle.std.specs.Prelude.{◌≡◌, ◌⊎◌, ◌++◌, ◌∷◌, ℕ, Bool, true, false, List, [], codes, Some, None, Option, ¬}
+use Rattle.std.specs.Prelude.{◌≡◌, ◌⊎◌, ◌++◌, ◌∷◌, ℕ, Bool, true, false, List, [], codes, Some}
 use Rattle.cfdp_report.specs.Dump.Lines.{WritesLines}
 use Rattle.cfdp_report.specs.Numbers.{number_of}
 use Rattle.cfdp_report.specs.declared.dump.form.DumpForm.TheVariants.{Fields}
@@ -34,16 +34,15 @@ Says line Pdus shape = words_of line ≡ codes "pdus" ∷ []
 Says line Frames shape = (behind : List (List ℕ))
     × (next_word (words_of line) ≡ Some (codes "frames", behind)) × SayShape behind shape
 
--- what stands behind the first line
-abbrev pub behind_of : Option (List ℕ) → List ℕ
-behind_of None = []
-behind_of (Some text) = text
+-- a text is its first line and what stands behind that, where a line feed ends it
+abbrev pub IsCut : (text first behind : List ℕ) → Type 0
+IsCut text first behind = (text ≡ first ++ 10 ∷ behind) ⊎ ((text ≡ first) × (behind ≡ []))
 
 -- A text says of each line behind the first what it spells, field by field, as `dump --fields` does.
 pub record TellsFields (body text : List ℕ) : Type 0 where
   pub first : List ℕ
   pub behind : List ℕ
-  pub cut : (body ≡ first ++ 10 ∷ behind) ⊎ ((body ≡ first) × (behind ≡ []))
+  pub cut : IsCut body first behind
   pub request : DumpRequest
   pub says : Says first request.kind request.shape
   pub form : request.form ≡ Fields

@@ -1,5 +1,5 @@
 -- How much a script asks for, and how much it may ask for here.
-use Rattle.std.specs.Prelude.{◌≡◌, ◌<◌, ◌≤◌, ◌+◌, ◌*◌, ⊥, ℕ, List, codes, length, if◌then◌else◌, option_and_then, sum_by}
+use Rattle.std.specs.Prelude.{◌≡◌, ◌<◌, ◌≤◌, ◌+◌, ◌*◌, ℕ, List, codes, length, if◌then◌else◌, option_and_then, sum_by}
 use Rattle.std.specs.Option.{option_map_or}
 use Rattle.std.specs.Str.{bytes_eq}
 use Rattle.cfdp_report.specs.Numbers.{number_of}

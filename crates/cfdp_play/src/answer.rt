@@ -64,8 +64,7 @@ pub fn deny(denial: Denial, response: &mut Response) -> Result<(), AllocError>
     ensures { OnOk result (response.new.status ≡ status_of denial) }
 {
     let why = match denial {
-        Denial::BadBody =>
-            "the first line is to be `pdus`, or `frames ZONE INSERT CONTROL CHECK`",
+        Denial::BadBody => "the first line is to be `pdus`, or `frames ZONE INSERT CONTROL CHECK`",
         denial => denial.meaning(),
     };
     fill(response, status(denial), Kind::Text, why.as_bytes())
@@ -93,7 +92,12 @@ fn answer_run(rt: &HostRuntime, script: &[u8], response: &mut Response) -> Resul
     let alloc = rt.alloc();
     if let Some(excess) = excess_of(script) {
         let why = format!(in alloc; "{excess}")?;
-        return fill(response, StatusCode::PAYLOAD_TOO_LARGE, Kind::Text, why.as_bytes());
+        return fill(
+            response,
+            StatusCode::PAYLOAD_TOO_LARGE,
+            Kind::Text,
+            why.as_bytes(),
+        );
     }
     let ended = run_script(rt, script)?;
     let Ok(report) = str::from_utf8(ended.report.as_slice()) else {

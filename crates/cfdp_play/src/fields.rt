@@ -5,7 +5,7 @@ ghost use Rattle.cfdp_report.specs.Dump.Shape.{IsShape};
 ghost use Rattle.cfdp_report.specs.Numbers.{number_of};
 ghost use Rattle.cfdp_script.specs.Dump.{TellsLine, lines};
 ghost use Rattle.cfdp_script.specs.Script.Words.{left};
-ghost use Rattle.cfdp_play.specs.Fields.{SayShape, Says, TellsFields, flag_of};
+ghost use Rattle.cfdp_play.specs.Fields.{IsCut, SayShape, Says, TellsFields, flag_of};
 
 use aos_frame::FrameFields;
 use cfdp_report::{DumpForm, Exit, FrameShape, parse_number};
@@ -41,7 +41,7 @@ const ANY_SHAPE: FrameShape = FrameShape {
 pub fn fields(alloc: Global, text: &[u8]) -> Result<Option<Vec<u8>>, AllocError>
     ensures { IfOk result (λ found. IfSome found (λ told. TellsFields text.now told.items)) }
 {
-    let (first, behind) = cut_at_first(text, b'\n');
+    let (first, lines) = cut_first(text);
     let Some((kind, shape)) = kind_and_shape(first) else {
         return Ok(None);
     };
@@ -50,7 +50,17 @@ pub fn fields(alloc: Global, text: &[u8]) -> Result<Option<Vec<u8>>, AllocError>
         shape,
         form: DumpForm::Fields,
     };
-    Ok(Some(told(alloc, request, behind.unwrap_or(b"".as_slice()))?))
+    Ok(Some(told(alloc, request, lines)?))
+}
+
+/// The first line of a text, and what stands behind it.
+fn cut_first(text: &[u8]) -> (&[u8], &[u8])
+    ensures { IsCut text.now result.0.now result.1.now }
+{
+    match cut_at_first(text, b'\n') {
+        (first, Some(behind)) => (first, behind),
+        (first, None) => (first, b"".as_slice()),
+    }
 }
 
 /// What lines are, and what the frames are made of that they are.
@@ -71,7 +81,7 @@ fn kind_and_shape(line: &[u8]) -> Option<(DumpKind, FrameShape)>
 
 /// What frames are made of, by these words; `None` where they don't say it.
 fn shape(words: Words<'_>) -> Option<FrameShape>
-    ensures says { IfSome result (SayShape (left words)) }
+    ensures says { IfSome result (SayShape (left words.entry)) }
     ensures shape { IfSome result IsShape }
 {
     let (zone, insert, control, check) = words.four().ok()?;

@@ -1,5 +1,5 @@
 //! How much a script that is posted may ask for.
-ghost use Rattle.std.specs.Prelude.{◌≡◌, ◌≤◌, ◌+◌, MatchOption, ¬};
+ghost use Rattle.std.specs.Prelude.{◌≡◌, ◌≤◌, ◌+◌, MatchOption};
 ghost use Rattle.cfdp_script.specs.Script.Words.{left, parts};
 ghost use Rattle.cfdp_play.specs.Load as loads;
 ghost use Rattle.cfdp_play.specs.Load.{AreTooMany, Exceeds, IsWithin, Takes};
@@ -83,20 +83,24 @@ impl Load {
 }
 
 /// How many octets a line gives a file, and how many puts it is.
+#[tactic(auto, unfolding(crate::specs::Load::octets_by, crate::specs::Load::puts_by))]
 fn asked_by(line: &[u8]) -> (u64, u64)
     ensures octets { result.0 ≡ octets_by line.now }
     ensures puts { result.1 ≡ puts_by line.now }
 {
     let mut words = Words::of(line);
     match words.next_word() {
-        Ok(verb) => (octets_for(verb, words, line), u64::from(verb == b"put".as_slice())),
+        Ok(verb) => (
+            octets_for(verb, words, line),
+            u64::from(verb == b"put".as_slice()),
+        ),
         Err(_) => (0, 0),
     }
 }
 
 /// How many octets a line gives a file that begins with this word, with these behind it.
 fn octets_for(verb: &[u8], behind: Words<'_>, line: &[u8]) -> u64
-    ensures { result ≡ loads.octets_for verb.now (left behind) line.now }
+    ensures { result ≡ loads.octets_for verb.now (left behind.entry) line.now }
 {
     if verb == b"fill".as_slice() {
         filled(behind)
@@ -109,7 +113,7 @@ fn octets_for(verb: &[u8], behind: Words<'_>, line: &[u8]) -> u64
 
 /// How many octets a file has, by the words behind `fill`; 0 where they don't say it.
 fn filled(words: Words<'_>) -> u64
-    ensures { result ≡ filled_by (left words) }
+    ensures { result ≡ filled_by (left words.entry) }
 {
     match words.four() {
         Ok((_, _, count, _)) => parse_number(count).unwrap_or(0),

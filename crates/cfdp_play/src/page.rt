@@ -3,7 +3,7 @@
 /// What the page may do, as `Content-Security-Policy`: its own style and script run, by their
 /// checksums (SHA-256 of what stands between their tags), and it asks nobody but this program.
 pub const POLICY: &str = "default-src 'none'; connect-src 'self'; img-src data:; \
-    style-src 'sha256-+t6+9It8260xPVjhdkulNufddajRKC76iCfVUQ3J9sM='; \
+    style-src 'sha256-+3fUDDRyN+MFSZaeEB4jEf//+SIuqJR2s5wu4SJMySs='; \
     script-src 'sha256-i8xUCKQwXZvos+/BuPxSmLdUv8jA6y+PZJ3kqyAdStM='; \
     base-uri 'none'; form-action 'none'; frame-ancestors 'none'";
 
@@ -131,6 +131,7 @@ details[open] > summary { margin-bottom: 0.4rem; }
 #opened { display: flex; flex-direction: column; }
 #opened-body { border-top: 1px solid var(--line); padding-top: 0.5rem; }
 #opened h3:first-child { margin-top: 0; }
+#opened .row + p { margin-top: 0.35rem; }
 #chart { font-size: 0.86rem; padding: 0.3rem 0; }
 #chart li { display: grid; grid-template-columns: 3.2rem minmax(0, 1fr); align-items: center;
   gap: 0.3rem; padding: 0 0.7rem 0 0.4rem; }
@@ -187,7 +188,11 @@ textarea { width: 100%; height: 13rem; resize: vertical; white-space: pre; }
   #open td { border: 0; padding: 0.1rem 0; }
   #open td:nth-child(n + 5) { flex: 1 0 100%; }
   header .fill { display: none; }
-  .many { display: none; }
+}
+@media (max-width: 34rem) {
+  .station h3 .dim { display: none; }
+  .files li { flex-wrap: wrap; }
+  .files .num { margin-left: 0; }
 }
 </style>
 </head>

@@ -1,4 +1,6 @@
 //! What was seen of a run, kept in memory for whoever asks for it once the run is over.
+ghost use Rattle.std.specs.Prelude.{◌≤◌, vec_len};
+
 use crate::dump::shape::FrameShapes;
 use crate::watch::sighting::{Log, Sighting};
 use crate::watch::standing::{Standing, standings};
@@ -23,6 +25,7 @@ pub struct Kept {
     // How many more octets may be kept.
     room: usize,
     is_cut: bool,
+    ghost within: { vec_len sightings ≤ 20000 },
 }
 
 impl Kept {
