@@ -7,7 +7,7 @@ use Rattle.cfdp_console.specs.declared.denial.Denial.{Denial}
 use Rattle.cfdp_console.specs.declared.denial.Denial.TheVariants as denial
 use Rattle.cfdp_play.specs.Asking.{IsDenied, MayAsk}
 use Rattle.cfdp_play.specs.Fields.{TellsFields}
-use Rattle.cfdp_play.specs.Load.{AreTooMany, lines_of}
+use Rattle.cfdp_play.specs.Load.{AreFewEnough, AreTooMany, lines_of}
 use Rattle.cfdp_play.specs.Running.{HasNoText, TellsRun}
 use Rattle.cfdp_play.specs.declared.asking.Asked.{Asked}
 use Rattle.cfdp_play.specs.declared.asking.Asked.TheVariants.{Page, Run, Fields}
@@ -25,7 +25,9 @@ status_of denial.NoMemory = 503
 -- What a script is answered: its run; that it asks for too much, and isn't run; or that its report
 -- is no text.
 abbrev pub RunAnswers : (script : List ℕ) → Response → Type 0
-RunAnswers script response = ((response.status ≡ 200) × TellsRun script response.body.items)
+RunAnswers script response =
+    ((response.status ≡ 200) × AreFewEnough (lines_of script)
+      × TellsRun script response.body.items)
     ⊎ ((response.status ≡ 413) × ((why : TooMuch) × AreTooMany why (lines_of script)))
     ⊎ ((response.status ≡ 500) × HasNoText script)
 

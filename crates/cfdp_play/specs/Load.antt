@@ -44,6 +44,10 @@ AreTooMany too_many.Octets lines = 262144 < octets_in lines
 AreTooMany too_many.Puts lines = 64 < puts_in lines
 AreTooMany too_many.Sent lines = 1048576 < octets_in lines * puts_in lines
 
+-- a script of these lines is run here
+abbrev pub AreFewEnough : List (List ℕ) → Type 0
+AreFewEnough lines = (why : TooMuch) → ¬ AreTooMany why lines
+
 -- ---- lines one by one
 
 -- what was asked for so far is within the bounds

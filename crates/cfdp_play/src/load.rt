@@ -2,7 +2,7 @@
 ghost use Rattle.std.specs.Prelude.{◌≡◌, ◌≤◌, ◌+◌, MatchOption};
 ghost use Rattle.cfdp_script.specs.Script.Words.{left, parts};
 ghost use Rattle.cfdp_play.specs.Load as loads;
-ghost use Rattle.cfdp_play.specs.Load.{AreTooMany, Exceeds, IsWithin, Takes};
+ghost use Rattle.cfdp_play.specs.Load.{AreFewEnough, AreTooMany, Exceeds, IsWithin, Takes};
 ghost use Rattle.cfdp_play.specs.Load.{filled_by, lines_of, octets_by, puts_by};
 
 use cfdp_report::parse_number;
@@ -123,7 +123,7 @@ fn filled(words: Words<'_>) -> u64
 
 /// What a script asks for too much of; `None` where it doesn't, and is run here.
 pub fn excess_of(text: &[u8]) -> Option<TooMuch>
-    ensures { MatchOption result ((why : TooMuch) → ¬ AreTooMany why (lines_of text.now))
+    ensures { MatchOption result (AreFewEnough (lines_of text.now))
         (λ why. AreTooMany why (lines_of text.now)) }
 {
     let mut load = Load {
