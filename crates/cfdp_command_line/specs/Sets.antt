@@ -14,7 +14,7 @@ set_by key value s = option_and_then
     (setting_of key)
 
 -- the settings after all pairs, one after the other
-pub set_all : List Text → Settings → Option Settings
+unfoldable pub set_all : List Text → Settings → Option Settings
 set_all [] s = Some s
 set_all (key ∷ []) s = Some s
 set_all (key ∷ value ∷ rest) s = option_and_then (set_all rest) (set_by key value s)

@@ -98,8 +98,9 @@ octets received, gaps between them, and PDUs that both stations sent.
 Exit status: 0 the file was delivered, 1 it wasn't, 2 bad arguments, 3 a folder,
 a file, a socket or the output failed, or no memory (told on standard error).
 
-Example:
-  mkdir a b && echo hello > a/x && cfdp_node loop a b x y --drop 3 --set zone 1024";
+Examples:
+  mkdir a b && echo hello > a/x && cfdp_node loop a b x y --drop 3
+  cfdp_node loop a b x y --set zone 1024 --set error_control 1";
 
 /// The grammar of what stands behind `loop`.
 pub fn loop_command<'a>(alloc: Global) -> Result<Command<'a>, AllocError>

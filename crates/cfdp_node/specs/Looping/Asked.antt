@@ -6,15 +6,16 @@ use Rattle.cfdp_command_line.specs.declared.looping.LoopRequest.{LoopRequest}
 use Rattle.cfdp_node.specs.declared.looping.LoopOptions.{LoopOptions}
 
 -- A file is sent under the names that were asked for, in so many turns at most, between stations
--- of this configuration.
-pub record AreNamed (request : LoopRequest) (config : WorldConfig) (options : LoopOptions)
-    : Type 0 where
-  pub source : options.source.items ≡ request.source.bytes.items
-  pub destination : options.destination.items ≡ request.destination.bytes.items
-  pub turns : options.turns ≡ request.turns
-  pub config : options.config ≡ config
+-- that are set up so.
+pub record AreFor (request : LoopRequest) (set_up : WorldConfig) (options : LoopOptions) : Type 0
+  where
+    pub source : options.source.items ≡ request.source.bytes.items
+    pub destination : options.destination.items ≡ request.destination.bytes.items
+    pub turns : options.turns ≡ request.turns
+    pub config : options.config ≡ set_up
 
--- So it is, between stations of the configuration that was set.
+-- So it is, between stations that are set up as was asked.
 abbrev pub AreAsked : LoopRequest → LoopOptions → Type 0
-AreAsked request options = AreNamed request options.config options
-    × IsSetBy (map (λ word. word.bytes.items) request.sets.items) options.config
+AreAsked request options = (set_up : WorldConfig)
+    × IsSetBy (map (λ word. word.bytes.items) request.sets.items) set_up
+    × AreFor request set_up options

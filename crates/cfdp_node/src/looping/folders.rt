@@ -1,6 +1,6 @@
 //! A file sent from one folder into another, by two stations over two sockets of this machine.
 ghost use Rattle.std.specs.Prelude.{IfOk};
-ghost use Rattle.cfdp_node.specs.Looping.Asked.{AreAsked, AreNamed};
+ghost use Rattle.cfdp_node.specs.Looping.Asked.{AreAsked, AreFor};
 
 use crate::looping::telling::{LoopLookout, TellingInbox, TellingOutbox};
 use crate::looping::{LoopEnds, LoopOptions, run_loop};
@@ -322,7 +322,7 @@ fn named(
     request: &LoopRequest,
     config: Valid<WorldConfig>,
 ) -> Result<LoopOptions, AllocError>
-    ensures { IfOk result (AreNamed request.now config) }
+    ensures { IfOk result (AreFor request.now config) }
 {
     Ok(LoopOptions {
         source: Vec::from_slice(alloc, request.source.as_bytes())?,
