@@ -1,0 +1,2 @@
+mod SenderAlone
+mod ReceiverAlone
