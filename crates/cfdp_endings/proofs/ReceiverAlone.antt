@@ -1,5 +1,5 @@
 -- A receiver that is open has something to do, and alone it ends by its limits.
-use Rattle.std.proofs.Common.{◌≡◌, ℕ, ◌+◌, ◌≤◌, ◌&&◌, ◌||◌, ◌++◌, ◌⊎◌, inl, inr, not, nat_lt, is_some, Bool, true, false, List, [], ◌∷◌, Option, Some, None, if◌then◌else◌, refl, sym, ap, subst, ◌∙◌, arith}
+use Rattle.std.proofs.Common.{◌≡◌, ℕ, ◌+◌, ◌≤◌, inl, inr, nat_lt, Bool, true, false, List, [], ◌∷◌, Option, Some, None, if◌then◌else◌, refl, sym, ap, subst, ◌∙◌, arith}
 use Rattle.std.proofs.lemmas.Bool.{false≢true, true≢false, cond_both, ltb-true}
 use Rattle.cfdp_header.specs.Files.{FileMap}
 use Rattle.cfdp_timers.specs.declared.kind.Kind.{Kind}
@@ -10,7 +10,7 @@ use Rattle.cfdp_directives.specs.declared.user.limits.Limits.{Limits}
 use Rattle.cfdp_directives.specs.declared.user.policy.Policy.{Policy}
 use Rattle.cfdp_directives.specs.declared.user.telling.Outcome.{Outcome}
 use Rattle.cfdp_directives.specs.Pdu.Codes.{positive_ack_limit, nak_limit, inactivity}
-use Rattle.cfdp_directives.specs.User.Policy.{another_try, fault_told}
+use Rattle.cfdp_directives.specs.User.Policy.{another_try}
 use Rattle.cfdp_store.specs.declared.stored.Stored.{Stored}
 use Rattle.cfdp_store.specs.declared.stored.Stored.TheVariants.{Done}
 use Rattle.cfdp_store.specs.Staged.{OctetMap}
@@ -20,11 +20,11 @@ use Rattle.cfdp_receiver.specs.declared.state.ReceiverPhase.{ReceiverPhase}
 use Rattle.cfdp_receiver.specs.declared.state.ReceiverPhase.TheVariants.{Receiving, Finishing, Closed}
 use Rattle.cfdp_receiver.specs.declared.state.Ending.{Ending}
 use Rattle.cfdp_receiver.specs.State.{ReceiverState}
-use Rattle.cfdp_receiver.specs.Due.{receiver_due, receiver_taken}
+use Rattle.cfdp_receiver.specs.Due.{receiver_taken}
 use Rattle.cfdp_receiver.specs.Steps.{ReceiverAfter, leaving, waits, handled, asking_again, nak_expires, finished_expires, expires_by, expires, takes}
 use Rattle.cfdp_receiver.specs.Sound.{ReceiverInput, Hears, Takes, Expires, Cancels, Suspends, Resumes, receiver_step, owes_finished}
 use Rattle.cfdp_endings.specs.Limits.{tries_left, is_ignored, ends_it, TellsEnd}
-use Rattle.cfdp_endings.specs.Receiver.{receiver_open, ReceiverGoesOn, ReceiverAlone, expiry, expiries, ReceiverRuns, ReceiverGivesUp, ReceiverEnds, left_in, receiver_left}
+use Rattle.cfdp_endings.specs.Receiver.{receiver_open, ReceiverGoesOn, ReceiverAlone, expiry, expiries, ReceiverRuns, ReceiverGivesUp, ReceiverEnds, receiver_left}
 
 -- ---- never in silence
 -- a receiver with these flags

@@ -1,10 +1,9 @@
 -- A sender that is open has something to do, and alone it ends by its limits.
-use Rattle.std.proofs.Common.{◌≡◌, ℕ, ◌+◌, ◌*◌, ◌≤◌, ◌&&◌, ◌||◌, ◌==◌, ◌⊎◌, inl, inr, not, cond, min, nat_lt, is_some, Bool, true, false, List, [], ◌∷◌, take, Option, Some, None, if◌then◌else◌, refl, sym, ap, subst, ◌∙◌, arith}
+use Rattle.std.proofs.Common.{◌≡◌, ℕ, ◌+◌, ◌*◌, ◌≤◌, ◌&&◌, ◌||◌, ◌==◌, ◌⊎◌, inl, inr, not, min, nat_lt, is_some, Bool, true, false, List, [], ◌∷◌, take, Option, Some, None, if◌then◌else◌, refl, sym, ap, subst, ◌∙◌, arith}
 use Rattle.std.specs.FinSet as set
 use Rattle.std.proofs.lemmas.Bool.{false≢true, true≢false, cond_both, ltb-true}
 use Rattle.cfdp_extents.specs.Offsets.{range}
 use Rattle.cfdp_extents.specs.Terms.{front_of}
-use Rattle.cfdp_header.specs.declared.value.TransactionId.{TransactionId}
 use Rattle.cfdp_timers.specs.declared.kind.Kind.{Kind}
 use Rattle.cfdp_timers.specs.declared.kind.Kind.TheVariants.{EofAck, Nak, FinishedAck, Inactivity}
 use Rattle.cfdp_directives.specs.declared.user.handler.Handler.{Handler}
@@ -27,7 +26,7 @@ use Rattle.cfdp_sender.specs.Due.{sender_due, data_due, carries, carries_by}
 use Rattle.cfdp_sender.specs.Steps.{SenderAfter, hearing, cancelled, closed, sender_sends, hears_ack, asks, asks_all, asks_in, sends_again, handled, quiet, unacknowledged_in, expires, sender_waits, sender_expires, cancels_in, suspends_in, resumes_in, prompts_in}
 use Rattle.cfdp_sender.specs.Inputs.{SenderInput, Sends, HearsAck, HearsNak, HearsFinished, HearsKeepAlive, Expires, Cancels, Suspends, Resumes, Prompts, sender_step}
 use Rattle.cfdp_endings.specs.Limits.{tries_left, is_ignored, ends_it, TellsEnd}
-use Rattle.cfdp_endings.specs.Sender.{sender_open, is_unclosed, owes_eof, owes_eof_in, SenderGoesOn, SenderAlone, expiry, expiries, SenderRuns, SenderGivesUp, SenderEnds, left_in, sender_left}
+use Rattle.cfdp_endings.specs.Sender.{sender_open, owes_eof, owes_eof_in, SenderGoesOn, SenderAlone, expiry, expiries, SenderRuns, SenderGivesUp, SenderEnds, left_in, sender_left}
 
 -- ---- what a cancelled sender owes
 abbrev Owes : SenderState → Type 0
