@@ -1,0 +1,7 @@
+mod SenderAlone
+mod ReceiverAlone
+mod Tables
+mod Entities
+mod Rounds
+mod Dues
+mod Worked

@@ -1,0 +1,212 @@
+//! Laws of records that nobody answers any more, each the contract of a function that does nothing.
+ghost use Rattle.std.specs.Prelude.{◌≡◌, ℕ, ◌+◌, ◌*◌, ◌<◌, ◌≤◌, Bool, true, false, List};
+ghost use Rattle.cfdp_directives.specs.declared.user.limits.Limits.{Limits};
+ghost use Rattle.cfdp_directives.specs.declared.user.policy.Policy.{Policy};
+ghost use Rattle.cfdp_sender.specs.declared.transfer.Transfer.{Transfer};
+ghost use Rattle.cfdp_sender.specs.State.{SenderState, opened_sender};
+ghost use Rattle.cfdp_sender.specs.Does.{AsksSome};
+ghost use Rattle.cfdp_sender.specs.Inputs.{SenderInput, sender_step};
+ghost use Rattle.cfdp_sender.specs.declared.phase.SenderPhase.TheVariants as phases;
+ghost use Rattle.cfdp_header.specs.Files.{FileMap};
+ghost use Rattle.cfdp_directives.specs.declared.pdu.addressing.Addressing.{Addressing};
+ghost use Rattle.cfdp_store.specs.declared.stored.Stored.{Stored};
+ghost use Rattle.cfdp_store.specs.Staged.{OctetMap};
+ghost use Rattle.cfdp_receiver.specs.declared.state.ReceiverPhase.TheVariants as receiver_phases;
+ghost use Rattle.cfdp_receiver.specs.State.{ReceiverState};
+ghost use Rattle.cfdp_receiver.specs.Steps.{opens, opened_closed};
+ghost use Rattle.cfdp_receiver.specs.Sound.{ReceiverInput, receiver_step, owes_finished};
+ghost use Rattle.cfdp_endings.specs.Limits.{TellsEnd};
+ghost use Rattle.cfdp_endings.specs.Receiver.{receiver_open, receiver_left, ReceiverGoesOn};
+ghost use Rattle.cfdp_endings.specs.Receiver.{ReceiverAlone, ReceiverRuns, ReceiverGivesUp};
+ghost use Rattle.cfdp_endings.specs.Receiver.{ReceiverEnds};
+ghost use Rattle.cfdp_endings.specs.Receiver as receiving;
+ghost use Rattle.cfdp_endings.specs.Sender.{owes_eof, sender_open, sender_left, SenderGoesOn};
+ghost use Rattle.cfdp_endings.specs.Sender.{SenderAlone, SenderRuns, SenderGivesUp, SenderEnds};
+ghost use Rattle.cfdp_endings.specs.Sender as sending;
+ghost use Rattle.std.specs.Prelude.{◌≢◌, length, slice_get, Option, Some};
+ghost use Rattle.cfdp_header.specs.declared.value.TransactionId.{TransactionId};
+ghost use Rattle.cfdp_directives.specs.Pdu.Faults.{pdu_fault};
+ghost use Rattle.cfdp_timers.specs.declared.kind.Kind.{Kind};
+ghost use Rattle.cfdp_entity.specs.declared.error.EntityDrop.{EntityDrop};
+ghost use Rattle.cfdp_entity.specs.declared.request.Request.{Request};
+ghost use Rattle.cfdp_entity.specs.Config.{IsConfig};
+ghost use Rattle.cfdp_entity.specs.Entity.{Counted, EntityState};
+ghost use Rattle.cfdp_entity.specs.Forgetting.{Forgets, ForgetsSome};
+ghost use Rattle.cfdp_entity.specs.Hearing.{DropsOctets, HearsOctets};
+ghost use Rattle.cfdp_entity.specs.Polling.{Rests, served, turn};
+ghost use Rattle.cfdp_entity.specs.Putting.{Accepts};
+ghost use Rattle.cfdp_entity.specs.Requests.{IsCalled};
+ghost use Rattle.cfdp_entity.specs.Table.{Entry, TableState, Ticks, first_table};
+ghost use Rattle.cfdp_entity.specs.Timed.{is_armed};
+ghost use Rattle.cfdp_endings.specs.Entity.{AreRounds, EntryGoesOn, GivesUp, IsRound, IsTimely};
+ghost use Rattle.cfdp_endings.specs.Entity.{NoneOpen, most_left, open_count, records_left};
+ghost use Rattle.cfdp_endings.specs.Entity.{seen_open};
+ghost use Rattle.cfdp_endings.specs.Dues.{ArePolls, entity_dues};
+
+use cfdp_receiver::a_finished_says_what_was_indicated;
+use cfdp_sender::what_is_due_is_in_the_file;
+
+/// A sender that is open, that is neither closed nor suspended, has a PDU due or waits for a timer.
+/// So it is of every sender, once it is opened, and whatever happens to it.
+pub fn a_sender_is_never_silent()
+    ensures goes_on { (x : SenderState) → owes_eof x ≡ true → sender_open x ≡ true
+        → SenderGoesOn x }
+    ensures opened { (t : Transfer) → owes_eof (opened_sender t) ≡ true }
+    ensures stays { (policy : Policy) (file : List ℕ) (input : SenderInput) (x : SenderState) →
+        owes_eof x ≡ true → owes_eof (sender_step policy file input x).sender ≡ true }
+    ensures partly { (pairs : List (ℕ × ℕ)) (x y : SenderState) → AsksSome pairs x y
+        → owes_eof y ≡ true }
+{}
+
+/// A sender that hears nothing more ends by its limits: once as many timers have expired as
+/// `sender_left` says, it is closed or suspended, and closed where no handler suspends it. Its user
+/// is told so. At most that takes twice the tries of an EOF.
+pub fn a_sender_ends_by_its_limits()
+    ensures lowers { (policy : Policy) (file : List ℕ) (input : SenderInput) (x : SenderState) →
+        SenderGivesUp policy → SenderAlone input x
+        → sending.expiry input
+        + sender_left policy.limits (sender_step policy file input x).sender
+        ≤ sender_left policy.limits x }
+    ensures run { (policy : Policy) (file : List ℕ) (inputs : List SenderInput)
+        (old new : SenderState) → SenderGivesUp policy → SenderRuns policy file inputs old new
+        → sending.expiries inputs + sender_left policy.limits new
+        ≤ sender_left policy.limits old }
+    ensures ends { (policy : Policy) (file : List ℕ) (inputs : List SenderInput)
+        (old new : SenderState) → SenderGivesUp policy → SenderRuns policy file inputs old new
+        → sender_left policy.limits old ≤ sending.expiries inputs → sender_open new ≡ false }
+    ensures closes { (policy : Policy) (file : List ℕ) (inputs : List SenderInput)
+        (old new : SenderState) → SenderEnds policy → SenderRuns policy file inputs old new
+        → old.suspended ≡ false → sender_left policy.limits old ≤ sending.expiries inputs
+        → new.phase ≡ phases.Closed }
+    ensures told { (policy : Policy) (file : List ℕ) (input : SenderInput) (x : SenderState) →
+        SenderAlone input x → sender_open x ≡ true
+        → sender_open (sender_step policy file input x).sender ≡ false
+        → TellsEnd x.addressing.id (sender_step policy file input x).told }
+    ensures most { (limits : Limits) (x : SenderState) →
+        sender_left limits x ≤ 2 * (limits.eof + 1) }
+{}
+
+/// A receiver that is open, that is neither closed nor suspended, has a PDU due or waits for a
+/// timer. So it is of every receiver, once it is opened, and whatever happens to it.
+pub fn a_receiver_is_never_silent()
+    ensures goes_on { (r : ReceiverState) → owes_finished r ≡ true → receiver_open r ≡ true
+        → ReceiverGoesOn r }
+    ensures opened { (stored : Stored) (large : Bool) (files : FileMap) (addressing : Addressing) →
+        owes_finished (opens stored large files addressing).receiver ≡ true }
+    ensures closed { (large : Bool) (condition : ℕ) (addressing : Addressing) →
+        owes_finished (opened_closed large condition addressing) ≡ true }
+    ensures stays { (stored : Stored) (input : ReceiverInput) (m : OctetMap) (files : FileMap)
+        (r : ReceiverState) → owes_finished r ≡ true
+        → owes_finished (receiver_step stored input m files r).receiver ≡ true }
+{
+    a_finished_says_what_was_indicated();
+}
+
+/// A receiver that hears nothing more ends by its limits: once as many timers have expired as
+/// `receiver_left` says, it is closed or suspended, and closed where no handler suspends it. Its
+/// user is told so. At most that takes the tries of a NAK and those of a Finished.
+pub fn a_receiver_ends_by_its_limits()
+    ensures lowers { (policy : Policy) (stored : Stored) (input : ReceiverInput) (m : OctetMap)
+        (files : FileMap) (r : ReceiverState) →
+        ReceiverGivesUp policy → ReceiverAlone policy input r
+        → receiving.expiry input
+        + receiver_left policy.limits (receiver_step stored input m files r).receiver
+        ≤ receiver_left policy.limits r }
+    ensures run { (policy : Policy) (inputs : List ReceiverInput) (m : OctetMap)
+        (files : FileMap) (old new : ReceiverState) →
+        ReceiverGivesUp policy → ReceiverRuns policy inputs m files old new
+        → receiving.expiries inputs + receiver_left policy.limits new
+        ≤ receiver_left policy.limits old }
+    ensures ends { (policy : Policy) (inputs : List ReceiverInput) (m : OctetMap)
+        (files : FileMap) (old new : ReceiverState) →
+        ReceiverGivesUp policy → ReceiverRuns policy inputs m files old new
+        → receiver_left policy.limits old ≤ receiving.expiries inputs
+        → receiver_open new ≡ false }
+    ensures closes { (policy : Policy) (inputs : List ReceiverInput) (m : OctetMap)
+        (files : FileMap) (old new : ReceiverState) →
+        ReceiverEnds policy → ReceiverRuns policy inputs m files old new
+        → old.suspended ≡ false → receiver_left policy.limits old ≤ receiving.expiries inputs
+        → new.phase ≡ receiver_phases.Closed }
+    ensures told { (policy : Policy) (stored : Stored) (input : ReceiverInput) (m : OctetMap)
+        (files : FileMap) (r : ReceiverState) →
+        ReceiverAlone policy input r → receiver_open r ≡ true
+        → receiver_open (receiver_step stored input m files r).receiver ≡ false
+        → TellsEnd r.addressing.id (receiver_step stored input m files r).told }
+    ensures most { (limits : Limits) (r : ReceiverState) →
+        receiver_left limits r ≤ (limits.nak + 1) + (limits.finished + 1) }
+{}
+
+/// Of each record of an entity that is open, that is neither closed nor suspended, a PDU is due, or
+/// a timer of its transaction is armed. So it is of a new entity, and whatever happens to it:
+/// whatever it hears, what it has no memory for, and whatever its user asks.
+pub fn an_entity_is_never_silent()
+    ensures goes_on { (st : TableState) (place : ℕ) (e : Entry) → IsTimely st
+        → slice_get st.records place ≡ Some e → seen_open e.1 ≡ true → EntryGoesOn st e }
+    ensures rests { (e : EntityState) (place : ℕ) (d : Entry) → IsTimely e.table
+        → turn e ≡ Rests → slice_get e.table.records place ≡ Some d → seen_open d.1 ≡ true
+        → (k : Kind) × (is_armed d.0 k e.table ≡ true) }
+    ensures first { (sources files : FileMap) (policy : Policy) →
+        IsTimely (first_table sources files policy) }
+    ensures put { (source destination : List ℕ) (id : TransactionId) (old new : EntityState) →
+        IsConfig old.config → Accepts source destination id old new
+        → IsTimely old.table → IsTimely new.table }
+    ensures called { (c : Request) (id : TransactionId) (old new : EntityState) →
+        IsCalled c id old new → IsTimely old.table → IsTimely new.table }
+    ensures ticked { (now : ℕ) (old new : TableState) → Ticks now old new → IsTimely old
+        → IsTimely new }
+    ensures heard { (pdu : List ℕ) (old new : Counted) → HearsOctets pdu old new
+        → IsTimely old.state.table → IsTimely new.state.table }
+    ensures dropped { (pdu : List ℕ) (by : EntityDrop) (old new : Counted) →
+        DropsOctets (pdu_fault pdu) pdu by old new
+        → IsTimely old.state.table → IsTimely new.state.table }
+    ensures served { (stored : Stored) (e : EntityState) → IsTimely e.table
+        → IsTimely (served stored (turn e) e).table }
+    ensures forgot { (id : TransactionId) (old new : EntityState) → Forgets id old new
+        → IsTimely old.table → IsTimely new.table }
+    ensures some { (old new : EntityState) → ForgetsSome old new → IsTimely old.table
+        → IsTimely new.table }
+    // Files and indications are nothing to it.
+    ensures alike { (old new : TableState) → new.records ≡ old.records → new.armed ≡ old.armed
+        → IsTimely old → IsTimely new }
+{
+    a_receiver_is_never_silent();
+    what_is_due_is_in_the_file();
+}
+
+/// An entity that hears nothing more ends all that is open, by its limits: after as many rounds as
+/// `records_left` says no record is open. In each round it is told a time by which a timer's
+/// deadline has come, and then polled until nothing is due. There are no more rounds than the
+/// records that are open times `most_left`.
+pub fn an_entity_alone_ends()
+    ensures round { (old new : EntityState) → GivesUp old.table.policy → IsTimely old.table
+        → IsRound old new → 1 + records_left old.table.policy.limits new.table.records
+        ≤ records_left old.table.policy.limits old.table.records }
+    ensures rounds { (n : ℕ) (old new : EntityState) → GivesUp old.table.policy
+        → IsTimely old.table → AreRounds n old new
+        → n + records_left old.table.policy.limits new.table.records
+        ≤ records_left old.table.policy.limits old.table.records }
+    ensures ends { (n : ℕ) (old new : EntityState) → GivesUp old.table.policy
+        → IsTimely old.table → AreRounds n old new
+        → records_left old.table.policy.limits old.table.records ≤ n
+        → NoneOpen new.table.records }
+    ensures most { (limits : Limits) (records : List Entry) →
+        records_left limits records ≤ open_count records * most_left limits }
+    ensures timely { (old new : EntityState) → IsRound old new → IsTimely old.table
+        → IsTimely new.table }
+{
+    a_receiver_is_never_silent();
+    what_is_due_is_in_the_file();
+}
+
+/// An entity that is polled comes to rest: each poll that finds something due lowers how many PDUs
+/// may still leave, also where the outbox fails. That rises only where a PDU is heard, a timer
+/// expires, or the user asks for something.
+pub fn polls_come_to_rest()
+    ensures poll { (stored : Stored) (e : EntityState) → IsTimely e.table → turn e ≢ Rests
+        → entity_dues (served stored (turn e) e) < entity_dues e }
+    ensures polls { (answers : List Stored) (old new : EntityState) → IsTimely old.table
+        → ArePolls answers old new → length answers + entity_dues new ≤ entity_dues old }
+{
+    a_receiver_is_never_silent();
+    what_is_due_is_in_the_file();
+}
