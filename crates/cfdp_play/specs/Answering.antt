@@ -27,7 +27,7 @@ status_of denial.NoMemory = 503
 abbrev pub RunAnswers : (script : List ℕ) → Response → Type 0
 RunAnswers script response =
     ((response.status ≡ 200) × AreFewEnough (lines_of script)
-      × TellsRun script response.body.items)
+    × TellsRun script response.body.items)
     ⊎ ((response.status ≡ 413) × ((why : TooMuch) × AreTooMany why (lines_of script)))
     ⊎ ((response.status ≡ 500) × HasNoText script)
 

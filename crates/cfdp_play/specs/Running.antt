@@ -1,5 +1,5 @@
 -- What is told of a run, and of frames and PDUs.
-use Rattle.std.specs.Prelude.{◌≡◌, ◌≤◌, ◌⊎◌, ◌++◌, ◌∷◌, ℕ, Bool, List, [], codes, Some, None, Option}
+use Rattle.std.specs.Prelude.{◌≡◌, ◌≤◌, ℕ, List, [], codes, Some}
 use Rattle.std.specs.Str.{IsUtf8}
 use Rattle.serde_json.specs.Data.{Data, depth, number, string, unsigned}
 use Rattle.serde_json.specs.Find.{get}

@@ -1,5 +1,5 @@
 //! What requests are answered.
-ghost use Rattle.std.specs.Prelude.{◌≡◌, OnOk, ◌++◌};
+ghost use Rattle.std.specs.Prelude.{◌≡◌, OnOk};
 ghost use Rattle.http_server.specs.Response.{IsBlank};
 ghost use Rattle.cfdp_play.specs.Answering.{AnswersAsked, FieldsAnswer, RunAnswers, status_of};
 

@@ -1,6 +1,6 @@
 //! How much a script that is posted may ask for.
-ghost use Rattle.std.specs.Prelude.{◌≡◌, ◌≤◌, ◌+◌, MatchOption};
-ghost use Rattle.cfdp_script.specs.Script.Words.{left, parts};
+ghost use Rattle.std.specs.Prelude.{◌≡◌, MatchOption};
+ghost use Rattle.cfdp_script.specs.Script.Words.{left};
 ghost use Rattle.cfdp_play.specs.Load as loads;
 ghost use Rattle.cfdp_play.specs.Load.{AreFewEnough, AreTooMany, Exceeds, IsWithin, Takes};
 ghost use Rattle.cfdp_play.specs.Load.{filled_by, lines_of, octets_by, puts_by};

@@ -1,5 +1,5 @@
 //! What the page is told of a run, as JSON (RFC 8259).
-ghost use Rattle.std.specs.Prelude.{◌≡◌, ◌≤◌, IfOk};
+ghost use Rattle.std.specs.Prelude.{◌≤◌, IfOk};
 ghost use Rattle.serde_json.specs.Data.{depth};
 ghost use Rattle.serde_json.specs.View.{view};
 ghost use Rattle.cfdp_play.specs.Running.{Tells};
