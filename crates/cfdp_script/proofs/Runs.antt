@@ -1,7 +1,10 @@
 -- What was written of units, one after the other.
-use Rattle.std.proofs.Common.{◌≡◌, ◌∙◌, ℕ, ◌<◌, List, [], ◌∷◌, ◌++◌, length, Option, Result, Ok, Err, refl, sym, ap, subst, append-nil}
+use Rattle.std.proofs.Common.{◌≡◌, ◌∙◌, ℕ, ◌<◌, List, [], ◌∷◌, ◌++◌, length, Option, Result, Ok, Err, Vec, refl, sym, ap, subst, append-nil}
 use Rattle.std.proofs.lemmas.List.{append_assoc}
+use Rattle.std.specs.List.{flat_map}
 use Rattle.std.specs.Result.{OnOk}
+use Rattle.std.specs.declared.alloc.Global.{Global}
+use Rattle.mpdu.specs.Feeding.{octets_of_each}
 use Rattle.std.specs.Io.KnownBytes.{Appends}
 use Rattle.captures.specs.Captures.{HasTaken, SpellsTo}
 use Rattle.captures.specs.Packets.{CaptureState, ItemText}
@@ -10,7 +13,7 @@ use Rattle.vc_packets.specs.declared.channel.Channel.{Channel}
 use Rattle.cfdp_report.specs.Dump.Lines.{WritesLine, WritesLines, as_line}
 use Rattle.cfdp_report.proofs.TextLines.{lines-none, lines-more, lines_joined, lines_kept}
 use Rattle.cfdp_script.specs.Dump.{TellsLine, lines}
-use Rattle.cfdp_script.specs.Dump.Told.{TellsTold, Told}
+use Rattle.cfdp_script.specs.Dump.Told.{TellsTold, Told, packet_told}
 use Rattle.cfdp_script.specs.Dump.Units.{TellsItem, TellsRun, WritesRun, WritesUnit}
 use Rattle.cfdp_script.specs.declared.dump.DumpRequest.{DumpRequest}
 
@@ -27,6 +30,9 @@ pub told_text : {E : Type 0} (request : DumpRequest) (one : Told) (text : List �
     → OnOk r (Appends old new (as_line text)) → OnOk r (WritesLines (TellsTold request) (one ∷ []) old new)
 told_text request one text (Ok x) old new such written = one_told request one old new (record { text = text; such = such; written = written })
 told_text request one text (Err e) old new such written = tt
+
+pub told_none : (request : DumpRequest) (out : Option (List ℕ)) → WritesLines (TellsTold request) [] out out
+told_none request out = lines-none (TellsTold request) out
 
 -- then others
 pub told_more : {E : Type 0} (request : DumpRequest) (before behind : List Told) (r : Result (Unit {0}) E) (old mid new : Option (List ℕ))
@@ -94,3 +100,15 @@ items-behind request start file last old_rest item next rest mid after old betwe
   spelled = spells-more start before.items file last old_rest item next rest before.spelled some taken;
   told = writes-more (TellsItem (length file) request) request before.items mid item after old between new before.told one;
 }
+
+-- ---- packets
+-- one packet more
+pub packets_more : (xs : List (Vec ℕ Global)) (x : Vec ℕ Global) → flat_map packet_told (octets_of_each (xs ++ x ∷ [])) ≡ flat_map packet_told (octets_of_each xs) ++ packet_told x.items
+packets_more [] x = append-nil (packet_told x.items)
+packets_more (y ∷ ys) x =
+    ap (λ l. packet_told y.items ++ l) (packets_more ys x) ∙ sym (append_assoc (packet_told y.items) (flat_map packet_told (octets_of_each ys)) (packet_told x.items))
+
+pub packets_told : (request : DumpRequest) (xs : List (Vec ℕ Global)) (x : Vec ℕ Global) (old mid new : Option (List ℕ)) → WritesLines (TellsTold request) (flat_map packet_told (octets_of_each xs)) old mid
+    → WritesLines (TellsTold request) (packet_told x.items) mid new → WritesLines (TellsTold request) (flat_map packet_told (octets_of_each (xs ++ x ∷ []))) old new
+packets_told request xs x old mid new before one =
+    subst (λ l. WritesLines (TellsTold request) l old new) (sym (packets_more xs x)) (lines_joined (TellsTold request) (flat_map packet_told (octets_of_each xs)) (packet_told x.items) old mid new before one)
