@@ -57,17 +57,17 @@ pub record IsBadPlace (line : List ℕ) (place : ℕ) : Type 0 where
 
 abbrev pub IsSaidOf : List ℕ → Option ℕ → Type 0
 IsSaidOf line None = (k : ℕ) → k < length line → may_stand line k ≡ true
-IsSaidOf line (Some place) = IsBadPlace line place
+IsSaidOf line (Some column) = (place : ℕ) × IsBadPlace line place × (column ≡ place + 1)
 
 abbrev pub place_text : Option ℕ → List ℕ
 place_text None = codes " odd digits"
-place_text (Some place) = codes " column " ++ decimal (place + 1)
+place_text (Some column) = codes " column " ++ decimal column
 
 -- The text tells it.
 pub record TellsBadHex (form : DumpForm) (line text : List ℕ) : Type 0 where
-  pub place : Option ℕ
-  pub said : IsSaidOf line place
-  pub words : text ≡ refusal_text Hex ++ (place_text place ++ end_of form)
+  pub column : Option ℕ
+  pub said : IsSaidOf line column
+  pub words : text ≡ refusal_text Hex ++ (place_text column ++ end_of form)
 
 -- whether a packet has a PDU: it is no segment, and has no secondary header (CCSDS 133.0-B-2,
 -- 4.1.3.3.3, 4.1.3.4.2)

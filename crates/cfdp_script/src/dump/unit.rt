@@ -1,8 +1,8 @@
 //! What one unit spells, a PDU or a frame, and what a frame carries.
-ghost use Rattle.std.specs.Prelude.{◌≡◌, ◌≤◌, ◌∷◌, [], length, IfSome, None, OnOk, Some};
+ghost use Rattle.std.specs.Prelude.{◌≡◌, ◌≤◌, ◌∷◌, [], length, IfOk, OnOk};
 ghost use Rattle.std.specs.List.{flat_map};
+ghost use Rattle.std.specs.Result.{result_err};
 ghost use Rattle.aos_frame.specs.Frame.{SpellsFrame, frame_fault};
-ghost use Rattle.aos_frame.specs.declared.error.FrameError.{FrameError};
 ghost use Rattle.frame_fields.specs.Fields.{mpdu_in};
 ghost use Rattle.cfdp_report.specs.Dump.Lines.{WritesLines};
 ghost use Rattle.cfdp_report.specs.Dump.Shape.{IsShape, channel_in};
@@ -15,7 +15,7 @@ ghost use Rattle.mpdu.specs.Feeding.{octets_of_each};
 
 use crate::dump::remark::Remark;
 use crate::dump::{DumpKind, DumpRequest};
-use aos_frame::{ChannelConfig, FrameHeader, HEADER_LEN, decode};
+use aos_frame::{ChannelConfig, FrameError, FrameHeader, HEADER_LEN, decode};
 use cfd_bits::get;
 use cfdp_report::{FrameShape, write_frame, write_pdu};
 use space_packet::header;
@@ -61,28 +61,30 @@ fn write_deep<W: Write>(
         channels.new (W.contents out.old) (W.contents out.new)) }
 {
     write_frame(octets, request.shape, request.form, out)?;
-    let Some((header, mpdu)) = frame_of(octets, request.shape) else {
-        return Ok(());
-    };
-    match channels.take(header, mpdu)? {
-        Some(carried) => write_carried(request, &carried, out),
-        None => write_remark(request, Remark::Unfollowed, out),
+    match frame_of(octets, request.shape) {
+        Ok((header, mpdu)) => match channels.take(header, mpdu)? {
+            Some(carried) => write_carried(request, &carried, out),
+            None => write_remark(request, Remark::Unfollowed, out),
+        },
+        Err(_) => Ok(()),
     }
 }
 
-/// The header and the M_PDU of a frame of this shape, of the channel that it names. `None` where
-/// the octets are no such frame.
-fn frame_of(octets: &[u8], shape: FrameShape) -> Option<(FrameHeader, &[u8])>
+/// The header and the M_PDU of a frame of this shape, of the channel that it names.
+///
+/// # Errors
+///
+/// Why the octets are no such frame.
+fn frame_of(octets: &[u8], shape: FrameShape) -> Result<(FrameHeader, &[u8]), FrameError>
     requires { IsShape shape }
-    ensures found { IfSome result (λ x. SpellsFrame (channel_in octets.now shape) x.0 octets.now) }
-    ensures mpdu { IfSome result (λ x. x.1.now ≡ mpdu_in shape.fields octets.now) }
-    ensures least { IfSome result (λ x. 18 ≤ length x.1.now) }
-    ensures most { IfSome result (λ x. length x.1.now ≤ 2042) }
-    ensures none { result ≡ None → (error : FrameError)
-        × (frame_fault octets.now (channel_in octets.now shape) ≡ Some error) }
+    ensures found { IfOk result (λ x. SpellsFrame (channel_in octets.now shape) x.0 octets.now) }
+    ensures mpdu { IfOk result (λ x. x.1.now ≡ mpdu_in shape.fields octets.now) }
+    ensures least { IfOk result (λ x. 18 ≤ length x.1.now) }
+    ensures most { IfOk result (λ x. length x.1.now ≤ 2042) }
+    ensures refused { result_err result ≡ frame_fault octets.now (channel_in octets.now shape) }
 {
     if octets.len() < HEADER_LEN {
-        return None;
+        return Err(FrameError::Length);
     }
     let own = ChannelConfig {
         spacecraft: get(octets, 2, 8) as u8,
@@ -91,7 +93,7 @@ fn frame_of(octets: &[u8], shape: FrameShape) -> Option<(FrameHeader, &[u8])>
         apid: 0,
         fields: shape.fields,
     };
-    decode(octets, &own).ok()
+    decode(octets, &own)
 }
 
 /// Writes what a frame carries.
