@@ -1,5 +1,5 @@
 -- What was written of units, one after the other.
-use Rattle.std.proofs.Common.{◌≡◌, ◌∙◌, ℕ, ◌<◌, List, [], ◌∷◌, ◌++◌, length, Option, Result, Ok, Err, Vec, refl, sym, ap, subst, append-nil}
+use Rattle.std.proofs.Common.{◌≡◌, ◌∙◌, ℕ, ◌<◌, List, [], ◌∷◌, ◌++◌, length, Option, Some, None, Bool, true, false, Result, Ok, Err, Vec, refl, sym, ap, subst, append-nil}
 use Rattle.std.proofs.lemmas.List.{append_assoc}
 use Rattle.std.specs.List.{flat_map}
 use Rattle.std.specs.Result.{OnOk}
@@ -13,8 +13,12 @@ use Rattle.vc_packets.specs.declared.channel.Channel.{Channel}
 use Rattle.cfdp_report.specs.Dump.Lines.{WritesLine, WritesLines, as_line}
 use Rattle.cfdp_report.proofs.TextLines.{lines-none, lines-more, lines_joined, lines_kept}
 use Rattle.cfdp_script.specs.Dump.{TellsLine, lines}
-use Rattle.cfdp_script.specs.Dump.Told.{TellsTold, Told, packet_told}
-use Rattle.cfdp_script.specs.Dump.Units.{TellsItem, TellsRun, WritesRun, WritesUnit}
+use Rattle.cfdp_report.specs.Dump.Told.{TellsAsPdu}
+use Rattle.cfdp_script.specs.Dump.Told.{AsFrame, AsPdu, Says, TellsTold, Told, packet_remark, packet_told, pdu_in}
+use Rattle.cfdp_script.specs.declared.dump.DumpKind.{DumpKind}
+use Rattle.cfdp_script.specs.declared.dump.DumpKind.TheVariants.{Pdus, Frames}
+use Rattle.cfdp_script.specs.declared.dump.remark.Remark.{Remark}
+use Rattle.cfdp_script.specs.Dump.Units.{TellsAs, TellsDeep, TellsItem, TellsRun, TellsUnit, WritesRun, WritesUnit}
 use Rattle.cfdp_script.specs.declared.dump.DumpRequest.{DumpRequest}
 
 -- ---- one thing is told
@@ -112,3 +116,36 @@ pub packets_told : (request : DumpRequest) (xs : List (Vec ℕ Global)) (x : Vec
     → WritesLines (TellsTold request) (packet_told x.items) mid new → WritesLines (TellsTold request) (flat_map packet_told (octets_of_each (xs ++ x ∷ []))) old new
 packets_told request xs x old mid new before one =
     subst (λ l. WritesLines (TellsTold request) l old new) (sym (packets_more xs x)) (lines_joined (TellsTold request) (flat_map packet_told (octets_of_each xs)) (packet_told x.items) old mid new before one)
+
+-- ---- one packet, with its PDU or without one
+pub packet_with : {E : Type 0} (request : DumpRequest) (packet pdu : List ℕ) (remark : Remark) (r : Result (Unit {0}) E) (old mid new : Option (List ℕ)) → Some pdu ≡ pdu_in packet
+    → remark ≡ packet_remark packet → WritesLines (TellsTold request) (Says remark ∷ []) old mid → OnOk r (WritesLine (TellsAsPdu request.form pdu) mid new)
+    → OnOk r (WritesLines (TellsTold request) (packet_told packet) old new)
+packet_with request packet pdu remark r old mid new has same first line =
+    rw (← has, ← same) (told_more request (Says remark ∷ []) (AsPdu pdu ∷ []) r old mid new first (told_line request (AsPdu pdu) r mid new line))
+
+pub packet_alone : (request : DumpRequest) (packet : List ℕ) (remark : Remark) (old mid : Option (List ℕ)) → None ≡ pdu_in packet → remark ≡ packet_remark packet
+    → WritesLines (TellsTold request) (Says remark ∷ []) old mid → WritesLines (TellsTold request) (packet_told packet) old mid
+packet_alone request packet remark old mid has same first = rw (← has, ← same) first
+
+-- ---- one unit
+pub pdus_unit : (request : DumpRequest) (channels : List Channel) (octets : List ℕ) → request.kind ≡ Pdus → TellsUnit request channels octets (AsPdu octets ∷ []) channels
+pdus_unit request channels octets kind =
+    let P : DumpKind → Type 0 = λ k. TellsAs k request.deep request channels octets (AsPdu octets ∷ []) channels in
+    subst P (sym kind) (refl, refl)
+
+pub frames_unit : (request : DumpRequest) (channels : List Channel) (octets : List ℕ) → request.kind ≡ Frames → request.deep ≡ false → TellsUnit request channels octets (AsFrame octets ∷ []) channels
+frames_unit request channels octets kind deep =
+    let P : DumpKind → Bool → Type 0 = λ k d. TellsAs k d request channels octets (AsFrame octets ∷ []) channels in
+    subst (λ k. P k request.deep) (sym kind) (subst (λ d. P Frames d) (sym deep) (refl, refl))
+
+pub deep_unit : {E : Type 0} (request : DumpRequest) (channels : List Channel) (octets : List ℕ) (after : List Channel) (r : Result (Unit {0}) E) (old new : Option (List ℕ)) → request.kind ≡ Frames → request.deep ≡ true
+    → OnOk r (WritesUnit (TellsDeep request channels octets) request after old new) → OnOk r (WritesUnit (TellsUnit request channels octets) request after old new)
+deep_unit request channels octets after (Err e) old new kind deep wrote = tt
+deep_unit request channels octets after (Ok x) old new kind deep wrote =
+    let P : DumpKind → Bool → Type 0 = λ k d. TellsAs k d request channels octets wrote.tolds after in
+    record {
+      tolds = wrote.tolds;
+      told = subst (λ k. P k request.deep) (sym kind) (subst (λ d. P Frames d) (sym deep) wrote.told);
+      written = wrote.written;
+    }

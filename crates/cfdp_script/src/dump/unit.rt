@@ -1,14 +1,14 @@
 //! What one unit spells, a PDU or a frame, and what a frame carries.
 ghost use Rattle.std.specs.Prelude.{◌≡◌, ◌≤◌, ◌∷◌, [], length, IfOk, OnOk};
 ghost use Rattle.std.specs.List.{flat_map};
+ghost use Rattle.std.specs.Option.{option_map};
 ghost use Rattle.std.specs.Result.{result_err};
 ghost use Rattle.aos_frame.specs.Frame.{SpellsFrame, frame_fault};
 ghost use Rattle.frame_fields.specs.Fields.{mpdu_in};
 ghost use Rattle.cfdp_report.specs.Dump.Lines.{WritesLines};
 ghost use Rattle.cfdp_report.specs.Dump.Shape.{IsShape, channel_in};
 ghost use Rattle.cfdp_script.specs.Dump.Told as told;
-ghost use Rattle.cfdp_script.specs.Dump.Told.{Says, TellsTold, bad_told, carried_told};
-ghost use Rattle.cfdp_script.specs.Dump.Told.{cut_told, missing_told, packet_told, zone_told};
+ghost use Rattle.cfdp_script.specs.Dump.Told.{Says, TellsTold, carried_told, packet_told, said};
 ghost use Rattle.cfdp_script.specs.Dump.Units.{TellsDeep, TellsUnit, WritesUnit};
 ghost use Rattle.vc_packets.specs.Carrying.{carried_text};
 ghost use Rattle.mpdu.specs.Feeding.{octets_of_each};
@@ -105,73 +105,69 @@ fn write_carried<W: Write>(request: DumpRequest, carried: &Carried, out: &mut W)
     ensures { OnOk result (WritesLines (TellsTold request) (carried_told (carried_text carried.now))
         (W.contents out.old) (W.contents out.new)) }
 {
-    write_missing(request, carried.missing, out)?;
-    if carried.only_idle {
-        write_remark(request, Remark::OnlyIdle, out)
-    } else {
-        write_zone(request, carried, out)
-    }
-}
-
-/// Writes how many frames are missing, where some are.
-///
-/// # Errors
-///
-/// That of the writer.
-fn write_missing<W: Write>(request: DumpRequest, frames: u32, out: &mut W) -> io::Result<()>
-    ensures { OnOk result (WritesLines (TellsTold request) (missing_told frames)
-        (W.contents out.old) (W.contents out.new)) }
-{
-    if frames == 0 {
-        Ok(())
-    } else {
-        write_remark(request, Remark::Missing(frames), out)
-    }
-}
-
-/// Writes what is in the packet zone of a frame.
-///
-/// # Errors
-///
-/// That of the writer.
-fn write_zone<W: Write>(request: DumpRequest, carried: &Carried, out: &mut W) -> io::Result<()>
-    ensures { OnOk result (WritesLines (TellsTold request) (zone_told (carried_text carried.now))
-        (W.contents out.old) (W.contents out.new)) }
-{
-    write_cut(request, carried.notes.resync, out)?;
-    write_bad(request, carried.notes.bad, out)?;
+    let missing = missing_remark(carried.missing);
+    let idle = idle_remark(carried.only_idle);
+    let cut = cut_remark(carried.notes.resync);
+    let bad = bad_remark(carried.notes.bad);
+    write_said(request, missing, out)?;
+    write_said(request, idle, out)?;
+    write_said(request, cut, out)?;
+    write_said(request, bad, out)?;
     write_packets(request, &carried.packets, out)
 }
 
-/// Writes that a begun packet is cut off, where one is.
-///
-/// # Errors
-///
-/// That of the writer.
-fn write_cut<W: Write>(request: DumpRequest, cut_off: bool, out: &mut W) -> io::Result<()>
-    ensures { OnOk result (WritesLines (TellsTold request) (cut_told cut_off)
-        (W.contents out.old) (W.contents out.new)) }
+/// What is said of frames that are missing.
+fn missing_remark(frames: u32) -> Option<Remark>
+    ensures { result ≡ told.missing_remark frames }
 {
-    if cut_off {
-        write_remark(request, Remark::CutOff, out)
+    if frames == 0 {
+        None
     } else {
-        Ok(())
+        Some(Remark::Missing(frames))
     }
 }
 
-/// Writes how many packet headers are bad, where some are.
+/// What is said of a frame of idle data only.
+fn idle_remark(only_idle: bool) -> Option<Remark>
+    ensures { result ≡ told.idle_remark only_idle }
+{
+    if only_idle {
+        Some(Remark::OnlyIdle)
+    } else {
+        None
+    }
+}
+
+/// What is said of a packet that is cut off.
+fn cut_remark(cut_off: bool) -> Option<Remark>
+    ensures { result ≡ told.cut_remark cut_off }
+{
+    if cut_off { Some(Remark::CutOff) } else { None }
+}
+
+/// What is said of bad packet headers.
+fn bad_remark(headers: u8) -> Option<Remark>
+    ensures { result ≡ told.bad_remark headers }
+{
+    if headers == 0 {
+        None
+    } else {
+        Some(Remark::BadHeaders(headers))
+    }
+}
+
+/// Writes what is to be said, if anything is.
 ///
 /// # Errors
 ///
 /// That of the writer.
-fn write_bad<W: Write>(request: DumpRequest, headers: u8, out: &mut W) -> io::Result<()>
-    ensures { OnOk result (WritesLines (TellsTold request) (bad_told headers)
+fn write_said<W: Write>(request: DumpRequest, remark: Option<Remark>, out: &mut W) -> io::Result<()>
+    ensures { OnOk result (WritesLines (TellsTold request) (said remark)
         (W.contents out.old) (W.contents out.new)) }
 {
-    if headers == 0 {
-        Ok(())
-    } else {
-        write_remark(request, Remark::BadHeaders(headers), out)
+    match remark {
+        Some(remark) => write_remark(request, remark, out),
+        None => Ok(()),
     }
 }
 
@@ -201,10 +197,9 @@ fn write_packet<W: Write>(request: DumpRequest, packet: &[u8], out: &mut W) -> i
         (W.contents out.old) (W.contents out.new)) }
 {
     write_remark(request, packet_remark(packet), out)?;
-    if carries_pdu(packet) {
-        write_pdu(&packet[header::HEADER_LEN..], request.form, out)
-    } else {
-        Ok(())
+    match pdu_in(packet) {
+        Some(pdu) => write_pdu(pdu, request.form, out),
+        None => Ok(()),
     }
 }
 
@@ -235,9 +230,19 @@ pub(crate) fn write_remark<W: Write>(
     writeln!(out, "{remark}")
 }
 
-/// Whether a packet has a PDU: it is no segment, and has no secondary header.
-fn carries_pdu(packet: &[u8]) -> bool
-    ensures { result ≡ told.carries_pdu packet.now }
+/// The PDU of a packet, if it has one: if it is no segment, and has no secondary header.
+fn pdu_in(packet: &[u8]) -> Option<&[u8]>
+    ensures { option_map (λ pdu. pdu.now) result ≡ told.pdu_in packet.now }
 {
-    packet.len() >= header::HEADER_LEN && get(packet, 16, 2) == 3 && get(packet, 4, 1) == 0
+    if packet.len() < header::HEADER_LEN {
+        return None;
+    }
+    if get(packet, 16, 2) != 3 {
+        return None;
+    }
+    if get(packet, 4, 1) != 0 {
+        return None;
+    }
+    let (_, pdu) = packet.split_at(header::HEADER_LEN);
+    Some(pdu)
 }
