@@ -1,17 +1,34 @@
 -- What was written of units, one after the other.
-use Rattle.std.proofs.Common.{◌≡◌, ◌∙◌, ℕ, ◌<◌, List, [], ◌∷◌, ◌++◌, length, Option, Result, Ok, Err, refl, sym, ap, subst, append-nil}
+use Rattle.std.proofs.Common.{◌≡◌, ◌∙◌, ℕ, ◌<◌, List, [], ◌∷◌, ◌++◌, length, Option, Some, None, Bool, true, false, Result, Ok, Err, Vec, refl, sym, ap, subst, append-nil, inl, inr}
 use Rattle.std.proofs.lemmas.List.{append_assoc}
+use Rattle.std.specs.List.{flat_map}
 use Rattle.std.specs.Result.{OnOk}
+use Rattle.std.specs.declared.alloc.Global.{Global}
+use Rattle.mpdu.specs.Feeding.{octets_of_each}
 use Rattle.std.specs.Io.KnownBytes.{Appends}
 use Rattle.captures.specs.Captures.{HasTaken, SpellsTo}
-use Rattle.captures.specs.Packets.{CaptureState, ItemText}
+use Rattle.captures.specs.Packets.{CaptureState, Captured, ItemText, PacketText}
+use Rattle.captures.specs.Units.{unit_fault, unit_in}
+use Rattle.captures.specs.declared.unit.Passed.{Passed}
 use Rattle.captures.proofs.Spelling.{spells-more, spells-none}
+use Rattle.aos_frame.specs.Frame.{SpellsFrame, frame_fault}
+use Rattle.aos_frame.specs.declared.error.FrameError.{FrameError}
+use Rattle.aos_frame.specs.declared.header.FrameHeader.{FrameHeader}
+use Rattle.frame_fields.specs.Fields.{mpdu_in}
+use Rattle.vc_packets.specs.Carrying.{CarriedText, FrameCarries, IsUnfollowed}
 use Rattle.vc_packets.specs.declared.channel.Channel.{Channel}
 use Rattle.cfdp_report.specs.Dump.Lines.{WritesLine, WritesLines, as_line}
 use Rattle.cfdp_report.proofs.TextLines.{lines-none, lines-more, lines_joined, lines_kept}
-use Rattle.cfdp_script.specs.Dump.{TellsLine, lines}
-use Rattle.cfdp_script.specs.Dump.Told.{TellsTold, Told}
-use Rattle.cfdp_script.specs.Dump.Units.{TellsItem, TellsRun, WritesRun, WritesUnit}
+use Rattle.cfdp_script.specs.Dump.{TellsLine, hex_octets, lines}
+use Rattle.cfdp_script.specs.Script.Words.{without_return}
+use Rattle.cfdp_report.specs.Dump.Shape.{channel_in}
+use Rattle.cfdp_report.specs.Dump.Told.{TellsAsFrame, TellsAsPdu}
+use Rattle.cfdp_script.specs.Dump.Told.{AsFrame, AsPdu, BadHex, Says, TellsTold, Told, carried_told, packet_remark, packet_told, pdu_in}
+use Rattle.cfdp_script.specs.declared.dump.DumpKind.{DumpKind}
+use Rattle.cfdp_script.specs.declared.dump.DumpKind.TheVariants.{Pdus, Frames}
+use Rattle.cfdp_script.specs.declared.dump.remark.Remark.{Remark}
+use Rattle.cfdp_script.specs.declared.dump.remark.Remark.TheVariants.{PassedBy, Unfollowed}
+use Rattle.cfdp_script.specs.Dump.Units.{TellsAs, TellsCarried, TellsDeep, TellsItem, TellsRun, TellsUnfollowed, TellsUnit, WritesRun, WritesUnit}
 use Rattle.cfdp_script.specs.declared.dump.DumpRequest.{DumpRequest}
 
 -- ---- one thing is told
@@ -27,6 +44,9 @@ pub told_text : {E : Type 0} (request : DumpRequest) (one : Told) (text : List �
     → OnOk r (Appends old new (as_line text)) → OnOk r (WritesLines (TellsTold request) (one ∷ []) old new)
 told_text request one text (Ok x) old new such written = one_told request one old new (record { text = text; such = such; written = written })
 told_text request one text (Err e) old new such written = tt
+
+pub told_none : (request : DumpRequest) (out : Option (List ℕ)) → WritesLines (TellsTold request) [] out out
+told_none request out = lines-none (TellsTold request) out
 
 -- then others
 pub told_more : {E : Type 0} (request : DumpRequest) (before behind : List Told) (r : Result (Unit {0}) E) (old mid new : Option (List ℕ))
@@ -93,4 +113,121 @@ items-behind request start file last old_rest item next rest mid after old betwe
   items = before.items ++ item ∷ [];
   spelled = spells-more start before.items file last old_rest item next rest before.spelled some taken;
   told = writes-more (TellsItem (length file) request) request before.items mid item after old between new before.told one;
+}
+
+-- ---- packets
+-- one packet more
+pub packets_more : (xs : List (Vec ℕ Global)) (x : Vec ℕ Global) → flat_map packet_told (octets_of_each (xs ++ x ∷ [])) ≡ flat_map packet_told (octets_of_each xs) ++ packet_told x.items
+packets_more [] x = append-nil (packet_told x.items)
+packets_more (y ∷ ys) x =
+    ap (λ l. packet_told y.items ++ l) (packets_more ys x) ∙ sym (append_assoc (packet_told y.items) (flat_map packet_told (octets_of_each ys)) (packet_told x.items))
+
+pub packets_told : (request : DumpRequest) (xs : List (Vec ℕ Global)) (x : Vec ℕ Global) (old mid new : Option (List ℕ)) → WritesLines (TellsTold request) (flat_map packet_told (octets_of_each xs)) old mid
+    → WritesLines (TellsTold request) (packet_told x.items) mid new → WritesLines (TellsTold request) (flat_map packet_told (octets_of_each (xs ++ x ∷ []))) old new
+packets_told request xs x old mid new before one =
+    subst (λ l. WritesLines (TellsTold request) l old new) (sym (packets_more xs x)) (lines_joined (TellsTold request) (flat_map packet_told (octets_of_each xs)) (packet_told x.items) old mid new before one)
+
+-- ---- one packet, with its PDU or without one
+pub packet_with : {E : Type 0} (request : DumpRequest) (packet pdu : List ℕ) (remark : Remark) (r : Result (Unit {0}) E) (old mid new : Option (List ℕ)) → Some pdu ≡ pdu_in packet
+    → remark ≡ packet_remark packet → WritesLines (TellsTold request) (Says remark ∷ []) old mid → OnOk r (WritesLine (TellsAsPdu request.form pdu) mid new)
+    → OnOk r (WritesLines (TellsTold request) (packet_told packet) old new)
+packet_with request packet pdu remark r old mid new has same first line =
+    rw (← has, ← same) (told_more request (Says remark ∷ []) (AsPdu pdu ∷ []) r old mid new first (told_line request (AsPdu pdu) r mid new line))
+
+pub packet_alone : (request : DumpRequest) (packet : List ℕ) (remark : Remark) (old mid : Option (List ℕ)) → None ≡ pdu_in packet → remark ≡ packet_remark packet
+    → WritesLines (TellsTold request) (Says remark ∷ []) old mid → WritesLines (TellsTold request) (packet_told packet) old mid
+packet_alone request packet remark old mid has same first = rw (← has, ← same) first
+
+-- ---- one unit
+pub pdus_unit : (request : DumpRequest) (channels : List Channel) (octets : List ℕ) → request.kind ≡ Pdus → TellsUnit request channels octets (AsPdu octets ∷ []) channels
+pdus_unit request channels octets kind =
+    let P : DumpKind → Type 0 = λ k. TellsAs k request.deep request channels octets (AsPdu octets ∷ []) channels in
+    subst P (sym kind) (refl, refl)
+
+pub frames_unit : (request : DumpRequest) (channels : List Channel) (octets : List ℕ) → request.kind ≡ Frames → request.deep ≡ false → TellsUnit request channels octets (AsFrame octets ∷ []) channels
+frames_unit request channels octets kind deep =
+    let P : DumpKind → Bool → Type 0 = λ k d. TellsAs k d request channels octets (AsFrame octets ∷ []) channels in
+    subst (λ k. P k request.deep) (sym kind) (subst (λ d. P Frames d) (sym deep) (refl, refl))
+
+pub deep_unit : {E : Type 0} (request : DumpRequest) (channels : List Channel) (octets : List ℕ) (after : List Channel) (r : Result (Unit {0}) E) (old new : Option (List ℕ)) → request.kind ≡ Frames → request.deep ≡ true
+    → OnOk r (WritesUnit (TellsDeep request channels octets) request after old new) → OnOk r (WritesUnit (TellsUnit request channels octets) request after old new)
+deep_unit request channels octets after (Err e) old new kind deep wrote = tt
+deep_unit request channels octets after (Ok x) old new kind deep wrote =
+    let P : DumpKind → Bool → Type 0 = λ k d. TellsAs k d request channels octets wrote.tolds after in
+    record {
+      tolds = wrote.tolds;
+      told = subst (λ k. P k request.deep) (sym kind) (subst (λ d. P Frames d) (sym deep) wrote.told);
+      written = wrote.written;
+    }
+
+-- ---- a frame, and what it carries
+pub deep_carried : {E : Type 0} (request : DumpRequest) (channels : List Channel) (octets mpdu : List ℕ) (header : FrameHeader) (carried : CarriedText) (after : List Channel)
+    (r : Result (Unit {0}) E) (old mid new : Option (List ℕ)) → SpellsFrame (channel_in octets request.shape) header octets → mpdu ≡ mpdu_in request.shape.fields octets
+    → FrameCarries channels header mpdu carried after → WritesLine (TellsAsFrame request.form request.shape octets) old mid
+    → OnOk r (WritesLines (TellsTold request) (carried_told carried) mid new) → OnOk r (WritesUnit (TellsDeep request channels octets) request after old new)
+deep_carried request channels octets mpdu header carried after r old mid new spelled same carries line more =
+    let such : TellsCarried request channels octets (AsFrame octets ∷ carried_told carried) after = record {
+      header = header;
+      spelled = spelled;
+      carried = carried;
+      carries = subst (λ m. FrameCarries channels header m carried after) same carries;
+      words = refl;
+    } in
+    unit_told (TellsDeep request channels octets) request (AsFrame octets ∷ carried_told carried) after r old new (inl such)
+    (told_more request (AsFrame octets ∷ []) (carried_told carried) r old mid new (one_told request (AsFrame octets) old mid line) more)
+
+pub deep_unfollowed : {E : Type 0} (request : DumpRequest) (channels : List Channel) (octets : List ℕ) (header : FrameHeader) (after : List Channel)
+    (r : Result (Unit {0}) E) (old mid new : Option (List ℕ)) → SpellsFrame (channel_in octets request.shape) header octets → IsUnfollowed channels header after
+    → WritesLine (TellsAsFrame request.form request.shape octets) old mid → OnOk r (WritesLines (TellsTold request) (Says Unfollowed ∷ []) mid new)
+    → OnOk r (WritesUnit (TellsDeep request channels octets) request after old new)
+deep_unfollowed request channels octets header after r old mid new spelled unfollowed line more =
+    let such : TellsUnfollowed request channels octets (AsFrame octets ∷ Says Unfollowed ∷ []) after = record {
+      header = header;
+      spelled = spelled;
+      unfollowed = unfollowed;
+      words = refl;
+    } in
+    unit_told (TellsDeep request channels octets) request (AsFrame octets ∷ Says Unfollowed ∷ []) after r old new (inr (inl such))
+    (told_more request (AsFrame octets ∷ []) (Says Unfollowed ∷ []) r old mid new (one_told request (AsFrame octets) old mid line) more)
+
+pub deep_none : (request : DumpRequest) (channels : List Channel) (octets : List ℕ) (error : FrameError) (old mid : Option (List ℕ)) → frame_fault octets (channel_in octets request.shape) ≡ Some error
+    → WritesLine (TellsAsFrame request.form request.shape octets) old mid → WritesUnit (TellsDeep request channels octets) request channels old mid
+deep_none request channels octets error old mid fault line = record {
+  tolds = AsFrame octets ∷ [];
+  told = inr (inr (record { error = error; fault = fault; words = (refl, refl) }));
+  written = one_told request (AsFrame octets) old mid line;
+}
+
+-- ---- one item of a capture
+pub item_unit : {E : Type 0} (whole : ℕ) (request : DumpRequest) (channels : List Channel) (p : PacketText) (octets : List ℕ) (after : List Channel) (r : Result (Unit {0}) E) (old new : Option (List ℕ))
+    → unit_fault p ≡ None → octets ≡ unit_in p → OnOk r (WritesUnit (TellsUnit request channels octets) request after old new)
+    → OnOk r (WritesUnit (TellsItem whole request channels (Captured p)) request after old new)
+item_unit whole request channels p octets after (Err e) old new none same wrote = tt
+item_unit whole request channels p octets after (Ok x) old new none same wrote = record {
+  tolds = wrote.tolds;
+  told = rw none (subst (λ o. TellsUnit request channels o wrote.tolds after) same wrote.told);
+  written = wrote.written;
+}
+
+pub item_passed : {E : Type 0} (whole : ℕ) (request : DumpRequest) (channels : List Channel) (p : PacketText) (passed : Passed) (r : Result (Unit {0}) E) (old new : Option (List ℕ))
+    → unit_fault p ≡ Some passed → OnOk r (WritesLines (TellsTold request) (Says (PassedBy passed) ∷ []) old new)
+    → OnOk r (WritesUnit (TellsItem whole request channels (Captured p)) request channels old new)
+item_passed whole request channels p passed (Err e) old new fault wrote = tt
+item_passed whole request channels p passed (Ok x) old new fault wrote = record { tolds = Says (PassedBy passed) ∷ []; told = rw fault (refl, refl); written = wrote }
+
+-- ---- one line
+pub line_unit : {E : Type 0} (request : DumpRequest) (channels : List Channel) (line octets : List ℕ) (after : List Channel) (r : Result (Unit {0}) E) (old new : Option (List ℕ))
+    → Some octets ≡ hex_octets line → OnOk r (WritesUnit (TellsUnit request channels octets) request after old new)
+    → OnOk r (WritesUnit (TellsLine request channels line) request after old new)
+line_unit request channels line octets after (Err e) old new has wrote = tt
+line_unit request channels line octets after (Ok x) old new has wrote = record { tolds = wrote.tolds; told = rw (← has) wrote.told; written = wrote.written }
+
+pub line_bad : {E : Type 0} (request : DumpRequest) (channels : List Channel) (line : List ℕ) (r : Result (Unit {0}) E) (old new : Option (List ℕ))
+    → None ≡ hex_octets line → OnOk r (WritesLine (TellsTold request (BadHex (without_return line))) old new)
+    → OnOk r (WritesUnit (TellsLine request channels line) request channels old new)
+line_bad request channels line (Err e) old new has wrote = tt
+line_bad request channels line (Ok x) old new has wrote = record {
+  tolds = BadHex (without_return line) ∷ [];
+  told = rw (← has) (refl, refl);
+  written = one_told request (BadHex (without_return line)) old new wrote;
 }

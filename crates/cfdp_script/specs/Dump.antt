@@ -13,7 +13,8 @@ use Rattle.cfdp_report.specs.declared.exit.Exit.{Exit}
 use Rattle.cfdp_report.specs.declared.exit.Exit.TheVariants.{Complete, Device}
 use Rattle.cfdp_report.specs.declared.exit.Fault.TheVariants.{NoMemory, TooLong, Unwritable}
 use Rattle.cfdp_script.specs.declared.dump.DumpRequest.{DumpRequest}
-use Rattle.cfdp_script.specs.Dump.Told.{BadHex, Told}
+use Rattle.cfdp_script.specs.Dump.Told as told
+use Rattle.cfdp_script.specs.Dump.Told.{BadHex}
 use Rattle.cfdp_script.specs.Dump.Units.{TellsItem, TellsOne, TellsUnit, WritesRun}
 use Rattle.cfdp_script.specs.Script.Words.{onto_first, parts, without_return}
 
@@ -36,7 +37,7 @@ abbrev pub hex_octets : List ℕ → Option (List ℕ)
 hex_octets line = result_ok (decode_of (digits_of (without_return line)))
 
 -- This is told of a line.
-abbrev pub TellsLine : DumpRequest → List Channel → List ℕ → List Told → List Channel → Type 0
+abbrev pub TellsLine : DumpRequest → List Channel → List ℕ → List told.Told → List Channel → Type 0
 TellsLine request channels line tolds after =
     MatchOption (hex_octets line) (TellsOne (BadHex (without_return line)) channels tolds after)
     (λ octets. TellsUnit request channels octets tolds after)

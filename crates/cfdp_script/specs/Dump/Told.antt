@@ -1,5 +1,5 @@
 -- What a dump tells, thing by thing, each in a line or in some where fields are told.
-use Rattle.std.specs.Prelude.{◌≡◌, ℕ, ◌+◌, ◌-◌, ◌<◌, ◌==◌, ◌&&◌, ◌||◌, Bool, true, false, nat_le, nat_lt, if◌then◌else◌, List, [], ◌∷◌, ◌++◌, codes, decimal, drop, length, slice_index, Option, Some, None}
+use Rattle.std.specs.Prelude.{◌≡◌, ℕ, ◌+◌, ◌-◌, ◌<◌, ◌==◌, ◌&&◌, ◌||◌, Bool, true, false, nat_le, nat_lt, not, if◌then◌else◌, List, [], ◌∷◌, ◌++◌, codes, decimal, drop, length, slice_index, Option, Some, None}
 use Rattle.std.specs.Int.{is_in_range}
 use Rattle.std.specs.List.{flat_map}
 use Rattle.captures.specs.Texts.{fault_text, passed_text}
@@ -57,23 +57,25 @@ pub record IsBadPlace (line : List ℕ) (place : ℕ) : Type 0 where
 
 abbrev pub IsSaidOf : List ℕ → Option ℕ → Type 0
 IsSaidOf line None = (k : ℕ) → k < length line → may_stand line k ≡ true
-IsSaidOf line (Some place) = IsBadPlace line place
+IsSaidOf line (Some column) = (place : ℕ) × IsBadPlace line place × (column ≡ place + 1)
 
 abbrev pub place_text : Option ℕ → List ℕ
 place_text None = codes " odd digits"
-place_text (Some place) = codes " column " ++ decimal (place + 1)
+place_text (Some column) = codes " column " ++ decimal column
 
 -- The text tells it.
 pub record TellsBadHex (form : DumpForm) (line text : List ℕ) : Type 0 where
-  pub place : Option ℕ
-  pub said : IsSaidOf line place
-  pub words : text ≡ refusal_text Hex ++ (place_text place ++ end_of form)
+  pub column : Option ℕ
+  pub said : IsSaidOf line column
+  pub words : text ≡ refusal_text Hex ++ (place_text column ++ end_of form)
 
--- whether a packet has a PDU: it is no segment, and has no secondary header (CCSDS 133.0-B-2,
+-- the PDU of a packet: it has one if it is no segment and has no secondary header (CCSDS 133.0-B-2,
 -- 4.1.3.3.3, 4.1.3.4.2)
-abbrev pub carries_pdu : List ℕ → Bool
-carries_pdu packet = nat_le 6 (length packet)
-    && ((flags_field packet == 3) && (secondary_field packet == 0))
+abbrev pub pdu_in : List ℕ → Option (List ℕ)
+pdu_in packet = if nat_lt (length packet) 6 then None
+    else if not (flags_field packet == 3) then None
+    else if not (secondary_field packet == 0) then None
+    else Some (drop 6 packet)
 
 -- the APID of a packet, its sequence count and its octets; each packet has a header of six octets
 abbrev pub packet_remark : List ℕ → Remark
@@ -87,23 +89,32 @@ TellsTold request (AsPdu octets) text = TellsAsPdu request.form octets text
 TellsTold request (AsFrame octets) text = TellsAsFrame request.form request.shape octets text
 TellsTold request (Says remark) text = text ≡ remark_text remark
 
--- ---- what a frame carries: first how many are missing, then what is out of order in it, and then
--- each packet that ends in it, with its PDU
-abbrev pub missing_told : ℕ → List Told
-missing_told frames = if frames == 0 then [] else Says (Missing frames) ∷ []
+-- ---- what a frame carries: first how many are missing, then that it has idle data or what is out of
+-- order in it, and then each packet that ends in it, with its PDU
+abbrev pub missing_remark : ℕ → Option Remark
+missing_remark frames = if frames == 0 then None else Some (Missing frames)
 
-abbrev pub cut_told : Bool → List Told
-cut_told cut_off = if cut_off then Says CutOff ∷ [] else []
+abbrev pub idle_remark : Bool → Option Remark
+idle_remark only_idle = if only_idle then Some OnlyIdle else None
 
-abbrev pub bad_told : ℕ → List Told
-bad_told headers = if headers == 0 then [] else Says (BadHeaders headers) ∷ []
+abbrev pub cut_remark : Bool → Option Remark
+cut_remark cut_off = if cut_off then Some CutOff else None
+
+abbrev pub bad_remark : ℕ → Option Remark
+bad_remark headers = if headers == 0 then None else Some (BadHeaders headers)
+
+abbrev pub said : Option Remark → List Told
+said None = []
+said (Some remark) = Says remark ∷ []
+
+abbrev pub pdu_told : Option (List ℕ) → List Told
+pdu_told None = []
+pdu_told (Some octets) = AsPdu octets ∷ []
 
 abbrev pub packet_told : List ℕ → List Told
-packet_told packet = if carries_pdu packet then Says (packet_remark packet) ∷ AsPdu (drop 6 packet) ∷ []
-    else Says (packet_remark packet) ∷ []
-
-abbrev pub zone_told : CarriedText → List Told
-zone_told c = cut_told c.cut_off ++ (bad_told c.bad ++ flat_map packet_told c.packets)
+packet_told packet = Says (packet_remark packet) ∷ pdu_told (pdu_in packet)
 
 abbrev pub carried_told : CarriedText → List Told
-carried_told c = missing_told c.missing ++ (if c.only_idle then Says OnlyIdle ∷ [] else zone_told c)
+carried_told c = said (missing_remark c.missing) ++ (said (idle_remark c.only_idle)
+    ++ (said (cut_remark c.cut_off) ++ (said (bad_remark c.bad)
+    ++ flat_map packet_told c.packets)))

@@ -5,8 +5,8 @@ ghost use Rattle.cfdp_script.specs.Dump.Told.{IsSaidOf, place_text};
 
 use std::fmt;
 
-/// The place of the first octet of a line that may not stand there, if there is one; else the digits
-/// are odd in number.
+/// The column, from 1, of the first octet of a line that may not stand there, if there is one; else
+/// the digits are odd in number.
 #[derive(Clone, Copy)]
 pub(crate) struct BadPlace(Option<usize>);
 
@@ -15,7 +15,7 @@ impl fmt::Display for BadPlace {
 
     fn fmt<W: fmt::Write>(&self, f: &mut fmt::Formatter<W>) -> fmt::Result {
         match self.0 {
-            Some(place) => write!(f, " column {}", place.saturating_add(1)),
+            Some(column) => write!(f, " column {column}"),
             None => f.write_str(" odd digits"),
         }
     }
@@ -28,7 +28,7 @@ impl BadPlace {
     {
         for place in 0..line.len() {
             if !may_stand(line, place) {
-                return BadPlace(Some(place));
+                return BadPlace(Some(place + 1));
             }
         }
         BadPlace(None)

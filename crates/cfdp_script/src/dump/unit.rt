@@ -1,21 +1,21 @@
 //! What one unit spells, a PDU or a frame, and what a frame carries.
-ghost use Rattle.std.specs.Prelude.{◌≡◌, ◌≤◌, ◌∷◌, [], length, IfSome, None, OnOk, Some};
+ghost use Rattle.std.specs.Prelude.{◌≡◌, ◌≤◌, ◌∷◌, [], length, IfOk, OnOk};
 ghost use Rattle.std.specs.List.{flat_map};
+ghost use Rattle.std.specs.Option.{option_map};
+ghost use Rattle.std.specs.Result.{result_err};
 ghost use Rattle.aos_frame.specs.Frame.{SpellsFrame, frame_fault};
-ghost use Rattle.aos_frame.specs.declared.error.FrameError.{FrameError};
 ghost use Rattle.frame_fields.specs.Fields.{mpdu_in};
 ghost use Rattle.cfdp_report.specs.Dump.Lines.{WritesLines};
 ghost use Rattle.cfdp_report.specs.Dump.Shape.{IsShape, channel_in};
 ghost use Rattle.cfdp_script.specs.Dump.Told as told;
-ghost use Rattle.cfdp_script.specs.Dump.Told.{Says, TellsTold, bad_told, carried_told};
-ghost use Rattle.cfdp_script.specs.Dump.Told.{cut_told, missing_told, packet_told, zone_told};
+ghost use Rattle.cfdp_script.specs.Dump.Told.{Says, TellsTold, carried_told, packet_told, said};
 ghost use Rattle.cfdp_script.specs.Dump.Units.{TellsDeep, TellsUnit, WritesUnit};
 ghost use Rattle.vc_packets.specs.Carrying.{carried_text};
 ghost use Rattle.mpdu.specs.Feeding.{octets_of_each};
 
 use crate::dump::remark::Remark;
 use crate::dump::{DumpKind, DumpRequest};
-use aos_frame::{ChannelConfig, FrameHeader, HEADER_LEN, decode};
+use aos_frame::{ChannelConfig, FrameError, FrameHeader, HEADER_LEN, decode};
 use cfd_bits::get;
 use cfdp_report::{FrameShape, write_frame, write_pdu};
 use space_packet::header;
@@ -61,28 +61,30 @@ fn write_deep<W: Write>(
         channels.new (W.contents out.old) (W.contents out.new)) }
 {
     write_frame(octets, request.shape, request.form, out)?;
-    let Some((header, mpdu)) = frame_of(octets, request.shape) else {
-        return Ok(());
-    };
-    match channels.take(header, mpdu)? {
-        Some(carried) => write_carried(request, &carried, out),
-        None => write_remark(request, Remark::Unfollowed, out),
+    match frame_of(octets, request.shape) {
+        Ok((header, mpdu)) => match channels.take(header, mpdu)? {
+            Some(carried) => write_carried(request, &carried, out),
+            None => write_remark(request, Remark::Unfollowed, out),
+        },
+        Err(_) => Ok(()),
     }
 }
 
-/// The header and the M_PDU of a frame of this shape, of the channel that it names. `None` where
-/// the octets are no such frame.
-fn frame_of(octets: &[u8], shape: FrameShape) -> Option<(FrameHeader, &[u8])>
+/// The header and the M_PDU of a frame of this shape, of the channel that it names.
+///
+/// # Errors
+///
+/// Why the octets are no such frame.
+fn frame_of(octets: &[u8], shape: FrameShape) -> Result<(FrameHeader, &[u8]), FrameError>
     requires { IsShape shape }
-    ensures found { IfSome result (λ x. SpellsFrame (channel_in octets.now shape) x.0 octets.now) }
-    ensures mpdu { IfSome result (λ x. x.1.now ≡ mpdu_in shape.fields octets.now) }
-    ensures least { IfSome result (λ x. 18 ≤ length x.1.now) }
-    ensures most { IfSome result (λ x. length x.1.now ≤ 2042) }
-    ensures none { result ≡ None → (error : FrameError)
-        × (frame_fault octets.now (channel_in octets.now shape) ≡ Some error) }
+    ensures found { IfOk result (λ x. SpellsFrame (channel_in octets.now shape) x.0 octets.now) }
+    ensures mpdu { IfOk result (λ x. x.1.now ≡ mpdu_in shape.fields octets.now) }
+    ensures least { IfOk result (λ x. 18 ≤ length x.1.now) }
+    ensures most { IfOk result (λ x. length x.1.now ≤ 2042) }
+    ensures refused { result_err result ≡ frame_fault octets.now (channel_in octets.now shape) }
 {
     if octets.len() < HEADER_LEN {
-        return None;
+        return Err(FrameError::Length);
     }
     let own = ChannelConfig {
         spacecraft: get(octets, 2, 8) as u8,
@@ -91,7 +93,7 @@ fn frame_of(octets: &[u8], shape: FrameShape) -> Option<(FrameHeader, &[u8])>
         apid: 0,
         fields: shape.fields,
     };
-    decode(octets, &own).ok()
+    decode(octets, &own)
 }
 
 /// Writes what a frame carries.
@@ -103,73 +105,69 @@ fn write_carried<W: Write>(request: DumpRequest, carried: &Carried, out: &mut W)
     ensures { OnOk result (WritesLines (TellsTold request) (carried_told (carried_text carried.now))
         (W.contents out.old) (W.contents out.new)) }
 {
-    write_missing(request, carried.missing, out)?;
-    if carried.only_idle {
-        write_remark(request, Remark::OnlyIdle, out)
-    } else {
-        write_zone(request, carried, out)
-    }
-}
-
-/// Writes how many frames are missing, where some are.
-///
-/// # Errors
-///
-/// That of the writer.
-fn write_missing<W: Write>(request: DumpRequest, frames: u32, out: &mut W) -> io::Result<()>
-    ensures { OnOk result (WritesLines (TellsTold request) (missing_told frames)
-        (W.contents out.old) (W.contents out.new)) }
-{
-    if frames == 0 {
-        Ok(())
-    } else {
-        write_remark(request, Remark::Missing(frames), out)
-    }
-}
-
-/// Writes what is in the packet zone of a frame.
-///
-/// # Errors
-///
-/// That of the writer.
-fn write_zone<W: Write>(request: DumpRequest, carried: &Carried, out: &mut W) -> io::Result<()>
-    ensures { OnOk result (WritesLines (TellsTold request) (zone_told (carried_text carried.now))
-        (W.contents out.old) (W.contents out.new)) }
-{
-    write_cut(request, carried.notes.resync, out)?;
-    write_bad(request, carried.notes.bad, out)?;
+    let missing = missing_remark(carried.missing);
+    let idle = idle_remark(carried.only_idle);
+    let cut = cut_remark(carried.notes.resync);
+    let bad = bad_remark(carried.notes.bad);
+    write_said(request, missing, out)?;
+    write_said(request, idle, out)?;
+    write_said(request, cut, out)?;
+    write_said(request, bad, out)?;
     write_packets(request, &carried.packets, out)
 }
 
-/// Writes that a begun packet is cut off, where one is.
-///
-/// # Errors
-///
-/// That of the writer.
-fn write_cut<W: Write>(request: DumpRequest, cut_off: bool, out: &mut W) -> io::Result<()>
-    ensures { OnOk result (WritesLines (TellsTold request) (cut_told cut_off)
-        (W.contents out.old) (W.contents out.new)) }
+/// What is said of frames that are missing.
+fn missing_remark(frames: u32) -> Option<Remark>
+    ensures { result ≡ told.missing_remark frames }
 {
-    if cut_off {
-        write_remark(request, Remark::CutOff, out)
+    if frames == 0 {
+        None
     } else {
-        Ok(())
+        Some(Remark::Missing(frames))
     }
 }
 
-/// Writes how many packet headers are bad, where some are.
+/// What is said of a frame of idle data only.
+fn idle_remark(only_idle: bool) -> Option<Remark>
+    ensures { result ≡ told.idle_remark only_idle }
+{
+    if only_idle {
+        Some(Remark::OnlyIdle)
+    } else {
+        None
+    }
+}
+
+/// What is said of a packet that is cut off.
+fn cut_remark(cut_off: bool) -> Option<Remark>
+    ensures { result ≡ told.cut_remark cut_off }
+{
+    if cut_off { Some(Remark::CutOff) } else { None }
+}
+
+/// What is said of bad packet headers.
+fn bad_remark(headers: u8) -> Option<Remark>
+    ensures { result ≡ told.bad_remark headers }
+{
+    if headers == 0 {
+        None
+    } else {
+        Some(Remark::BadHeaders(headers))
+    }
+}
+
+/// Writes what is to be said, if anything is.
 ///
 /// # Errors
 ///
 /// That of the writer.
-fn write_bad<W: Write>(request: DumpRequest, headers: u8, out: &mut W) -> io::Result<()>
-    ensures { OnOk result (WritesLines (TellsTold request) (bad_told headers)
+fn write_said<W: Write>(request: DumpRequest, remark: Option<Remark>, out: &mut W) -> io::Result<()>
+    ensures { OnOk result (WritesLines (TellsTold request) (said remark)
         (W.contents out.old) (W.contents out.new)) }
 {
-    if headers == 0 {
-        Ok(())
-    } else {
-        write_remark(request, Remark::BadHeaders(headers), out)
+    match remark {
+        Some(remark) => write_remark(request, remark, out),
+        None => Ok(()),
     }
 }
 
@@ -199,10 +197,9 @@ fn write_packet<W: Write>(request: DumpRequest, packet: &[u8], out: &mut W) -> i
         (W.contents out.old) (W.contents out.new)) }
 {
     write_remark(request, packet_remark(packet), out)?;
-    if carries_pdu(packet) {
-        write_pdu(&packet[header::HEADER_LEN..], request.form, out)
-    } else {
-        Ok(())
+    match pdu_in(packet) {
+        Some(pdu) => write_pdu(pdu, request.form, out),
+        None => Ok(()),
     }
 }
 
@@ -233,9 +230,19 @@ pub(crate) fn write_remark<W: Write>(
     writeln!(out, "{remark}")
 }
 
-/// Whether a packet has a PDU: it is no segment, and has no secondary header.
-fn carries_pdu(packet: &[u8]) -> bool
-    ensures { result ≡ told.carries_pdu packet.now }
+/// The PDU of a packet, if it has one: if it is no segment, and has no secondary header.
+fn pdu_in(packet: &[u8]) -> Option<&[u8]>
+    ensures { option_map (λ pdu. pdu.now) result ≡ told.pdu_in packet.now }
 {
-    packet.len() >= header::HEADER_LEN && get(packet, 16, 2) == 3 && get(packet, 4, 1) == 0
+    if packet.len() < header::HEADER_LEN {
+        return None;
+    }
+    if get(packet, 16, 2) != 3 {
+        return None;
+    }
+    if get(packet, 4, 1) != 0 {
+        return None;
+    }
+    let (_, pdu) = packet.split_at(header::HEADER_LEN);
+    Some(pdu)
 }

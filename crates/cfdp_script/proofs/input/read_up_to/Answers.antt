@@ -11,8 +11,8 @@ too_much most (Some all) None last script part came more long = absurd came
 too_much most (Some all) (Some behind) None script part came more long = absurd more
 too_much most (Some all) (Some behind) (Some left) script part came more long = rw (came, more, length-append, length-append) (omega (arith, long))
 
-pub returns-then-count-len-clause-fault : goal.returns-then-count-len-clause-fault
-returns-then-count-len-clause-fault g c =
+pub returns-then-count-most-clause-fault : goal.returns-then-count-most-clause-fault
+returns-then-count-most-clause-fault g c =
     let part = take c.in-Ok.count c.read.new.buf in
-    let long : c.args.most < length c.loop.file.items + length part = grind (arith, common_steps, c.loop.file.ok.0, c.in-Ok.ensures.bound, c.len.ensures, c.if-count-len.true) in
+    let long : c.args.most < length c.loop.file.items + length part = grind (arith, common_steps, c.loop.file.ok.0, c.in-Ok.ensures.bound, c.len.ensures, c.if-count-most.true) in
     too_much c.args.most _ _ _ c.loop.file.items part c.loop.invariant.1 c.in-Ok.ensures.bytes.0 long
