@@ -67,5 +67,6 @@ pub fn shown_by(alloc: Global, arguments: &ArgMatches<'_>) -> Result<Shown, Allo
         trace: is_given(arguments, "trace"),
         pcap: owned_word(alloc, arguments, "pcap")?,
         chart: owned_word(alloc, arguments, "chart")?,
+        keeps: false,
     })
 }

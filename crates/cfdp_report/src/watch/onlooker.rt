@@ -4,6 +4,7 @@ use crate::dump::shape::FrameShapes;
 use crate::report::condition::{Cancels, Conditions};
 use crate::watch::dropped::Dropped;
 use crate::watch::frames::Watch;
+use crate::watch::kept::Kept;
 use crate::watch::recorder::{Recorder, Screen, Showing};
 use crate::watch::sent::{Sent, SentFrames};
 use crate::watch::shown::Shown;
@@ -111,6 +112,8 @@ pub struct Summary {
     pub two: StationSummary,
     /// What became of what was to be shown as it was seen.
     pub showing: Showing,
+    /// What passed in a script, where that was to be kept.
+    pub kept: Option<Kept>,
 }
 
 /// What is known of a station of a run that is over.
@@ -139,6 +142,8 @@ pub struct Seen<'a> {
     // What the stations did in this event, and where it is written.
     log: Log,
     recorder: Recorder<'a>,
+    // What they did in all events of a script, where that is kept.
+    kept: Option<Kept>,
     // Which conditions they told their users.
     conditions: Conditions,
     // Either station.
@@ -161,12 +166,18 @@ impl<'a> Seen<'a> {
         let config = config.get();
         let one = Watch::new(alloc, Side::One, Valid::known(config.one.sends))?;
         let two = Watch::new(alloc, Side::Two, Valid::known(config.two.sends))?;
+        let shapes = FrameShapes::of(&config);
         Ok(Seen {
             log: Log::new(alloc),
+            kept: if shown.keeps {
+                Some(Kept::new(alloc, shapes))
+            } else {
+                None
+            },
             conditions: Conditions::new(),
             one: SeenStation::new(Side::One, one),
             two: SeenStation::new(Side::Two, two),
-            recorder: Recorder::new(screen, shown, FrameShapes::of(&config)),
+            recorder: Recorder::new(screen, shown, shapes),
         })
     }
 
@@ -175,6 +186,7 @@ impl<'a> Seen<'a> {
         let Seen {
             log: _,
             mut recorder,
+            kept,
             conditions,
             one,
             two,
@@ -189,6 +201,7 @@ impl<'a> Seen<'a> {
             one: one.into_summary(),
             two: two.into_summary(),
             showing: recorder.ends(),
+            kept,
         }
     }
 
@@ -209,6 +222,9 @@ impl<'a> Seen<'a> {
         self.two.frames.look(frames.1, log);
         self.one.look(stations.0, conditions, log);
         self.two.look(stations.1, conditions, log);
+        if let Some(kept) = &mut self.kept {
+            kept.keep(log, stations);
+        }
         self.recorder.record(log);
     }
 

@@ -11,11 +11,13 @@ pub struct Shown {
     pub pcap: Option<String>,
     /// The file that what passes goes to, as a chart.
     pub chart: Option<String>,
+    /// Whether what passes in a script is kept, for whoever asks for it once the run is over.
+    pub keeps: bool,
 }
 
 impl Shown {
     /// Whether something is asked for that is seen only by one who looks on.
     pub fn is_watched(&self) -> bool {
-        self.explain || self.trace || self.pcap.is_some() || self.chart.is_some()
+        self.explain || self.trace || self.keeps || self.pcap.is_some() || self.chart.is_some()
     }
 }

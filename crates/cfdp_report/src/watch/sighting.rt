@@ -47,6 +47,24 @@ pub struct Sighting {
     pub octets: Vec<u8>,
 }
 
+impl Sighting {
+    /// The same once more.
+    ///
+    /// # Errors
+    ///
+    /// `AllocError` where there is no memory for its octets.
+    pub fn copied(&self, alloc: Global) -> Result<Sighting, AllocError> {
+        Ok(Sighting {
+            step: self.step,
+            event: self.event,
+            place: self.place,
+            station: self.station,
+            deed: self.deed,
+            octets: Vec::from_slice(alloc, self.octets.as_slice())?,
+        })
+    }
+}
+
 /// What was seen and isn't let go yet, in order.
 #[derive(Drop)]
 pub struct Log {

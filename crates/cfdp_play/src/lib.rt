@@ -1,0 +1,24 @@
+//! A page in a browser in which two stations and the link between them can be tried.
+//!
+//! The page holds a script, and asks for the run of it again and again: nothing is kept here from
+//! one request to the next. A script is run by `run_sim`, which is what `cfdp_node sim` runs it
+//! with, over a buffer in memory.
+//!
+//! Tested by `tests/play.py`, through the program above.
+#![tactic(auto)]
+
+mod answer;
+mod asking;
+mod client;
+mod clients;
+mod fields;
+mod load;
+mod page;
+mod play;
+mod run;
+mod serving;
+mod shown;
+mod values;
+
+pub use play::play_status;
+pub use serving::Serving;

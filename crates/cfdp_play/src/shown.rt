@@ -1,0 +1,197 @@
+//! What the page is told of a run, as JSON (RFC 8259).
+ghost use Rattle.std.specs.Prelude.{◌≤◌, IfOk};
+ghost use Rattle.serde_json.specs.Data.{depth};
+ghost use Rattle.serde_json.specs.View.{view};
+ghost use Rattle.cfdp_play.specs.Running.{Tells};
+
+use crate::values::Values;
+use cfdp_report::{
+    Deed, Exit, Fault, FrameShape, FrameShapes, Kept, Ran, Sighting, Standing, write_trace,
+};
+use cfdp_station::Phase;
+use serde_json::{Value, json};
+use std::alloc::{AllocError, Global};
+use std::io::BufWriter;
+
+/// What the page is told of a run that wrote this report.
+///
+/// # Errors
+///
+/// `AllocError` where there is no memory for it.
+pub fn run_value(alloc: Global, ran: &Ran, report: &str) -> Result<Value, AllocError>
+    ensures { IfOk result (λ it. Tells ran.now.exit report.now (view it)) }
+{
+    let (error, seen) = (error_of(alloc, ran.exit)?, seen_value(alloc, kept_of(ran))?);
+    json!(in alloc; {
+        "error": error,
+        "report": report,
+        "seen": seen,
+        "status": u64::from(ran.exit.status()),
+    })
+}
+
+/// What was seen of a run, where anything was.
+fn kept_of(ran: &Ran) -> Option<&Kept> {
+    match &ran.seen {
+        Some(seen) => seen.kept.as_ref(),
+        None => None,
+    }
+}
+
+/// What is wrong with a script or its run, in one line; null where nothing is.
+fn error_of(alloc: Global, exit: Exit) -> Result<Value, AllocError>
+    ensures { IfOk result (λ it. depth (view it) ≤ 0) }
+{
+    match exit {
+        Exit::Complete | Exit::Incomplete => Ok(Value::Null),
+        Exit::BadScript(bad) => Ok(Value::String(format!(in alloc; "{bad}")?)),
+        Exit::Device(fault) => Ok(Value::String(String::from_str(alloc, fault_text(fault))?)),
+    }
+}
+
+/// What failed.
+fn fault_text(fault: Fault) -> &'static str {
+    match fault {
+        Fault::TooLong => "the script is longer than 1,048,576 octets",
+        Fault::Unreadable(_) => "the script can't be read",
+        Fault::Unwritable | Fault::NoMemoryAtStart | Fault::NoMemory =>
+            "there is not enough memory",
+    }
+}
+
+/// What was seen: the trace, the octets of each line of it, and how far the transactions are.
+fn seen_value(alloc: Global, kept: Option<&Kept>) -> Result<Value, AllocError>
+    ensures { IfOk result (λ it. depth (view it) ≤ 3) }
+{
+    let Some(kept) = kept else {
+        return Ok(Value::Null);
+    };
+    let (octets, shapes) = (
+        octets_value(alloc, kept.sightings())?,
+        shapes_value(alloc, kept.shapes())?,
+    );
+    let (standings, trace) = (
+        standings_value(alloc, kept.standings())?,
+        trace(alloc, kept)?,
+    );
+    json!(in alloc; {
+        "cut": kept.is_cut(),
+        "octets": octets,
+        "shapes": shapes,
+        "standings": standings,
+        "trace": text_of(trace.as_slice()),
+    })
+}
+
+/// A text that is ASCII, as all that the program tells.
+fn text_of(octets: &[u8]) -> &str {
+    str::from_utf8(octets).unwrap_or("")
+}
+
+/// The trace of what was seen.
+fn trace(alloc: Global, kept: &Kept) -> Result<Vec<u8>, AllocError> {
+    let Ok(mut out) = BufWriter::new(alloc, Vec::new(alloc)) else {
+        return Err(AllocError);
+    };
+    if write_trace(&mut out, kept.shapes(), kept.sightings()).is_err() {
+        return Err(AllocError);
+    }
+    let (mut trace, waiting) = out.into_parts();
+    trace.extend_from_slice(waiting.as_slice())?;
+    Ok(trace)
+}
+
+/// The octets of each frame and each PDU that was seen, in hexadecimal; of anything else nothing.
+fn octets_value(alloc: Global, sightings: &[Sighting]) -> Result<Value, AllocError>
+    ensures { IfOk result (λ it. depth (view it) ≤ 2) }
+{
+    let mut all = Values::new(alloc);
+    for it in sightings {
+        all.push(Value::String(octets_text(alloc, it)?))?;
+    }
+    Ok(all.into_value())
+}
+
+fn octets_text(alloc: Global, it: &Sighting) -> Result<String, AllocError> {
+    match it.deed {
+        Deed::SendsFrame(_)
+        | Deed::TakesFrame(_)
+        | Deed::LosesFrame(_)
+        | Deed::SendsPdu(_)
+        | Deed::HearsPdu => hex::encode(alloc, it.octets.as_slice()),
+        Deed::Ticks | Deed::Drops | Deed::Tells => Ok(String::new(alloc)),
+    }
+}
+
+/// What the frames are made of that each station sends.
+fn shapes_value(alloc: Global, shapes: FrameShapes) -> Result<Value, AllocError>
+    ensures { IfOk result (λ it. depth (view it) ≤ 2) }
+{
+    let (one, two) = (
+        shape_value(alloc, shapes.one)?,
+        shape_value(alloc, shapes.two)?,
+    );
+    json!(in alloc; [one, two])
+}
+
+fn shape_value(alloc: Global, shape: FrameShape) -> Result<Value, AllocError>
+    ensures { IfOk result (λ it. depth (view it) ≤ 1) }
+{
+    json!(in alloc; {
+        "check": shape.fields.error_control,
+        "control": shape.fields.control_field,
+        "insert": u64::from(shape.fields.insert_zone),
+        "zone": u64::from(shape.zone),
+    })
+}
+
+/// How far the transactions are that have a record at a station.
+fn standings_value(alloc: Global, standings: &[Standing]) -> Result<Value, AllocError>
+    ensures { IfOk result (λ it. depth (view it) ≤ 2) }
+{
+    let mut all = Values::new(alloc);
+    for it in standings {
+        all.push(standing_value(alloc, it)?)?;
+    }
+    Ok(all.into_value())
+}
+
+fn standing_value(alloc: Global, it: &Standing) -> Result<Value, AllocError>
+    ensures { IfOk result (λ it. depth (view it) ≤ 1) }
+{
+    let id = format!(in alloc; "{}:{}", it.id.source, it.id.number)?;
+    let (eof, nak) = (number(it.eof_ack), number(it.nak));
+    let (finished, inactivity) = (number(it.finished_ack), number(it.inactivity));
+    let (progress, station) = (number(it.progress), it.station.entity());
+    json!(in alloc; {
+        "eof_ack": eof,
+        "finished_ack": finished,
+        "id": id.as_str(),
+        "inactivity": inactivity,
+        "nak": nak,
+        "phase": phase_word(it.phase),
+        "progress": progress,
+        "station": station,
+    })
+}
+
+/// A number, or null where it isn't known.
+fn number(value: Option<u64>) -> Value
+    ensures { depth (view result) ≤ 0 }
+{
+    match value {
+        Some(number) => Value::from(number),
+        None => Value::Null,
+    }
+}
+
+/// The word for how far a transaction is.
+fn phase_word(phase: Phase) -> &'static str {
+    match phase {
+        Phase::Sending => "sending",
+        Phase::Cancelling => "cancelling",
+        Phase::Receiving => "receiving",
+        Phase::Finishing => "finishing",
+        Phase::Closed => "closed",
+    }
+}
