@@ -3,7 +3,7 @@ use Rattle.std.proofs.Common.{◌≡◌, ℕ, true, false, List, [], ◌∷◌, 
 use Rattle.clap.specs.Walk.{Text}
 use Rattle.clap.specs.declared.error.kind.ErrorKind.TheVariants.{DisplayHelp, DisplayHelpOnMissingArgumentOrSubcommand, InvalidValue, MissingRequiredArgument, UnknownArgument, ValueValidation}
 use Rattle.clap.proofs.OnLiterals.{clap_on_literals}
-use Rattle.cfdp_command_line.specs.Request.{ask, asked_of, dump, loop, refusals, sim, station, version}
+use Rattle.cfdp_command_line.specs.Request.{ask, asked_of, dump, loop, play, refusals, sim, station, version}
 use Rattle.cfdp_command_line.specs.Shown.{ShownAsked}
 use Rattle.cfdp_command_line.specs.Station.{StationAsked}
 use Rattle.cfdp_command_line.specs.declared.station.CarrierKind.TheVariants.{Frames as FramesCarried, Packets, Pdus as PdusCarried}
@@ -222,6 +222,22 @@ many_retries = refl
 no_peer : refusals (line (codes "station" ∷ codes "--id" ∷ codes "1" ∷ codes "--listen" ∷ codes "a" ∷ codes "--to" ∷ codes "b" ∷ [])) ≡ MissingRequiredArgument ∷ []
 unfolding clap_on_literals
 no_peer = refl
+
+-- ---- play
+
+plain_play : (refusals (line (codes "play" ∷ [])) ≡ [])
+    × (asked_of (line (codes "play" ∷ [])) ≡ Some (play (codes "127.0.0.1:8090")))
+unfolding clap_on_literals
+plain_play = (refl, refl)
+
+play_elsewhere : (refusals (line (codes "play" ∷ codes "--listen" ∷ codes "a" ∷ [])) ≡ [])
+    × (asked_of (line (codes "play" ∷ codes "--listen" ∷ codes "a" ∷ [])) ≡ Some (play (codes "a")))
+unfolding clap_on_literals
+play_elsewhere = (refl, refl)
+
+play_of_a_file : refusals (line (codes "play" ∷ codes "a" ∷ [])) ≡ UnknownArgument ∷ []
+unfolding clap_on_literals
+play_of_a_file = refl
 
 -- ---- ask
 

@@ -23,7 +23,7 @@ use Rattle.cfdp_report.specs.Dump.Shape.{IsShape}
 use Rattle.frame_fields.specs.declared.config.FrameFields.{FrameFields}
 use Rattle.cfdp_script.specs.declared.dump.DumpRequest.{DumpRequest}
 use Rattle.cfdp_command_line.specs.declared.arguments.Request.{Request}
-use Rattle.cfdp_command_line.specs.declared.arguments.Request.TheVariants.{Sim, Dump, Loop, Station, Ask, Version}
+use Rattle.cfdp_command_line.specs.declared.arguments.Request.TheVariants.{Sim, Dump, Loop, Station, Ask, Play, Version}
 use Rattle.cfdp_script.specs.declared.dump.DumpKind.{DumpKind}
 use Rattle.cfdp_script.specs.declared.dump.DumpKind.TheVariants.{Pdus, Frames}
 use Rattle.cfdp_command_line.specs.Looping.{LoopAsked, loop_app, loop_asked, loop_of, number_in, number_rule, place_rule}
@@ -98,10 +98,21 @@ abbrev pub top_app : App
 top_app = with_rule (on_top (λ s. record s { arg_required_else_help = true })
     (new_app (codes "cfdp_node"))) (flag_rule (codes "version"))
 
+-- the address of the page
+abbrev pub listen_rule : Rule
+listen_rule = record (new_rule (codes "listen")) {
+  long = Some (codes "listen");
+  value_names = 1;
+  defaults = codes "127.0.0.1:8090" ∷ [];
+}
+
+abbrev pub play_app : App
+play_app = with_rule (new_app (codes "play")) listen_rule
+
 abbrev pub program_app : App
-program_app = with_subcommand (with_subcommand (with_subcommand
+program_app = with_subcommand (with_subcommand (with_subcommand (with_subcommand
     (with_subcommand (with_subcommand top_app sim_app.top) dump_app.top) loop_app.top)
-    station_app.top) ask_app.top
+    station_app.top) ask_app.top) play_app.top
 
 -- No argument of the command is one of its subcommands too.
 abbrev pub HasNoGlobals : Command → Type 0
@@ -118,14 +129,16 @@ abbrev pub Lines : Type 0
 Lines = DumpKind × FrameShape × DumpForm
 
 -- To run a script, and what is shown of it; to tell lines, and how; to send a file, and how; to run
--- a station, and how; to send a command to the station at an address; or the version. A file that
--- is read is said by its name; without one standard input is read.
+-- a station, and how; to send a command to the station at an address; to serve the page at an
+-- address; or the version. A file that is read is said by its name; without one standard input is
+-- read.
 pub data Asked : Type 0 where
   sim : ShownAsked → (file : Option Text) → Asked
   dump : (lines : Lines) → (file : Option Text) → Asked
   loop : LoopAsked → Asked
   station : StationAsked → Asked
   ask : (address : Text) → (words : List Text) → Asked
+  play : (address : Text) → Asked
   version : Asked
 
 -- what a subcommand's words gave for the argument of this name
@@ -177,6 +190,9 @@ abbrev pub ask_of : List Row → Option Asked
 ask_of rows = option_map (λ address. ask address (words_for (codes "words") rows))
     (first_of (codes "address") rows)
 
+abbrev pub play_of : List Row → Option Asked
+play_of rows = option_map play (first_of (codes "listen") rows)
+
 -- what a subcommand of this name asks for, by what its words gave
 abbrev pub asked_by : Option (Text × List Row) → Option Asked
 asked_by None = Some version
@@ -186,7 +202,8 @@ asked_by (Some found) =
     else (if bytes_eq found.0 (codes "loop") then option_map loop (loop_of found.1)
     else (if bytes_eq found.0 (codes "station") then option_map station (station_of found.1)
     else (if bytes_eq found.0 (codes "ask") then ask_of found.1
-    else None))))
+    else (if bytes_eq found.0 (codes "play") then play_of found.1
+    else None)))))
 
 -- what words that fit the grammar ask for
 abbrev pub asked_of : List Text → Option Asked
@@ -210,6 +227,7 @@ asked (Dump lines file) = dump (asked_lines lines) (option_map (λ name. name.by
 asked (Loop request) = loop (loop_asked request)
 asked (Station request) = station (station_asked request)
 asked (Ask address words) = ask address.bytes.items (map (λ word. word.bytes.items) words.items)
+asked (Play address) = play address.bytes.items
 asked Version = version
 
 -- A packet zone and an insert zone that are asked for have lengths that they may have.
@@ -219,6 +237,7 @@ HasShape (Dump lines file) = IsShape lines.shape
 HasShape (Loop request) = ⊤
 HasShape (Station request) = ⊤
 HasShape (Ask address words) = ⊤
+HasShape (Play address) = ⊤
 HasShape Version = ⊤
 
 -- the exit status of the process where its arguments are not done

@@ -15,6 +15,7 @@ ghost use Rattle.cfdp_command_line.specs.Request.{ask_of, lines_of, program_app,
 ghost use Rattle.cfdp_command_line.specs.Request.{sim_of, words_rule, fields_of, form_of};
 ghost use Rattle.cfdp_command_line.specs.Request.{frames_app, insert_rule, lines_app, shape_of};
 ghost use Rattle.cfdp_command_line.specs.Request.{told_app, top_app, zone_of_word, zone_rule};
+ghost use Rattle.cfdp_command_line.specs.Request.{listen_rule, play_app, play_of};
 ghost use Rattle.cfdp_command_line.specs.Request as asks;
 ghost use Rattle.cfdp_report.specs.Dump.Shape.{IsShape};
 ghost use Rattle.cfdp_command_line.specs.Looping.{loop_app, loop_of};
@@ -54,6 +55,10 @@ pub enum Request {
         address: String,
         /// The command, one or more words.
         words: Vec<String>,
+    },
+    /// To serve a page in which two stations can be tried, at this TCP address.
+    Play {
+        address: String,
     },
     /// To print the version.
     Version,
@@ -196,6 +201,16 @@ answers there (told on standard error).
 
 Example:
   cfdp_node ask 127.0.0.1:5101 list";
+
+const PLAY_HELP: &str = "\
+Writes the address of a page, and serves it until it is ended (Ctrl-C). In the
+page two stations and the link between them run a script, which grows by what is
+clicked: what 'cfdp_node sim' writes for that script, the page shows. It has all
+that it needs in itself. Nothing is kept from one request to the next. Nobody
+but this machine reaches it.
+
+Exit status: 2 bad arguments, 3 the address can't be had (told on standard
+error).";
 
 /// Reads the process's arguments.
 ///
@@ -342,6 +357,7 @@ fn requested(alloc: Global, matches: &ArgMatches<'_>) -> Result<Option<Request>,
         Some(("loop", arguments)) => transfer_request(alloc, arguments),
         Some(("station", arguments)) => serving_request(alloc, arguments),
         Some(("ask", arguments)) => ask_request(alloc, arguments),
+        Some(("play", arguments)) => play_request(alloc, arguments),
         Some(_) => Ok(None),
         None => Ok(Some(Request::Version)),
     }
@@ -381,6 +397,18 @@ fn ask_request(alloc: Global, arguments: &ArgMatches<'_>) -> Result<Option<Reque
     let words = owned_words(alloc, arguments, "words")?;
     match owned_word(alloc, arguments, "address")? {
         Some(address) => Ok(Some(Request::Ask { address, words })),
+        None => Ok(None),
+    }
+}
+
+/// What the words behind `play` ask for.
+fn play_request(alloc: Global, arguments: &ArgMatches<'_>) -> Result<Option<Request>, AllocError>
+    ensures asked { IfOk result (λ found. option_map asked found
+        ≡ play_of (rows_of (found_of arguments.now))) }
+    ensures zone { IfOk result (λ found. IfSome found HasShape) }
+{
+    match owned_word(alloc, arguments, "listen")? {
+        Some(address) => Ok(Some(Request::Play { address })),
         None => Ok(None),
     }
 }
@@ -521,6 +549,22 @@ fn sim_help(alloc: Global) -> Result<String, AllocError> {
 /// The grammar of command lines, with this help of `sim`.
 fn grammar<'a>(alloc: Global, sim_help: &'a str) -> Result<Command<'a>, AllocError>
     ensures { IfOk result (IsCommand program_app) }
+{
+    let told = asking_grammar(alloc, sim_help)?;
+    match play_command(alloc) {
+        Ok(play) => told.subcommand(play),
+        Err(AllocError) => {
+            let_go(told);
+            Err(AllocError)
+        }
+    }
+}
+
+/// The same without `play`.
+fn asking_grammar<'a>(alloc: Global, sim_help: &'a str) -> Result<Command<'a>, AllocError>
+    ensures { IfOk result (IsCommand (with_subcommand (with_subcommand (with_subcommand
+        (with_subcommand (with_subcommand top_app sim_app.top) dump_app.top) loop_app.top)
+        station_app.top) ask_app.top)) }
 {
     let told = stations_grammar(alloc, sim_help)?;
     match ask_command(alloc) {
@@ -671,6 +715,15 @@ fn ask_command<'a>(alloc: Global) -> Result<Command<'a>, AllocError>
     address_command(alloc)?.arg(words_argument(alloc))
 }
 
+fn play_command<'a>(alloc: Global) -> Result<Command<'a>, AllocError>
+    ensures { IfOk result (IsCommand play_app) }
+{
+    Command::new(alloc, "play")
+        .about("Serves a page in a browser in which two stations can be tried")
+        .after_help(PLAY_HELP)
+        .arg(listen_argument(alloc))
+}
+
 /// `ask` without the words of a command.
 fn address_command<'a>(alloc: Global) -> Result<Command<'a>, AllocError>
     ensures { IfOk result (IsCommand address_app) }
@@ -679,6 +732,17 @@ fn address_command<'a>(alloc: Global) -> Result<Command<'a>, AllocError>
         .about("Sends a command to a station, and prints what it answers")
         .after_help(ASK_HELP)
         .arg(address_argument(alloc))
+}
+
+/// Where the page is.
+fn listen_argument<'a>(alloc: Global) -> Arg<'a>
+    ensures { (rule_of result ≡ listen_rule) × (result.global ≡ false) }
+{
+    Arg::new(alloc, "listen")
+        .long("listen")
+        .value_name("ADDR")
+        .default_value("127.0.0.1:8090")
+        .help("The TCP address of the page, on this machine: HOST:PORT")
 }
 
 /// A command with one argument more.
