@@ -1,6 +1,6 @@
 -- Where each fault ends its transaction, all records are closed in the end, and may be let go.
-use Rattle.std.proofs.Common.{◌≡◌, ℕ, zero, suc, ◌+◌, ◌<◌, ◌≤◌, not, cond, is_some, length, get_or, Bool, true, false, List, [], ◌∷◌, slice_get, Option, Some, None, refl, sym, ap, subst, ◌∙◌, arith, if◌then◌else◌}
-use Rattle.std.proofs.lemmas.Bool.{false≢true, true≢false, cond_both}
+use Rattle.std.proofs.Common.{◌≡◌, ℕ, zero, suc, ◌≤◌, not, cond, Bool, true, false, List, [], ◌∷◌, slice_get, Option, Some, None, refl, sym, ap, subst, ◌∙◌, arith}
+use Rattle.std.proofs.lemmas.Bool.{false≢true, cond_both}
 use Rattle.indexmap.specs.IndexMap.{set_value_at}
 use Rattle.cfdp_header.specs.Files.{FileMap}
 use Rattle.cfdp_directives.specs.declared.user.limits.Limits.{Limits}
@@ -11,27 +11,21 @@ use Rattle.cfdp_store.specs.Files.{octets_in}
 use Rattle.cfdp_timers.specs.declared.kind.Kind.{Kind}
 use Rattle.cfdp_timers.specs.Order.{Timer}
 use Rattle.cfdp_sender.specs.declared.due.SenderDue.{SenderDue}
-use Rattle.cfdp_sender.specs.declared.phase.SenderPhase.TheVariants as sending
 use Rattle.cfdp_sender.specs.Due.{sender_due, phase_told}
-use Rattle.cfdp_sender.specs.State.{SenderState}
 use Rattle.cfdp_sender.specs.Steps as sender
 use Rattle.cfdp_receiver.specs.declared.due.Due.{Due}
-use Rattle.cfdp_receiver.specs.declared.state.ReceiverPhase.TheVariants as receiving
 use Rattle.cfdp_receiver.specs.Due.{receiver_due}
-use Rattle.cfdp_receiver.specs.State.{ReceiverState, public_phase}
+use Rattle.cfdp_receiver.specs.State.{public_phase}
 use Rattle.cfdp_receiver.specs.Steps as receiver
 use Rattle.cfdp_entity.specs.Entity.{EntityState}
 use Rattle.cfdp_entity.specs.Forgetting.{is_closed, refusal, over_in, unless_refused}
-use Rattle.cfdp_entity.specs.declared.error.ForgetError.{ForgetError}
 use Rattle.cfdp_entity.specs.declared.error.ForgetError.TheVariants.{StillOpen, AnswerDue}
-use Rattle.cfdp_entity.specs.History.{Takes, Expires, table_step}
+use Rattle.cfdp_entity.specs.History.{Expires}
 use Rattle.cfdp_entity.specs.Polling.{Turn, Stray, Place, Rests, served, turn}
 use Rattle.cfdp_entity.specs.Seen.{Seen, Sends, Receives, is_due, phase_of}
 use Rattle.cfdp_entity.specs.Steps.{After, expires, takes, sender_takes, receiver_takes}
-use Rattle.cfdp_entity.specs.Table.{Entry, TableState, has_due, place_of, step_of, step_at, expired, expired_in, all_expired, at_time}
+use Rattle.cfdp_entity.specs.Table.{Entry, TableState, place_of, step_of, step_at, expired, expired_in, all_expired, at_time}
 use Rattle.cfdp_entity.proofs.Timing.{policy-step}
-use Rattle.cfdp_endings.specs.Sender.{SenderGivesUp, SenderEnds}
-use Rattle.cfdp_endings.specs.Receiver.{ReceiverGivesUp, ReceiverEnds}
 use Rattle.cfdp_endings.specs.Entity.{seen_left, records_left, IsTimely, GivesUp, Ends, is_awake, AllAwake, AllOver, AreServed, IsRound, AreRounds}
 use Rattle.cfdp_endings.proofs.SenderAlone as alone
 use Rattle.cfdp_endings.proofs.ReceiverAlone as receives

@@ -25,7 +25,7 @@ use Rattle.cfdp_entity.specs.Hearing.{opens_record, queues, Takes as TakesPdu, D
 use Rattle.cfdp_entity.specs.History.{Spoils, Hears, Calls, Takes, Fires, table_step}
 use Rattle.cfdp_entity.specs.Polling.{Turn, Stray, Place, Rests, served}
 use Rattle.cfdp_entity.specs.Putting.{Accepts, next_id, next_transfer}
-use Rattle.cfdp_entity.specs.Table.{TableState, Ticks, place_of, heard_at, taken_at, opened_by, put_in, at_time, most_records}
+use Rattle.cfdp_entity.specs.Table.{TableState, Ticks, place_of, heard_at, opened_by, put_in, at_time, most_records}
 use Rattle.cfdp_entity.proofs.Timing.{policy-step, IsForReceiver, hears-set, calls-set, takes-set, puts-set, opens-set}
 use Rattle.cfdp_endings.specs.Entity.{IsTimely, IsLively}
 use Rattle.cfdp_endings.proofs.Tables.{MachineLaws, hears-owes, calls-owes, takes-owes, opens-owes, alike-timely, first-timely, step-timely, push-timely, spoiled-timely, left-timely, ticked-timely}
