@@ -1,5 +1,5 @@
 -- Whatever is called at two stations, each has something to do for all that is open.
-use Rattle.std.proofs.Common.{◌≡◌, ◌⊎◌, ◌≤◌, inl, inr, ℕ, List, [], ◌∷◌, refl, sym, ap, subst, ◌∙◌}
+use Rattle.std.proofs.Common.{◌≡◌, inl, inr, ℕ, List, [], ◌∷◌, refl, sym, ap, subst, ◌∙◌}
 use Rattle.cfdp_header.specs.declared.value.TransactionId.{TransactionId}
 use Rattle.cfdp_header.specs.Files.{FileMap}
 use Rattle.cfdp_directives.specs.Pdu.Faults.{pdu_fault}
@@ -25,7 +25,7 @@ use Rattle.cfdp_station.specs.declared.polled.Polled.{Polled}
 use Rattle.cfdp_station.specs.declared.polled.Polled.TheVariants.{Moved, Nothing, Full, SourceFailed}
 use Rattle.any_order.specs.Calls.{AreJoined, At, Call, DoesCall, End, Event, Happen, Happens, IsNew, One, Two, Pair, Setup, Side, at, entity_of, numbered_from, setup_of}
 use Rattle.any_order.specs.Calls.{Puts, Asks, Tells, Polls, Fills, Gives, Receives, Refuses, Restarts}
-use Rattle.cfdp_endings.specs.Entity.{AreRounds, GivesUp, IsLively, NoneOpen, records_left}
+use Rattle.cfdp_endings.specs.Entity.{IsLively}
 
 -- what is known of an entity
 pub record EntityLaws : Type 0 where

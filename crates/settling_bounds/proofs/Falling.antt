@@ -1,5 +1,5 @@
 -- Each event of a settling that does something lowers the work that remains, and the others keep it.
-use Rattle.std.proofs.Common.{◌≡◌, ◌⊎◌, ◌+◌, ◌<◌, ◌≤◌, inl, inr, ℕ, List, [], ◌∷◌, refl, sym, ap, subst, arith}
+use Rattle.std.proofs.Common.{◌≡◌, ◌+◌, ◌<◌, ◌≤◌, List, [], ◌∷◌, sym, subst, arith}
 use Rattle.link_sim.specs.Settling.{AreOfSettling, IsOfSettling}
 use Rattle.link_sim.specs.Sound.{IsSound}
 use Rattle.link_sim.specs.Work.{world_work}

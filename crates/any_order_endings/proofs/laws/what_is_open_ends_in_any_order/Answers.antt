@@ -1,4 +1,4 @@
-use Rattle.std.proofs.Common.{◌≤◌, ℕ, sym, subst}
+use Rattle.std.proofs.Common.{◌≤◌, sym, subst}
 use Rattle.cfdp_directives.specs.declared.user.policy.Policy.{Policy}
 use Rattle.any_order.specs.Calls.{at, entity_of, setup_of}
 use Rattle.cfdp_endings.specs.Entity.{GivesUp, records_left}
