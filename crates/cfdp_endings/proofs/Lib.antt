@@ -3,5 +3,6 @@ mod ReceiverAlone
 mod Tables
 mod Entities
 mod Rounds
+mod Closing
 mod Dues
 mod Worked

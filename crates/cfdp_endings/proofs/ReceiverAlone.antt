@@ -254,13 +254,13 @@ module _ (m : OctetMap) (files : FileMap) where
   finished-awake (Some count) r awake = awake
   finished-awake None r awake = refl
 
-  expires-awake : (k : Kind) (policy : Policy) (r : ReceiverState) → ReceiverEnds policy → Awake r → Awake (expires_by k policy m files r).receiver
+  pub expires-awake : (k : Kind) (policy : Policy) (r : ReceiverState) → ReceiverEnds policy → Awake r → Awake (expires_by k policy m files r).receiver
   expires-awake kind.EofAck policy r e awake = awake
   expires-awake kind.Nak policy r e awake = nak-awake (another_try r.nak_count policy.limits.nak) policy.handlers.nak r e.nak awake
   expires-awake kind.FinishedAck policy r e awake = finished-awake (another_try r.finished_count policy.limits.finished) r awake
   expires-awake kind.Inactivity policy r e awake = handled-awake policy.handlers.inactivity inactivity r e.inactivity
 
-  taken-awake : (d : Due) (r : ReceiverState) → Awake r → Awake (takes d m files r).receiver
+  pub taken-awake : (d : Due) (r : ReceiverState) → Awake r → Awake (takes d m files r).receiver
   taken-awake (due.AckOfEof condition) r awake = awake
   taken-awake (due.Nak cursor) r awake = awake
   taken-awake due.KeepAlive r awake = awake

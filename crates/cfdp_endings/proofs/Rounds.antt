@@ -44,11 +44,11 @@ use Rattle.cfdp_entity.proofs.Histories.{no-record}
 use Rattle.cfdp_entity.proofs.Timing.{key-there, no-place, at-own, policy-step}
 use Rattle.cfdp_endings.specs.Sender.{sender_open, sender_left}
 use Rattle.cfdp_endings.specs.Receiver.{receiver_open, receiver_left}
-use Rattle.cfdp_endings.specs.Entity.{seen_open, seen_left, IsOwing, records_left, open_count, most_left, NoneOpen, IsTimely, EntryGoesOn, GivesUp, AreServed, IsRound, AreRounds}
+use Rattle.cfdp_endings.specs.Entity.{seen_open, seen_left, IsOwing, records_left, open_count, most_left, NoneOpen, IsTimely, IsLively, EntryGoesOn, GivesUp, AreServed, IsRound, AreRounds}
 use Rattle.cfdp_endings.proofs.SenderAlone as alone
 use Rattle.cfdp_endings.proofs.ReceiverAlone as receives
 use Rattle.cfdp_endings.proofs.Tables.{MachineLaws, owe-at, ticked-timely}
-use Rattle.cfdp_endings.proofs.Entities.{served-timely}
+use Rattle.cfdp_endings.proofs.Entities.{served-timely, served-lively, ticked-lively}
 
 -- ---- one record
 took-lowers : (limits : Limits) (stored : Stored) (times : Times) (sources files : FileMap) (s : Seen) → seen_left limits (takes stored times sources files s).seen ≤ seen_left limits s
@@ -199,6 +199,13 @@ polled-timely laws (s ∷ more) old new run t = polled-timely laws more (served 
 pub round-timely : MachineLaws → (old new : EntityState) → IsRound old new → IsTimely old.table → IsTimely new.table
 round-timely laws old new r t = polled-timely laws r.answers r.told new r.polls (ticked-timely laws r.now old.table r.told.table r.ticks t)
 
+polled-lively : MachineLaws → (answers : List Stored) (old new : EntityState) → AreServed answers old new → IsLively old → IsLively new
+polled-lively laws [] old new same k = subst IsLively (sym same) k
+polled-lively laws (s ∷ more) old new run k = polled-lively laws more (served s (turn old) old) new run (served-lively laws s (turn old) old k)
+
+pub round-lively : MachineLaws → (old new : EntityState) → IsRound old new → IsLively old → IsLively new
+round-lively laws old new r k = polled-lively laws r.answers r.told new r.polls (ticked-lively laws r.now old r.told r.ticks r.only k)
+
 pub round-less : (old new : EntityState) → GivesUp old.table.policy → IsTimely old.table → IsRound old new →
     (1 + records_left old.table.policy.limits new.table.records ≤ records_left old.table.policy.limits old.table.records) × (new.table.policy ≡ old.table.policy)
 round-less old new g t r =
@@ -303,16 +310,16 @@ at-get [] place e at = absurd cc
 at-get (x ∷ xs) zero e at = (let is : x ≡ e = cc in (omega arith, is))
 at-get (x ∷ xs) (suc n) e at = (let rest = at-get xs n e at in let low = rest.0 in (omega (arith, low), rest.1))
 
+none-next : (e : EntityState) (strays : List StrayAck) → turn_by strays (next_due e.cursor e.table.records) ≡ Rests → next_due e.cursor e.table.records ≡ None
+none-next e [] h = rests-none (next_due e.cursor e.table.records) h
+none-next e (s ∷ ss) h = absurd cc
+
+pub resting-idle : (e : EntityState) (place : ℕ) (d : Entry) → turn e ≡ Rests → slice_get e.table.records place ≡ Some d → has_due d ≡ false
+resting-idle e place d rests at = let there = at-get e.table.records place d at in ap has_due (sym there.1) ∙ nothing-due e.cursor e.table.records (none-next e e.strays rests) place d there.0
+
 pub resting-armed : (e : EntityState) (place : ℕ) (d : Entry) → IsTimely e.table → turn e ≡ Rests → slice_get e.table.records place ≡ Some d → seen_open d.1 ≡ true →
     (k : Kind) × (is_armed d.0 k e.table ≡ true)
 resting-armed e place d t rests at is_open = elim (entry-goes e.table place d t at is_open) [
-  | inl due ↦ absurd (true≢false (sym due ∙ idle))
+  | inl due ↦ absurd (true≢false (sym due ∙ resting-idle e place d rests at))
   | inr armed ↦ armed
 ]
-  where
-    none : (strays : List StrayAck) → turn_by strays (next_due e.cursor e.table.records) ≡ Rests → next_due e.cursor e.table.records ≡ None
-    none [] h = rests-none (next_due e.cursor e.table.records) h
-    none (s ∷ ss) h = absurd cc
-
-    idle : has_due d ≡ false
-    idle = (let there = at-get e.table.records place d at in ap has_due (sym there.1) ∙ nothing-due e.cursor e.table.records (none e.strays rests) place d there.0)

@@ -409,13 +409,13 @@ again-awake : (o : Option ℕ) (h : Handler) (x : SenderState) → ends_it h ≡
 again-awake (Some count) h x e awake = awake
 again-awake None h x e awake = unacknowledged-awake x.phase h x e
 
-expires-awake : (k : Kind) (policy : Policy) (x : SenderState) → SenderEnds policy → Awake x → Awake (expires k policy x).sender
+pub expires-awake : (k : Kind) (policy : Policy) (x : SenderState) → SenderEnds policy → Awake x → Awake (expires k policy x).sender
 expires-awake EofAck policy x e awake = again-awake (another_try x.count policy.limits.eof) policy.handlers.ack x e.ack awake
 expires-awake Inactivity policy x e awake = handled-awake policy.handlers.inactivity inactivity (record x { count = 0 }) x e.inactivity
 expires-awake Nak policy x e awake = awake
 expires-awake FinishedAck policy x e awake = awake
 
-sent-awake : (stored : Stored) (file : List ℕ) (x : SenderState) (d : SenderDue) → Awake x → Awake (sender_sends stored file x d).sender
+pub sent-awake : (stored : Stored) (file : List ℕ) (x : SenderState) (d : SenderDue) → Awake x → Awake (sender_sends stored file x d).sender
 sent-awake stored file x (due.AckOfFinished condition) awake = awake
 sent-awake stored file x (due.Prompt keep_alive) awake = awake
 sent-awake stored file x due.Metadata awake = awake
@@ -441,7 +441,7 @@ run-awake : (policy : Policy) (file : List ℕ) (inputs : List SenderInput) (old
 run-awake policy file [] old new e is awake = ap (λ (y : SenderState). y.suspended) is ∙ awake
 run-awake policy file (i ∷ is) old new e run awake = run-awake policy file is (sender_step policy file i old).sender new e run.1 (step-awake policy file i old e run.0 awake)
 
-not-ignored : (h : Handler) → ends_it h ≡ true → is_ignored h ≡ false
+pub not-ignored : (h : Handler) → ends_it h ≡ true → is_ignored h ≡ false
 not-ignored Cancel e = refl
 not-ignored Suspend e = refl
 not-ignored Ignore e = absurd (false≢true e)

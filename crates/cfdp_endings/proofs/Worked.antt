@@ -2,26 +2,26 @@
 use Rattle.std.proofs.Common.{◌≡◌, true, false, List, [], ◌∷◌, Some, None, refl}
 use Rattle.std.specs.FinMap as map
 use Rattle.std.specs.FinSet as set
-use Rattle.cfdp_timers.specs.declared.kind.Kind.TheVariants.{EofAck, Nak, Inactivity}
+use Rattle.cfdp_timers.specs.declared.kind.Kind.{Kind}
+use Rattle.cfdp_timers.specs.declared.kind.Kind.TheVariants.{EofAck, FinishedAck, Nak, Inactivity}
 use Rattle.cfdp_directives.specs.declared.user.handler.Handler.TheVariants.{Cancel, Ignore}
-use Rattle.cfdp_directives.specs.declared.user.limits.Limits.{Limits}
 use Rattle.cfdp_directives.specs.declared.user.policy.Policy.{Policy}
 use Rattle.cfdp_directives.specs.User.Limits.{default_times}
+use Rattle.cfdp_directives.specs.Pdu.Codes.{nak_limit}
 use Rattle.cfdp_store.specs.declared.stored.Stored.TheVariants.{Done}
 use Rattle.cfdp_sender.specs.declared.due.SenderDue.TheVariants as sending
 use Rattle.cfdp_sender.specs.declared.phase.SenderPhase.TheVariants as sender_phases
 use Rattle.cfdp_sender.specs.State.{SenderState}
 use Rattle.cfdp_sender.specs.Inputs.{SenderInput, Sends, Expires, sender_step}
 use Rattle.cfdp_receiver.specs.declared.state.ReceiverPhase.TheVariants as receiver_phases
+use Rattle.cfdp_receiver.specs.declared.due.Due.TheVariants as answers
+use Rattle.cfdp_receiver.specs.Due.{receiver_taken}
 use Rattle.cfdp_receiver.specs.State.{ReceiverState}
 use Rattle.cfdp_receiver.specs.Steps as receiver
 use Rattle.cfdp_endings.specs.Sender.{sender_open, sender_left}
-use Rattle.cfdp_endings.specs.Receiver.{receiver_left}
+use Rattle.cfdp_endings.specs.Receiver.{receiver_left, receiver_open}
 
 -- once each is sent again
-limits : Limits
-limits = record { eof = 1; nak = 1; finished = 1 }
-
 abbrev policy : Policy
 policy = record { limits = record { eof = 1; nak = 1; finished = 1 }; times = default_times; handlers = record { ack = Cancel; nak = Cancel; inactivity = Cancel } }
 
@@ -98,3 +98,22 @@ around r =
 -- so it comes around to where it was, as often as one likes
 around-same : (r : ReceiverState) → around (lacking r) ≡ lacking r
 around-same r = refl
+
+-- ---- that receiver, by its limits: its NAK is sent, which has all to ask for that is missing
+abbrev asked : ReceiverState → ReceiverState
+asked r = record r { nak_cursor = None }
+
+abbrev expired : Kind → ReceiverState → ReceiverState
+expired k r = (receiver.expires k policy map.empty map.empty r).receiver
+
+abbrev sent : ReceiverState → ReceiverState
+sent r = receiver_taken (answers.Finished (receiver.failed nak_limit)) r
+
+abbrev third : ReceiverState → ReceiverState
+third r = sent (expired FinishedAck (sent (expired Nak (asked (expired Nak r)))))
+
+receiver-open : (r : ReceiverState) → receiver_open (third (lacking r)) ≡ true
+receiver-open r = refl
+
+receiver-closed : (r : ReceiverState) → (expired FinishedAck (third (lacking r))).phase ≡ receiver_phases.Closed
+receiver-closed r = refl

@@ -1,5 +1,5 @@
 -- An entity of which nothing is heard: what is open in its table, and for how long.
-use Rattle.std.specs.Prelude.{◌≡◌, ◌⊎◌, ℕ, zero, suc, ◌+◌, ◌*◌, max, Bool, true, false, List, [], ◌∷◌, slice_get, Some, if◌then◌else◌}
+use Rattle.std.specs.Prelude.{◌≡◌, ◌⊎◌, ℕ, zero, suc, ◌+◌, ◌*◌, max, not, Bool, true, false, List, [], ◌∷◌, slice_get, Some, if◌then◌else◌}
 use Rattle.std.specs.List.{IsDistinct}
 use Rattle.std.specs.Map.{keys_of}
 use Rattle.cfdp_header.specs.Ids.{same_id}
@@ -11,14 +11,16 @@ use Rattle.cfdp_timers.specs.Due.{is_due}
 use Rattle.cfdp_timers.specs.Order.{Timer}
 use Rattle.cfdp_sender.specs.InFile.{IsInFile}
 use Rattle.cfdp_receiver.specs.Sound.{owes_finished}
+use Rattle.cfdp_entity.specs.Config.{IsConfig}
 use Rattle.cfdp_entity.specs.Entity.{EntityState, with_table}
+use Rattle.cfdp_entity.specs.Forgetting.{over_in}
 use Rattle.cfdp_entity.specs.Polling.{Rests, served, turn}
 use Rattle.cfdp_entity.specs.Seen.{Seen, Sends, Receives}
 use Rattle.cfdp_entity.specs.Table.{Entry, TableState, Ticks, has_due}
 use Rattle.cfdp_entity.specs.Timed.{AreTimed, is_armed}
 use Rattle.cfdp_endings.specs.Limits.{tries_left}
-use Rattle.cfdp_endings.specs.Sender.{sender_open, sender_left, owes_eof, SenderGivesUp}
-use Rattle.cfdp_endings.specs.Receiver.{receiver_open, receiver_left, ReceiverGivesUp}
+use Rattle.cfdp_endings.specs.Sender.{sender_open, sender_left, owes_eof, SenderGivesUp, SenderEnds}
+use Rattle.cfdp_endings.specs.Receiver.{receiver_open, receiver_left, ReceiverGivesUp, ReceiverEnds}
 
 -- ---- a record
 -- whether it is open: neither closed nor suspended
@@ -70,6 +72,12 @@ pub record IsTimely (st : TableState) : Type 0 where
   pub timed : AreTimed st
   pub owing : AllOwe st.records
 
+-- An entity whose configuration is valid, and whose table is so and does as it is configured.
+pub record IsLively (e : EntityState) : Type 0 where
+  pub config : IsConfig e.config
+  pub policy : e.table.policy ≡ e.config.policy
+  pub table : IsTimely e.table
+
 -- A PDU of a record is due, or a timer of its transaction is armed.
 abbrev pub EntryGoesOn : TableState → Entry → Type 0
 EntryGoesOn st e = (has_due e ≡ true) ⊎ ((k : Kind) × (is_armed e.0 k st ≡ true))
@@ -102,3 +110,23 @@ pub record IsRound (old new : EntityState) : Type 0 where
 abbrev pub AreRounds : ℕ → (old new : EntityState) → Type 0
 AreRounds zero old new = new ≡ old
 AreRounds (suc n) old new = (mid : EntityState) × IsRound old mid × AreRounds n mid new
+
+-- ---- where all is over
+-- None of these records is suspended.
+abbrev pub is_awake : Seen → Bool
+is_awake (Sends x) = not x.suspended
+is_awake (Receives r m) = not r.suspended
+
+abbrev pub AllAwake : List Entry → Type 0
+AllAwake [] = Unit {0}
+AllAwake (e ∷ es) = (is_awake e.1 ≡ true) × AllAwake es
+
+-- Each fault of a limit, and of inactivity, ends its transaction.
+pub record Ends (policy : Policy) : Type 0 where
+  pub sends : SenderEnds policy
+  pub receives : ReceiverEnds policy
+
+-- Each of these records is closed, and may be let go.
+abbrev pub AllOver : List Entry → Type 0
+AllOver records = (place : ℕ) (e : Entry) → slice_get records place ≡ Some e
+    → over_in (slice_get records place) ≡ Some e.0

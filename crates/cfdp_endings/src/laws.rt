@@ -30,15 +30,17 @@ ghost use Rattle.cfdp_timers.specs.declared.kind.Kind.{Kind};
 ghost use Rattle.cfdp_entity.specs.declared.error.EntityDrop.{EntityDrop};
 ghost use Rattle.cfdp_entity.specs.declared.request.Request.{Request};
 ghost use Rattle.cfdp_entity.specs.Config.{IsConfig};
-ghost use Rattle.cfdp_entity.specs.Entity.{Counted, EntityState};
+ghost use Rattle.cfdp_entity.specs.declared.config.EntityConfig.{EntityConfig};
+ghost use Rattle.cfdp_entity.specs.Entity.{Counted, EntityState, first_entity, with_table};
 ghost use Rattle.cfdp_entity.specs.Forgetting.{Forgets, ForgetsSome};
 ghost use Rattle.cfdp_entity.specs.Hearing.{DropsOctets, HearsOctets};
 ghost use Rattle.cfdp_entity.specs.Polling.{Rests, served, turn};
 ghost use Rattle.cfdp_entity.specs.Putting.{Accepts};
 ghost use Rattle.cfdp_entity.specs.Requests.{IsCalled};
-ghost use Rattle.cfdp_entity.specs.Table.{Entry, TableState, Ticks, first_table};
+ghost use Rattle.cfdp_entity.specs.Table.{Entry, Ticks};
 ghost use Rattle.cfdp_entity.specs.Timed.{is_armed};
-ghost use Rattle.cfdp_endings.specs.Entity.{AreRounds, EntryGoesOn, GivesUp, IsRound, IsTimely};
+ghost use Rattle.cfdp_endings.specs.Entity.{AllAwake, AllOver, AreRounds, EntryGoesOn, Ends};
+ghost use Rattle.cfdp_endings.specs.Entity.{GivesUp, IsLively, IsRound};
 ghost use Rattle.cfdp_endings.specs.Entity.{NoneOpen, most_left, open_count, records_left};
 ghost use Rattle.cfdp_endings.specs.Entity.{seen_open};
 ghost use Rattle.cfdp_endings.specs.Dues.{ArePolls, entity_dues};
@@ -140,34 +142,34 @@ pub fn a_receiver_ends_by_its_limits()
 /// a timer of its transaction is armed. So it is of a new entity, and whatever happens to it:
 /// whatever it hears, what it has no memory for, and whatever its user asks.
 pub fn an_entity_is_never_silent()
-    ensures goes_on { (st : TableState) (place : ℕ) (e : Entry) → IsTimely st
-        → slice_get st.records place ≡ Some e → seen_open e.1 ≡ true → EntryGoesOn st e }
-    ensures rests { (e : EntityState) (place : ℕ) (d : Entry) → IsTimely e.table
-        → turn e ≡ Rests → slice_get e.table.records place ≡ Some d → seen_open d.1 ≡ true
+    ensures goes_on { (e : EntityState) (place : ℕ) (d : Entry) → IsLively e
+        → slice_get e.table.records place ≡ Some d → seen_open d.1 ≡ true
+        → EntryGoesOn e.table d }
+    ensures rests { (e : EntityState) (place : ℕ) (d : Entry) → IsLively e → turn e ≡ Rests
+        → slice_get e.table.records place ≡ Some d → seen_open d.1 ≡ true
         → (k : Kind) × (is_armed d.0 k e.table ≡ true) }
-    ensures first { (sources files : FileMap) (policy : Policy) →
-        IsTimely (first_table sources files policy) }
+    ensures first { (sources files : FileMap) (config : EntityConfig) → IsConfig config
+        → IsLively (first_entity sources files config) }
     ensures put { (source destination : List ℕ) (id : TransactionId) (old new : EntityState) →
-        IsConfig old.config → Accepts source destination id old new
-        → IsTimely old.table → IsTimely new.table }
+        Accepts source destination id old new → IsLively old → IsLively new }
     ensures called { (c : Request) (id : TransactionId) (old new : EntityState) →
-        IsCalled c id old new → IsTimely old.table → IsTimely new.table }
-    ensures ticked { (now : ℕ) (old new : TableState) → Ticks now old new → IsTimely old
-        → IsTimely new }
+        IsCalled c id old new → IsLively old → IsLively new }
+    ensures ticked { (now : ℕ) (old new : EntityState) → Ticks now old.table new.table
+        → new ≡ with_table old new.table → IsLively old → IsLively new }
     ensures heard { (pdu : List ℕ) (old new : Counted) → HearsOctets pdu old new
-        → IsTimely old.state.table → IsTimely new.state.table }
+        → IsLively old.state → IsLively new.state }
     ensures dropped { (pdu : List ℕ) (by : EntityDrop) (old new : Counted) →
-        DropsOctets (pdu_fault pdu) pdu by old new
-        → IsTimely old.state.table → IsTimely new.state.table }
-    ensures served { (stored : Stored) (e : EntityState) → IsTimely e.table
-        → IsTimely (served stored (turn e) e).table }
+        DropsOctets (pdu_fault pdu) pdu by old new → IsLively old.state → IsLively new.state }
+    ensures served { (stored : Stored) (e : EntityState) → IsLively e
+        → IsLively (served stored (turn e) e) }
     ensures forgot { (id : TransactionId) (old new : EntityState) → Forgets id old new
-        → IsTimely old.table → IsTimely new.table }
-    ensures some { (old new : EntityState) → ForgetsSome old new → IsTimely old.table
-        → IsTimely new.table }
+        → IsLively old → IsLively new }
+    ensures some { (old new : EntityState) → ForgetsSome old new → IsLively old
+        → IsLively new }
     // Files and indications are nothing to it.
-    ensures alike { (old new : TableState) → new.records ≡ old.records → new.armed ≡ old.armed
-        → IsTimely old → IsTimely new }
+    ensures alike { (old new : EntityState) → new.config ≡ old.config
+        → new.table.records ≡ old.table.records → new.table.armed ≡ old.table.armed
+        → new.table.policy ≡ old.table.policy → IsLively old → IsLively new }
 {
     a_receiver_is_never_silent();
     what_is_due_is_in_the_file();
@@ -178,21 +180,24 @@ pub fn an_entity_is_never_silent()
 /// deadline has come, and then polled until nothing is due. There are no more rounds than the
 /// records that are open times `most_left`.
 pub fn an_entity_alone_ends()
-    ensures round { (old new : EntityState) → GivesUp old.table.policy → IsTimely old.table
-        → IsRound old new → 1 + records_left old.table.policy.limits new.table.records
-        ≤ records_left old.table.policy.limits old.table.records }
-    ensures rounds { (n : ℕ) (old new : EntityState) → GivesUp old.table.policy
-        → IsTimely old.table → AreRounds n old new
-        → n + records_left old.table.policy.limits new.table.records
-        ≤ records_left old.table.policy.limits old.table.records }
-    ensures ends { (n : ℕ) (old new : EntityState) → GivesUp old.table.policy
-        → IsTimely old.table → AreRounds n old new
-        → records_left old.table.policy.limits old.table.records ≤ n
+    ensures round { (old new : EntityState) → GivesUp old.config.policy → IsLively old
+        → IsRound old new → 1 + records_left old.config.policy.limits new.table.records
+        ≤ records_left old.config.policy.limits old.table.records }
+    ensures rounds { (n : ℕ) (old new : EntityState) → GivesUp old.config.policy → IsLively old
+        → AreRounds n old new → n + records_left old.config.policy.limits new.table.records
+        ≤ records_left old.config.policy.limits old.table.records }
+    ensures ends { (n : ℕ) (old new : EntityState) → GivesUp old.config.policy → IsLively old
+        → AreRounds n old new → records_left old.config.policy.limits old.table.records ≤ n
         → NoneOpen new.table.records }
+    // Where each fault ends its transaction and none was suspended, all records are closed then, and
+    // once nothing is due each may be let go.
+    ensures closes { (n : ℕ) (old new : EntityState) → Ends old.config.policy → IsLively old
+        → AllAwake old.table.records → AreRounds n old new
+        → records_left old.config.policy.limits old.table.records ≤ n → turn new ≡ Rests
+        → AllOver new.table.records }
     ensures most { (limits : Limits) (records : List Entry) →
         records_left limits records ≤ open_count records * most_left limits }
-    ensures timely { (old new : EntityState) → IsRound old new → IsTimely old.table
-        → IsTimely new.table }
+    ensures lively { (old new : EntityState) → IsRound old new → IsLively old → IsLively new }
 {
     a_receiver_is_never_silent();
     what_is_due_is_in_the_file();
@@ -202,9 +207,9 @@ pub fn an_entity_alone_ends()
 /// may still leave, also where the outbox fails. That rises only where a PDU is heard, a timer
 /// expires, or the user asks for something.
 pub fn polls_come_to_rest()
-    ensures poll { (stored : Stored) (e : EntityState) → IsTimely e.table → turn e ≢ Rests
+    ensures poll { (stored : Stored) (e : EntityState) → IsLively e → turn e ≢ Rests
         → entity_dues (served stored (turn e) e) < entity_dues e }
-    ensures polls { (answers : List Stored) (old new : EntityState) → IsTimely old.table
+    ensures polls { (answers : List Stored) (old new : EntityState) → IsLively old
         → ArePolls answers old new → length answers + entity_dues new ≤ entity_dues old }
 {
     a_receiver_is_never_silent();

@@ -1,0 +1,8 @@
+//! How many events a settling may have, told before it begins.
+//!
+//! Tested by nothing yet: what it promises is proved.
+#![tactic(auto)]
+
+mod laws;
+
+pub use laws::a_settling_has_few_events;
