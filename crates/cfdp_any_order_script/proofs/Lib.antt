@@ -1,1 +1,5 @@
 mod SameEntries
+mod Counts
+mod Noted
+mod Settling
+mod Running
