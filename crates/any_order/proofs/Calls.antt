@@ -56,7 +56,7 @@ pub record EntityLaws : Type 0 where
       SaysTruth e.config.entity p h.id v × SaysDelivered e.config.entity e.table.told h.id v
 
 -- ---- going on
-goes_same : (old new : EntityState) → new ≡ old → GoesOn old new
+pub goes_same : (old new : EntityState) → new ≡ old → GoesOn old new
 goes_same old new e =
     subst (λ (x : EntityState). GoesOn old x) (sym e)
     (record { gained = []; told = sym (append-nil old.table.told); gone = refl; sources = refl; stands = refl; config = refl; next = omega arith })

@@ -1,15 +1,15 @@
 mod Lists
-mod Lives
+pub mod Lives
 mod Link
-mod Puts
-mod Kept
-mod Calls
-mod Promise
-mod Keeping
+pub mod Puts
+pub mod Kept
+pub mod Calls
+pub mod Promise
+pub mod Keeping
 mod Numbers
-mod Coming
+pub mod Coming
 mod Happening
-mod Leading
+pub mod Leading
 mod Onward
 mod Sources
 mod Beginning

@@ -46,10 +46,10 @@ abbrev Firsts : Type 0
 Firsts = Side → FileMap
 
 -- What holds of both.
-abbrev AreKept : Setup → Firsts → Pair → Type 0
+abbrev pub AreKept : Setup → Firsts → Pair → Type 0
 AreKept c firsts w = (s : Side) → IsKept (setup_of s c) (setup_of (other s) c) (firsts s) w.puts (at s w) (at (other s) w)
 
-joined_to : (c : Setup) (s : Side) → AreJoined c → IsJoinedTo (setup_of s c) (setup_of (other s) c)
+pub joined_to : (c : Setup) (s : Side) → AreJoined c → IsJoinedTo (setup_of s c) (setup_of (other s) c)
 joined_to c One joined =
     record { valid = (joined.valid Two).sends; spacecraft = joined.spacecraft Two; peer = joined.peer One; apart = λ e. (joined.valid Two).entity.ids.apart (e ∙ sym (joined.peer Two)) }
 joined_to c Two joined =
@@ -86,7 +86,7 @@ module _ (c t : StationConfig) (first : FileMap) (puts : List Put) (mine theirs 
   }
 
 -- ---- nothing was done
-new_kept : Laws → (c t : StationConfig) (count : ℕ) (sources files : FileMap) (puts : List Put) (mine theirs : End) → IsConfig c.entity → c.receives ≡ t.sends → IsNew c count sources files mine →
+pub new_kept : Laws → (c t : StationConfig) (count : ℕ) (sources files : FileMap) (puts : List Put) (mine theirs : End) → IsConfig c.entity → c.receives ≡ t.sends → IsNew c count sources files mine →
     puts ≡ [] → IsKept c t files puts mine theirs
 new_kept laws c t count sources files puts mine theirs valid link is none =
     let all : lives mine ≡ this_life mine ∷ [] = ap (λ l. l ++ this_life mine ∷ []) is.lives_before in
@@ -180,11 +180,11 @@ module _ (laws : Laws) (c t : StationConfig) (first there : FileMap) (puts : Lis
   theirs_anew = stays laws.grounds c t there puts puts old theirs new (λ id put f. f) grows_anew o o.numbers
 
 -- ---- a call more
-record BothKept (c t : StationConfig) (first there : FileMap) (puts : List Put) (mine theirs : End) : Type 0 where
-  mine_kept : IsKept c t first puts mine theirs
-  theirs_kept : IsKept t c there puts theirs mine
+pub record BothKept (c t : StationConfig) (first there : FileMap) (puts : List Put) (mine theirs : End) : Type 0 where
+  pub mine_kept : IsKept c t first puts mine theirs
+  pub theirs_kept : IsKept t c there puts theirs mine
 
-call_kept : Laws → (call : Call) (c t : StationConfig) (first there : FileMap) (puts puts_then : List Put) (old theirs new : End) → IsJoinedTo c t → c.receives ≡ t.sends → IsKept c t first puts old theirs →
+pub call_kept : Laws → (call : Call) (c t : StationConfig) (first there : FileMap) (puts puts_then : List Put) (old theirs new : End) → IsJoinedTo c t → c.receives ≡ t.sends → IsKept c t first puts old theirs →
     IsKept t c there puts theirs old → DoesCall call c old theirs new puts puts_then → BothKept c t first there puts_then new theirs
 call_kept laws call c t first there puts puts_then old theirs new joined link k o does = elim (call_moves laws.entity laws.truth call c t first puts puts_then old theirs new link k does) [
   | inl m ↦ record {
@@ -243,7 +243,7 @@ module _ (laws : Laws) (c t : StationConfig) (first there : FileMap) (puts : Lis
   says_truth text sent h v spelled =
       subst (λ (n : ℕ). SaysTruth n (found puts) h.id v) (sym k.own) (k.truth text (record { life = sent.0; one = sent.1.0; lane = sent.1.1.0; among = sent.1.1.1 }) h v spelled).0
 
-all_hold : Laws → (c : Setup) (firsts : Firsts) (w : Pair) (s : Side) → AreJoined c → AreKept c firsts w → HoldsAt s (firsts s) w
+pub all_hold : Laws → (c : Setup) (firsts : Firsts) (w : Pair) (s : Side) → AreJoined c → AreKept c firsts w → HoldsAt s (firsts s) w
 all_hold laws c firsts w s joined k =
     let mine = k s in
     let theirs : IsKept (setup_of (other s) c) (setup_of s c) (firsts (other s)) w.puts (at (other s) w) (at s w) =

@@ -1,0 +1,182 @@
+-- What is kept of two stations, with histories of both of which the promise holds, as calls are made.
+use Rattle.std.proofs.Common.{◌≡◌, ℕ, ◌<◌, ◌≤◌, ◌+◌, Option, Some, None, List, [], ◌∷◌, ◌++◌, length, map, refl, sym, ap, ap₂, subst, ◌∙◌, inl, inr, arith}
+use Rattle.std.specs.Prelude.{Contains}
+use Rattle.aos_frame.specs.declared.config.Lane.{Lane}
+use Rattle.aos_frame.specs.declared.config.Lane.TheVariants.{Directives, Data}
+use Rattle.link_stack.specs.AnyOrder.{ReceivesAll}
+use Rattle.link_stack.specs.Downward.{DownState, both_counted_from, first_down}
+use Rattle.link_stack.specs.EndToEnd.{DoesAll}
+use Rattle.link_stack.specs.Lives.{octets_coming}
+use Rattle.link_stack.specs.Upward.{UpState, first_up}
+use Rattle.cfdp_header.specs.declared.value.TransactionId.{TransactionId}
+use Rattle.cfdp_header.specs.Files.{FileMap}
+use Rattle.cfdp_directives.specs.declared.user.indication.Indication.{Indication}
+use Rattle.cfdp_directives.specs.User.Put.{Put}
+use Rattle.cfdp_entity.specs.declared.config.EntityConfig.{EntityConfig}
+use Rattle.cfdp_entity.specs.Entity.{EntityState}
+use Rattle.cfdp_entity.specs.Sound.{IsSound}
+use Rattle.cfdp_station.specs.declared.config.StationConfig.{StationConfig}
+use Rattle.cfdp_station.specs.Station.{StationState}
+use Rattle.any_order.specs.Calls.{Call, End, entity_of, lives}
+use Rattle.any_order.specs.Kept.{DoesCalls, EndKept, HasTaken, IsOf, Makes, last_at}
+use Rattle.any_order.specs.Promise.{found, told_ever}
+use Rattle.any_order.proofs.Keeping.{calls_grow, taken_grown}
+use Rattle.any_order.proofs.Kept.{IsJoinedTo, IsKept, SaysSo}
+use Rattle.any_order.proofs.Promise.{BothKept, Laws, call_kept}
+use Rattle.any_link.proofs.Sounds.{IsLike}
+
+-- Histories of both stations of which this is kept, and of which the promise holds.
+pub record Held (c t : StationConfig) (first there : FileMap) (puts : List Put) (mine theirs : EndKept) : Type 0 where
+  pub m : End
+  pub o : End
+  pub of_mine : IsOf mine m
+  pub of_theirs : IsOf theirs o
+  pub taken_mine : HasTaken c.receives mine m o
+  pub taken_theirs : HasTaken t.receives theirs o m
+  pub kept_mine : IsKept c t first puts m o
+  pub kept_theirs : IsKept t c there puts o m
+
+pub held_other : (c t : StationConfig) (first there : FileMap) (puts : List Put) (mine theirs : EndKept) → Held c t first there puts mine theirs → Held t c there first puts theirs mine
+held_other c t first there puts mine theirs h = record {
+  m = h.o;
+  o = h.m;
+  of_mine = h.of_theirs;
+  of_theirs = h.of_mine;
+  taken_mine = h.taken_theirs;
+  taken_theirs = h.taken_mine;
+  kept_mine = h.kept_theirs;
+  kept_theirs = h.kept_mine;
+}
+
+-- an end that sends, whose frames have this count next
+abbrev pub at_count : ℕ → DownState → DownState
+at_count n d = record d { directives = record d.directives { frame_count = n }; file_data = record d.file_data { frame_count = n } }
+
+-- ---- calls
+calls_kept : Laws → (c t : StationConfig) (first there : FileMap) → IsJoinedTo c t → c.receives ≡ t.sends → (calls : List Call) (old theirs new : End) (puts puts_then : List Put) →
+    DoesCalls calls c old theirs new puts puts_then → IsKept c t first puts old theirs → IsKept t c there puts theirs old → BothKept c t first there puts_then new theirs
+calls_kept laws c t first there joined link [] old theirs new puts puts_then (same, none) k o =
+    subst (λ (l : List Put). BothKept c t first there l new theirs) (sym none)
+    (subst (λ (e : End). BothKept c t first there puts e theirs) (sym same) (record { mine_kept = k; theirs_kept = o }))
+calls_kept laws c t first there joined link (call ∷ calls) old theirs new puts puts_then (mid, between, one, rest) k o =
+    let b : BothKept c t first there between mid theirs = call_kept laws call c t first there puts between old theirs mid joined link k o one in
+    calls_kept laws c t first there joined link calls mid theirs new between puts_then rest b.mine_kept b.theirs_kept
+
+pub held_makes : Laws → (c t : StationConfig) (first there : FileMap) → IsJoinedTo c t → c.receives ≡ t.sends → (calls : List Call) (old theirs new : EndKept) (puts puts_then : List Put) →
+    Makes calls c old theirs new puts puts_then → Held c t first there puts old theirs → Held c t first there puts_then new theirs
+held_makes laws c t first there joined link calls old theirs new puts puts_then makes h =
+    let f = makes.follow h.m h.o h.of_mine h.of_theirs h.taken_mine in
+    let both : BothKept c t first there puts_then f.0 h.o = calls_kept laws c t first there joined link calls h.m h.o f.0 puts puts_then f.1 h.kept_mine h.kept_theirs in
+    record {
+      m = f.0;
+      o = h.o;
+      of_mine = f.2;
+      of_theirs = h.of_theirs;
+      taken_mine = f.3;
+      taken_theirs = taken_grown t.receives theirs h.o h.m f.0 (calls_grow calls c h.m h.o f.0 puts puts_then f.1) h.taken_theirs;
+      kept_mine = both.mine_kept;
+      kept_theirs = both.theirs_kept;
+    }
+
+-- ---- an entity that is other than before, but sound as it was
+module _ (c t : StationConfig) (first there : FileMap) (puts : List Put) (old new theirs : EndKept) (same : new ≡ record old { station = new.station })
+    (down : new.station.down ≡ old.station.down) (up : new.station.up ≡ old.station.up) (like : IsLike old.station.entity.state new.station.entity.state)
+    (sound : (heard : List (List ℕ)) (begun : FileMap) → IsSound (found puts) heard begun old.station.entity.state → IsSound (found puts) heard begun new.station.entity.state)
+    (h : Held c t first there puts old theirs) where
+  -- the same history, of the other station
+  e : End
+  e = record h.m { station = new.station }
+
+  is : h.m.station ≡ old.station
+  is = h.of_mine.station
+
+  of_it : IsOf new e
+  unfolding e
+  of_it = record {
+    station = refl;
+    before = h.of_mine.before ∙ ap (λ (k : EndKept). k.before) (sym same);
+    latest = h.of_mine.latest ∙ ap (λ (k : EndKept). k.latest) (sym same);
+    told = h.of_mine.told ∙ ap (λ (k : EndKept). k.told_before) (sym same);
+  }
+
+  last_same : (lane : Lane) → last_at lane old ≡ last_at lane new
+  last_same Directives = ap (λ (k : EndKept). k.last_directives) (sym same)
+  last_same Data = ap (λ (k : EndKept). k.last_data) (sym same)
+
+  taken_it : HasTaken c.receives new e h.o
+  unfolding e
+  taken_it = record { coming = h.taken_mine.coming; near = h.taken_mine.near; last = λ lane. h.taken_mine.last lane ∙ last_same lane }
+
+  taken_there : HasTaken t.receives theirs h.o e
+  unfolding e
+  taken_there = record { coming = h.taken_theirs.coming; near = h.taken_theirs.near; last = h.taken_theirs.last }
+
+  -- what was told, and the rest of the entity, in the words of the history
+  down_there : new.station.down ≡ h.m.station.down
+  down_there = down ∙ ap (λ (s : StationState). s.down) (sym is)
+
+  up_there : new.station.up ≡ h.m.station.up
+  up_there = up ∙ ap (λ (s : StationState). s.up) (sym is)
+
+  config_there : new.station.entity.state.config ≡ (entity_of h.m).config
+  config_there = like.config ∙ ap (λ (s : StationState). s.entity.state.config) (sym is)
+
+  told_there : new.station.entity.state.table.told ≡ (entity_of h.m).table.told
+  told_there = like.told ∙ ap (λ (s : StationState). s.entity.state.table.told) (sym is)
+
+  next_there : new.station.entity.state.next ≡ (entity_of h.m).next
+  next_there = like.next ∙ ap (λ (s : StationState). s.entity.state.next) (sym is)
+
+  kept_it : IsKept c t first puts e h.o
+  unfolding e
+  kept_it =
+      let k : IsKept c t first puts h.m h.o = h.kept_mine in
+      record {
+        each = k.each;
+        sending = subst (λ (d : DownState). DoesAll h.m.sent (both_counted_from h.m.first (first_down c.sends c.capacity)) d) (sym down_there) k.sending;
+        apart = k.apart;
+        coming = k.coming;
+        near = k.near;
+        received = subst (λ (u : UpState). ReceivesAll (map (octets_coming (lives h.o)) h.m.came) (first_up t.sends) u [] h.m.heard) (sym up_there) k.received;
+        own = ap (λ (x : EntityConfig). x.entity) config_there ∙ k.own;
+        peer = ap (λ (x : EntityConfig). x.peer) config_there ∙ k.peer;
+        begun = k.begun;
+        entity = sound (h.m.heard_before ++ h.m.heard) k.begun (subst (λ (s : StationState). IsSound (found puts) (h.m.heard_before ++ h.m.heard) k.begun s.entity.state) is k.entity);
+        past = k.past;
+        sent_before = k.sent_before;
+        truth = λ pdu was. subst (λ (l : List Indication). SaysSo (found puts) c.entity.entity (h.m.told_before ++ l) pdu) (sym told_there) (k.truth pdu was);
+        numbers = λ p among of_mine. subst (λ (n : ℕ). p.id.number < n) (sym next_there) (k.numbers p among of_mine);
+      }
+
+  kept_there : IsKept t c there puts h.o e
+  unfolding e
+  kept_there =
+      let k : IsKept t c there puts h.o h.m = h.kept_theirs in
+      record {
+        each = k.each;
+        sending = k.sending;
+        apart = k.apart;
+        coming = k.coming;
+        near = k.near;
+        received = k.received;
+        own = k.own;
+        peer = k.peer;
+        begun = k.begun;
+        entity = k.entity;
+        past = k.past;
+        sent_before = k.sent_before;
+        truth = k.truth;
+        numbers = k.numbers;
+      }
+
+  pub held_like : Held c t first there puts new theirs
+  held_like = record {
+    m = e;
+    o = h.o;
+    of_mine = of_it;
+    of_theirs = h.of_theirs;
+    taken_mine = taken_it;
+    taken_theirs = taken_there;
+    kept_mine = kept_it;
+    kept_theirs = kept_there;
+  }

@@ -1,0 +1,10 @@
+mod Sounds
+mod Holding
+mod Telling
+mod Turning
+mod Doing
+mod Promising
+mod Calling
+mod Knowing
+mod Lying
+mod Wishing

@@ -1,0 +1,220 @@
+-- Two stations in service over such a link, each of which may start anew: what is done at either,
+-- one thing after another.
+use Rattle.std.specs.Prelude.{◌≡◌, ◌≢◌, ◌⊎◌, ◌<◌, ◌≤◌, ◌+◌, ◌%◌, ℕ, List, [], ◌∷◌, ◌++◌, length, map, slice_get, Option, Some, None, Result, Ok, Err, true, ⊤}
+use Rattle.aos_frame.specs.Counts.{frame_counts}
+use Rattle.aos_frame.specs.declared.config.Lane.{Lane}
+use Rattle.cfdp_header.specs.declared.value.TransactionId.{TransactionId}
+use Rattle.cfdp_header.specs.Files.{FileMap}
+use Rattle.cfdp_directives.specs.User.Put.{Put}
+use Rattle.cfdp_store.specs.Files.{octets_in}
+use Rattle.cfdp_sender.specs.State.{SenderState}
+use Rattle.cfdp_entity.specs.declared.error.PutError.{PutError}
+use Rattle.cfdp_entity.specs.declared.error.PutError.TheVariants.{SourceFault}
+use Rattle.cfdp_entity.specs.Config.{IsConfig}
+use Rattle.cfdp_entity.specs.Entity.{EntityState}
+use Rattle.cfdp_entity.specs.Looking.{IsSent}
+use Rattle.cfdp_entity.specs.Seen.{Sends}
+use Rattle.cfdp_entity.specs.Sound.{next_put}
+use Rattle.cfdp_entity.specs.Table.{TableState}
+use Rattle.cfdp_station.specs.declared.config.StationConfig.{StationConfig}
+use Rattle.cfdp_station.specs.Requests.{StationAnswers}
+use Rattle.cfdp_station.specs.Station.{StationState}
+use Rattle.cfdp_station.specs.Transmitting.{Times}
+use Rattle.link_sim.specs.World.State.{IsNewAt}
+use Rattle.any_order.specs.Calls.{Setup, Side, One, Two, numbered_from, other, setup_of}
+use Rattle.any_order.specs.Kept.{EndKept, LifeKept, all_kept, frames_in}
+use Rattle.cfdp_port.specs.Asking.{CountsFrom, FailsToLook, LooksAt, Puts}
+use Rattle.cfdp_port.specs.Asking as asking
+use Rattle.cfdp_port.specs.Calls.{WireCall}
+use Rattle.cfdp_port.specs.Port.{table_of}
+use Rattle.cfdp_service.specs.Calls.{UserCall, Asks, Answered, Hears, Intends, Ends}
+use Rattle.cfdp_service.specs.declared.wish.Reply.{Reply}
+use Rattle.cfdp_service.specs.declared.wish.Reply.TheVariants as replies
+use Rattle.cfdp_service.specs.declared.wish.Wish.{Wish}
+use Rattle.cfdp_service.specs.declared.wish.Wish.TheVariants as wishes
+use Rattle.cfdp_service.specs.Serving.{once_told, said_by, wish_calls}
+use Rattle.any_link.specs.Passing as passing
+
+-- ---- a station in service
+-- what is kept of it, and the calls of its user in this life
+pub record Served : Type 0 where
+  pub kept : EndKept
+  pub calls : List UserCall
+
+-- the same, where the station became this one, and these calls of its user were made
+abbrev pub served_on : StationState → List UserCall → Served → Served
+served_on station calls s = record {
+  kept = record s.kept { station = station };
+  calls = s.calls ++ calls;
+}
+
+-- Both stations, and the accepted puts of both, in order.
+pub record Stations : Type 0 where
+  pub one : Served
+  pub two : Served
+  pub puts : List Put
+
+abbrev pub served_at : Side → Stations → Served
+served_at One w = w.one
+served_at Two w = w.two
+
+-- ---- what is wished
+-- the put that was accepted, if this answered it
+abbrev pub accepted_by : (source destination : List ℕ) → Result TransactionId PutError → EntityState
+    → List Put
+accepted_by source destination (Ok id) e = next_put source destination e ∷ []
+accepted_by source destination (Err by) e = []
+
+-- Of each record that sends or sent a file of this name, the file is what it was.
+abbrev pub KeepsSent : List ℕ → (old new : TableState) → Type 0
+KeepsSent name old new = (place : ℕ) (id : TransactionId) (x : SenderState)
+    → slice_get old.records place ≡ Some (id, Sends x) → x.source ≡ name
+    → octets_in new.sources name ≡ octets_in old.sources name
+
+-- A file was looked for, and its put was answered so.
+pub record PutsFile (source destination : List ℕ) (answer : Result TransactionId PutError)
+    (old new : StationState) (accepted : List Put) : Type 0 where
+  pub looked : StationState
+  pub looks : LooksAt source old looked
+  pub keeps : KeepsSent source (table_of old) (table_of looked)
+  pub puts : Puts source destination answer looked new
+  pub added : accepted ≡ accepted_by source destination answer looked.entity.state
+
+-- The station did what its user wished, answered so, and these puts were accepted by that.
+abbrev pub Fulfils : Wish → Reply → (old new : StationState) → (added : List Put) → Type 0
+Fulfils (wishes.Put names) (replies.Put answer) old new added =
+    PutsFile names.source.items names.destination.items answer old new added
+    ⊎ ((answer ≡ Err SourceFault) × FailsToLook old new × (added ≡ []))
+Fulfils (wishes.Change id request) (replies.Change answer) old new added =
+    StationAnswers request id answer old new × (added ≡ [])
+Fulfils _ _ old new added = ⊥
+
+-- A record is sending the file that is wished, or none has its name. So no look for it can change
+-- what a record sent.
+abbrev pub IsFree : Wish → TableState → Type 0
+IsFree (wishes.Put names) t = IsSent names.source.items t
+    ⊎ ((place : ℕ) (id : TransactionId) (x : SenderState)
+    → slice_get t.records place ≡ Some (id, Sends x) → x.source ≢ names.source.items)
+IsFree (wishes.Change id request) t = ⊤
+
+-- By this call the user wishes nothing more before the next turn, says what it intends, or hears
+-- that the station ended.
+abbrev pub IsSaid : UserCall → Type 0
+IsSaid (Asks None) = ⊤
+IsSaid (Intends intent) = ⊤
+IsSaid Ends = ⊤
+IsSaid _ = ⊥
+
+-- ---- a life begins
+-- A station is new, as a program makes it, and its frames are counted from this number on. It has
+-- these files to send, which stand, and those in its inbox.
+pub record IsBegun (c : StationConfig) (first : ℕ) (sources files : FileMap) (s : StationState)
+    : Type 0 where
+  pub fresh : StationState
+  pub is_new : IsNewAt c true sources files fresh
+  pub count : ℕ
+  pub counts : CountsFrom count fresh s
+  pub counted : count % frame_counts ≡ first % frame_counts
+
+-- no frame of this life was made yet
+abbrev pub life_from : ℕ → LifeKept
+life_from first = record { first = first; directives = []; file_data = [] }
+
+-- Nothing was done yet at a station.
+pub record IsFirst (c : StationConfig) (first : ℕ) (sources files : FileMap) (s : Served)
+    : Type 0 where
+  pub begun : IsBegun c first sources files s.kept.station
+  pub kept : s.kept ≡ record {
+    station = s.kept.station;
+    before = [];
+    latest = life_from first;
+    told_before = [];
+    last_directives = None;
+    last_data = None;
+  }
+  pub calls : s.calls ≡ []
+
+-- A station starts anew: with the files of its inbox, and with any files to send. Its frames are
+-- counted from a number behind those of its frames before, of which at least one is left out, and
+-- its puts are numbered from a number on that no put of it had.
+pub record StartsAnew (first number : ℕ) (c : StationConfig) (old new : Served) : Type 0 where
+  pub valid : IsConfig (numbered_from number c.entity)
+  pub sources : FileMap
+  pub begun : IsBegun (record c { entity = numbered_from number c.entity }) first sources
+      (table_of old.kept.station).files new.kept.station
+  pub unused : old.kept.station.entity.state.next ≤ number
+  pub apart : (lane : Lane) →
+      old.kept.latest.first + length (frames_in lane old.kept.latest) < first
+  pub kept : new.kept ≡ record {
+    station = new.kept.station;
+    before = all_kept old.kept;
+    latest = life_from first;
+    told_before = old.kept.told_before ++ (table_of old.kept.station).told;
+    last_directives = None;
+    last_data = None;
+  }
+  pub calls : new.calls ≡ []
+
+-- ---- what is done
+-- What is done at a station: a wish of its user, and how it was answered; a call by which the user
+-- wishes and hears nothing; what was indicated is told to the user, and let go; transactions that
+-- are over are let go; a turn, whole or not; and a start.
+pub data Deed : Type 0 where
+  Wishes : Wish → Reply → Deed
+  Says : UserCall → Deed
+  Tells : Deed
+  LetsGo : Deed
+  Turns : Deed
+  Stops : Deed
+  Starts : (first number : ℕ) → Deed
+
+-- This was done at a station that is set up so, `theirs` being what is kept of the other one.
+abbrev pub DoesDeed : {W : Type 0} → (Steps : W → WireCall → W → Type 0) → Deed
+    → (c : StationConfig) → (theirs : EndKept) → (old new : Served) → (puts puts_then : List Put)
+    → Type 0
+DoesDeed Steps (Wishes wish reply) c theirs old new puts puts_then =
+    (station : StationState) × (added : List Put)
+    × Fulfils wish reply old.kept.station station added
+    × (new ≡ served_on station (wish_calls (wish, reply)) old) × (puts_then ≡ puts ++ added)
+DoesDeed Steps (Says call) c theirs old new puts puts_then =
+    IsSaid call × (new ≡ served_on old.kept.station (call ∷ []) old) × (puts_then ≡ puts)
+DoesDeed Steps Tells c theirs old new puts puts_then =
+    (new ≡ served_on (once_told old.kept.station)
+    (map Hears (said_by (table_of old.kept.station))) old) × (puts_then ≡ puts)
+DoesDeed Steps LetsGo c theirs old new puts puts_then =
+    (station : StationState) × asking.LetsGo old.kept.station station
+    × (new ≡ served_on station [] old) × (puts_then ≡ puts)
+DoesDeed Steps Turns c theirs old new puts puts_then =
+    passing.TakesTurn Steps c.receives theirs old.kept new.kept × (new.calls ≡ old.calls)
+    × (puts_then ≡ puts)
+DoesDeed Steps Stops c theirs old new puts puts_then =
+    passing.EndsEarly Steps c.receives theirs old.kept new.kept × (new.calls ≡ old.calls)
+    × (puts_then ≡ puts)
+DoesDeed Steps (Starts first number) c theirs old new puts puts_then =
+    StartsAnew first number c old new × (puts_then ≡ puts)
+
+-- Something is done at one of both stations.
+pub record Goes {W : Type 0} (Steps : W → WireCall → W → Type 0) (c : Setup) (old new : Stations)
+    : Type 0 where
+  pub side : Side
+  pub deed : Deed
+  pub does : DoesDeed Steps deed (setup_of side c) (served_at (other side) old).kept
+      (served_at side old) (served_at side new) old.puts new.puts
+  pub others : served_at (other side) new ≡ served_at (other side) old
+
+-- Nothing was done at either yet: their frames are counted from these numbers on, and they have
+-- these files to send, and in their inboxes.
+pub record AreFirst (c : Setup) (counts : Side → ℕ) (sources files : Side → FileMap) (w : Stations)
+    : Type 0 where
+  pub each : (s : Side) → IsFirst (setup_of s c) (counts s) (sources s) (files s) (served_at s w)
+  pub puts : w.puts ≡ []
+
+-- So many things were done at both, in any order, from their beginning on.
+pub record HaveServed {W : Type 0} (Steps : W → WireCall → W → Type 0) (c : Setup)
+    (files : Side → FileMap) (now : Stations) : Type 0 where
+  pub counts : Side → ℕ
+  pub sources : Side → FileMap
+  pub first : Stations
+  pub begins : AreFirst c counts sources files first
+  pub count : ℕ
+  pub went : Times (Goes Steps c) count first now

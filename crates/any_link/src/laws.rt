@@ -1,0 +1,101 @@
+//! The laws, each the contract of a function that does nothing.
+ghost use Rattle.std.specs.Prelude.{◌≡◌, ◌⊎◌, ℕ, List, [], None, Contains};
+ghost use Rattle.aos_frame.specs.declared.config.LinkConfig.{LinkConfig};
+ghost use Rattle.cfdp_header.specs.Files.{FileMap};
+ghost use Rattle.cfdp_directives.specs.User.Put.{Put};
+ghost use Rattle.cfdp_station.specs.Station.{StationState};
+ghost use Rattle.cfdp_station.specs.Transmitting.{Times};
+ghost use Rattle.cfdp_station.specs.declared.config.StationConfig.{StationConfig};
+ghost use Rattle.any_order.specs.Calls.{AreJoined, Call, Setup, Side};
+ghost use Rattle.any_order.specs.Kept.{EndKept, Makes};
+ghost use Rattle.cfdp_port.specs.InOrder.{frames_came};
+ghost use Rattle.cfdp_port.specs.PeerTurn.{TakesInPart};
+ghost use Rattle.cfdp_port.specs.Port.{PortState, port_state, table_of};
+ghost use Rattle.cfdp_service.specs.Calls.{Chain};
+ghost use Rattle.cfdp_service.specs.Serving.{Does};
+ghost use Rattle.cfdp_service.specs.declared.wish.Reply.{Reply};
+ghost use Rattle.cfdp_service.specs.declared.wish.Wish.{Wish};
+ghost use Rattle.cfdp_service.specs.Clerk.{ClerkState, ClerkSteps};
+ghost use Rattle.any_link.specs.Passing.{Comes, EndsEarly, Stand, TakesTurn};
+ghost use Rattle.any_link.specs.Promise.{IsDelivered, KeepPromise};
+ghost use Rattle.any_link.specs.Serving.{Fulfils, Goes, HaveServed, IsFree, Stations};
+ghost use Rattle.any_link.specs.Serving.{served_at};
+
+use cfdp_entity::{
+    an_entity_goes_on, an_entity_keeps_the_truth, an_entity_may_forget, an_entity_sends_the_truth,
+};
+use cfdp_port::PeerWire;
+use cfdp_service::{Spool, what_is_sent_was_heard_complete};
+use link_stack::what_comes_up_was_put_in_once;
+
+/// What a port does in a turn is calls of its station, as [`any_order`] has them: whole, or ended
+/// early. Each datagram that comes is a frame that the other station made in one of its lives, and
+/// near the one of its lane before it, or octets of which no packet can come; and the files that
+/// are sent stand.
+pub fn a_turn_is_calls<W: PeerWire>()
+    ensures whole { (c : StationConfig) (theirs old new : EndKept) (puts : List Put) →
+        TakesTurn W.steps c.receives theirs old new → (calls : List Call)
+        × Makes calls c old theirs new puts puts }
+    ensures early { (c : StationConfig) (theirs old new : EndKept) (puts : List Put) →
+        EndsEarly W.steps c.receives theirs old new → (calls : List Call)
+        × Makes calls c old theirs new puts puts }
+{
+    an_entity_goes_on();
+}
+
+/// A turn for which memory was wanting is one that ended early.
+pub fn a_turn_in_part_ends_early<W: PeerWire>()
+    ensures { (link : LinkConfig) (theirs old heard : EndKept) (wire : W) (last : PortState W)
+        (turn : TakesInPart W.steps (port_state old.station wire) last)
+        → Comes link (frames_came W.steps turn.hears.count (port_state old.station wire)
+        turn.hears.last turn.hears.heard) theirs old heard → Stand last.station
+        → (new : EndKept) × EndsEarly W.steps link theirs old new × (new.station ≡ last.station) }
+{}
+
+/// What a station does for a wish in service is what this crate says of it, where a record is
+/// sending the file that is wished, or none has its name.
+pub fn what_is_wished_is_fulfilled()
+    ensures { (wish : Wish) (reply : Reply) (old new : StationState) → Does wish reply old new
+        → IsFree wish (table_of old) → (added : List Put) × Fulfils wish reply old new added }
+{}
+
+/// Two stations in service keep the promise of delivery in whatever order and however often their
+/// frames come, whatever octets come among them of which no packet can come, and whenever either
+/// starts anew: after anything that was done at either, one thing after another.
+///
+/// At each station the wishes of any user are done; what the station indicates is told and let go,
+/// and so are transactions that are over; and turns are taken, of which any may end early. A
+/// station may start anew at any time, with the files of its inbox; it counts its frames so that at
+/// least one number is left out, and numbers its puts behind all before. Asked of the link is what
+/// [`any_order::the_promise_holds_in_any_order`] asks; and of the files to send, that they stand
+/// while they are sent, and that none becomes another one as long as a record is left that sent it.
+pub fn stations_keep_the_promise_in_any_order<W: PeerWire>()
+    ensures { (c : Setup) (files : Side → FileMap) (now : Stations) → AreJoined c
+        → HaveServed W.steps c files now → KeepPromise files now }
+{
+    what_comes_up_was_put_in_once();
+    an_entity_keeps_the_truth();
+    an_entity_goes_on();
+    an_entity_sends_the_truth();
+    an_entity_may_forget();
+}
+
+/// What left a spool as sent lies in the inbox of the other station, where a clerk is the user: at
+/// any moment of any life of its station, and at each later one, whatever was lost, repeated or
+/// late, and whichever station started anew. It was put under its own name, the put was accepted,
+/// and the station was told that it is complete; so the other station has it under that name, or a
+/// file that was completed later under the same one.
+pub fn what_left_the_spool_lies_in_the_inbox<S: Spool, W: PeerWire>()
+    ensures { (c : Setup) (files : Side → FileMap) (mid now : Stations) (more : ℕ) → AreJoined c
+        → HaveServed W.steps c files mid → Times (Goes W.steps c) more mid now → (s : Side)
+        (old new : ClerkState S) → Chain (ClerkSteps S.sent) (served_at s mid).calls old new
+        → old.asked ≡ None → old.files ≡ [] → (name : List ℕ) → Contains (S.sent new.spool) name
+        → Contains (S.sent old.spool) name ⊎ IsDelivered s name now }
+{
+    what_is_sent_was_heard_complete::<S>();
+    what_comes_up_was_put_in_once();
+    an_entity_keeps_the_truth();
+    an_entity_goes_on();
+    an_entity_sends_the_truth();
+    an_entity_may_forget();
+}
