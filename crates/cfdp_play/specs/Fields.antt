@@ -1,10 +1,9 @@
 -- What is asked of frames and PDUs, and what is told of them.
 use Rattle.std.specs.Prelude.{◌≡◌, ◌⊎◌, ◌++◌, ◌∷◌, ℕ, Bool, true, false, List, [], codes, Some}
-use Rattle.cfdp_report.specs.Dump.Lines.{WritesLines}
 use Rattle.cfdp_report.specs.Numbers.{number_of}
 use Rattle.cfdp_report.specs.declared.dump.form.DumpForm.TheVariants.{Fields}
 use Rattle.cfdp_report.specs.declared.dump.shape.FrameShape.{FrameShape}
-use Rattle.cfdp_script.specs.Dump.{TellsLine, lines}
+use Rattle.cfdp_script.specs.Dump.{WritesFile}
 use Rattle.cfdp_script.specs.Script.Words.{four_of, next_word, words_of}
 use Rattle.cfdp_script.specs.declared.dump.DumpKind.{DumpKind}
 use Rattle.cfdp_script.specs.declared.dump.DumpKind.TheVariants.{Frames, Pdus}
@@ -38,7 +37,8 @@ Says line Frames shape = (behind : List (List ℕ))
 abbrev pub IsCut : (text first behind : List ℕ) → Type 0
 IsCut text first behind = (text ≡ first ++ 10 ∷ behind) ⊎ ((text ≡ first) × (behind ≡ []))
 
--- A text says of each line behind the first what it spells, field by field, as `dump --fields` does.
+-- A text says of what stands behind the first line what it spells, field by field, as `dump
+-- --fields` does.
 pub record TellsFields (body text : List ℕ) : Type 0 where
   pub first : List ℕ
   pub behind : List ℕ
@@ -46,4 +46,5 @@ pub record TellsFields (body text : List ℕ) : Type 0 where
   pub request : DumpRequest
   pub says : Says first request.kind request.shape
   pub form : request.form ≡ Fields
-  pub told : WritesLines (TellsLine request) (lines behind) (Some []) (Some text)
+  pub flat : request.deep ≡ false
+  pub told : WritesFile request behind (Some []) (Some text)

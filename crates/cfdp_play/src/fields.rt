@@ -1,9 +1,8 @@
 //! The fields of frames and of PDUs.
 ghost use Rattle.std.specs.Prelude.{◌≡◌, IfOk, IfSome, Some, []};
-ghost use Rattle.cfdp_report.specs.Dump.Lines.{WritesLines};
 ghost use Rattle.cfdp_report.specs.Dump.Shape.{IsShape};
 ghost use Rattle.cfdp_report.specs.Numbers.{number_of};
-ghost use Rattle.cfdp_script.specs.Dump.{TellsLine, lines};
+ghost use Rattle.cfdp_script.specs.Dump.{WritesFile};
 ghost use Rattle.cfdp_script.specs.Script.Words.{left};
 ghost use Rattle.cfdp_play.specs.Fields.{IsCut, SayShape, Says, TellsFields, flag_of};
 
@@ -49,6 +48,7 @@ pub fn fields(alloc: Global, text: &[u8]) -> Result<Option<Vec<u8>>, AllocError>
         kind,
         shape,
         form: DumpForm::Fields,
+        deep: false,
     };
     Ok(Some(told(alloc, request, lines)?))
 }
@@ -117,8 +117,7 @@ fn flag(word: &[u8]) -> Option<bool>
 /// `AllocError` where there is no memory.
 fn told(alloc: Global, request: DumpRequest, text: &[u8]) -> Result<Vec<u8>, AllocError>
     requires { IsShape request.shape }
-    ensures { IfOk result (λ told. WritesLines (TellsLine request) (lines text.now)
-        (Some []) (Some told.items)) }
+    ensures { IfOk result (λ told. WritesFile request text.now (Some []) (Some told.items)) }
 {
     let Ok(mut out) = BufWriter::new(alloc, Vec::new(alloc)) else {
         return Err(AllocError);
