@@ -6,7 +6,7 @@ use Rattle.cfdp_script.proofs.Runs.{lines-behind, lines-front}
 use Rattle.cfdp_script.proofs.dump.write_lines.Goals as goal
 
 pub loop-rest-init : goal.loop-rest-init
-loop-rest-init g c = lines-front _ _ _
+loop-rest-init g c = rw c.new-channels.ensures (lines-front _ _ _)
 
 pub loop-rest-preserved : goal.loop-rest-preserved
 loop-rest-preserved g c =
@@ -18,5 +18,5 @@ returns g c =
     let whole = all.cut ∙ ap (λ l. all.front ++ l) (lines-empty _ (search (rules, arith))) ∙ append-nil all.front in
     record {
       after = c.loop-rest.channels;
-      written = subst (λ l. WritesRun (TellsLine c.args.request) c.args.request l c.loop-rest.channels _ _) (sym whole) all.told;
+      written = subst (λ l. WritesRun (TellsLine c.args.request) c.args.request l c.loop-rest.channels (g.W.Write.contents c.args.out.now) (g.W.Write.contents c.loop-rest.out)) (sym whole) all.told;
     }
