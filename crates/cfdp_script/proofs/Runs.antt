@@ -1,5 +1,6 @@
 -- What was written of units, one after the other.
-use Rattle.std.proofs.Common.{◌≡◌, ◌∙◌, ℕ, ◌<◌, List, [], ◌∷◌, ◌++◌, length, Option, Some, None, Bool, true, false, Result, Ok, Err, Vec, refl, sym, ap, subst, append-nil, inl, inr}
+use Rattle.std.proofs.Common.{◌≡◌, ◌∙◌, ℕ, ◌<◌, ◌+◌, ◌-◌, ◌==◌, arith, List, [], ◌∷◌, ◌++◌, length, Option, Some, None, Bool, true, false, Result, Ok, Err, Vec, refl, sym, ap, subst, append-nil, inl, inr}
+use Rattle.std.proofs.lemmas.Bool.{cases_Bool, eqb-false, eqb-true}
 use Rattle.std.proofs.lemmas.List.{append_assoc}
 use Rattle.std.specs.List.{flat_map}
 use Rattle.std.specs.Result.{OnOk}
@@ -7,7 +8,8 @@ use Rattle.std.specs.declared.alloc.Global.{Global}
 use Rattle.mpdu.specs.Feeding.{octets_of_each}
 use Rattle.std.specs.Io.KnownBytes.{Appends}
 use Rattle.captures.specs.Captures.{HasTaken, SpellsTo}
-use Rattle.captures.specs.Packets.{CaptureState, Captured, ItemText, PacketText}
+use Rattle.captures.specs.Packets.{CaptureState, Captured, Faulty, ItemText, PacketText}
+use Rattle.captures.specs.declared.reader.Fault.{Fault}
 use Rattle.captures.specs.Units.{unit_fault, unit_in}
 use Rattle.captures.specs.declared.unit.Passed.{Passed}
 use Rattle.captures.proofs.Spelling.{spells-more, spells-none}
@@ -22,12 +24,14 @@ use Rattle.cfdp_report.proofs.TextLines.{lines-none, lines-more, lines_joined, l
 use Rattle.cfdp_script.specs.Dump.{TellsLine, hex_octets, lines}
 use Rattle.cfdp_script.specs.Script.Words.{without_return}
 use Rattle.cfdp_report.specs.Dump.Shape.{channel_in}
-use Rattle.cfdp_report.specs.Dump.Told.{TellsAsFrame, TellsAsPdu}
-use Rattle.cfdp_script.specs.Dump.Told.{AsFrame, AsPdu, BadHex, Says, TellsTold, Told, carried_told, packet_remark, packet_told, pdu_in}
+use Rattle.cfdp_report.specs.Dump.Refusal.{refusal_text}
+use Rattle.cfdp_report.specs.Dump.Told.{TellsAsFrame, TellsAsPdu, end_of}
+use Rattle.cfdp_report.specs.declared.dump.refusal.Refusal.TheVariants.{Hex}
+use Rattle.cfdp_script.specs.Dump.Told.{AsFrame, AsPdu, BadHex, IsSaidOf, Says, TellsTold, Told, carried_told, packet_remark, packet_told, pdu_in, place_text}
 use Rattle.cfdp_script.specs.declared.dump.DumpKind.{DumpKind}
 use Rattle.cfdp_script.specs.declared.dump.DumpKind.TheVariants.{Pdus, Frames}
 use Rattle.cfdp_script.specs.declared.dump.remark.Remark.{Remark}
-use Rattle.cfdp_script.specs.declared.dump.remark.Remark.TheVariants.{PassedBy, Unfollowed}
+use Rattle.cfdp_script.specs.declared.dump.remark.Remark.TheVariants.{BadCapture, PassedBy, Unfollowed}
 use Rattle.cfdp_script.specs.Dump.Units.{TellsAs, TellsCarried, TellsDeep, TellsItem, TellsRun, TellsUnfollowed, TellsUnit, WritesRun, WritesUnit}
 use Rattle.cfdp_script.specs.declared.dump.DumpRequest.{DumpRequest}
 
@@ -222,12 +226,41 @@ pub line_unit : {E : Type 0} (request : DumpRequest) (channels : List Channel) (
 line_unit request channels line octets after (Err e) old new has wrote = tt
 line_unit request channels line octets after (Ok x) old new has wrote = record { tolds = wrote.tolds; told = rw (← has) wrote.told; written = wrote.written }
 
-pub line_bad : {E : Type 0} (request : DumpRequest) (channels : List Channel) (line : List ℕ) (r : Result (Unit {0}) E) (old new : Option (List ℕ))
-    → None ≡ hex_octets line → OnOk r (WritesLine (TellsTold request (BadHex (without_return line))) old new)
+pub line_bad : {E : Type 0} (request : DumpRequest) (channels : List Channel) (line bare : List ℕ) (r : Result (Unit {0}) E) (old new : Option (List ℕ))
+    → bare ≡ without_return line → None ≡ hex_octets line → OnOk r (WritesLine (TellsTold request (BadHex bare)) old new)
     → OnOk r (WritesUnit (TellsLine request channels line) request channels old new)
-line_bad request channels line (Err e) old new has wrote = tt
-line_bad request channels line (Ok x) old new has wrote = record {
-  tolds = BadHex (without_return line) ∷ [];
-  told = rw (← has) (refl, refl);
-  written = one_told request (BadHex (without_return line)) old new wrote;
+line_bad request channels line bare (Err e) old new same has wrote = tt
+line_bad request channels line bare (Ok x) old new same has wrote = record {
+  tolds = BadHex bare ∷ [];
+  told = rw (← has) (ap (λ l. BadHex l ∷ []) same, refl);
+  written = one_told request (BadHex bare) old new wrote;
+}
+
+-- ---- what is wrong with a line
+-- all octets up to a place may stand, and so may the one there
+pub places_more : (P : ℕ → Bool) (n : ℕ) → ((k : ℕ) → k < n → P k ≡ true) → P n ≡ true → (k : ℕ) → k < n + 1 → P k ≡ true
+places_more P n before now k below = elim (cases_Bool (k == n)) [
+    | inl same ↦ ap P (eqb-true k n same) ∙ now
+    | inr other ↦ (let apart = eqb-false k n other in before k (omega (arith, below, apart)))
+  ]
+
+pub bad_line : {E : Type 0} (request : DumpRequest) (line : List ℕ) (column : Option ℕ) (end : List ℕ) (r : Result (Unit {0}) E) (old new : Option (List ℕ)) → IsSaidOf line column
+    → end ≡ end_of request.form → OnOk r (Appends old new (refusal_text Hex ++ (place_text column ++ (end ++ 10 ∷ [])))) → OnOk r (WritesLine (TellsTold request (BadHex line)) old new)
+bad_line request line column end (Err e) old new said same written = tt
+bad_line request line column end (Ok x) old new said same written = record {
+  text = refusal_text Hex ++ (place_text column ++ end);
+  such = record { column = column; said = said; words = ap (λ l. refusal_text Hex ++ (place_text column ++ l)) same };
+  written = subst (λ l. Appends old new l)
+      (sym (append_assoc (refusal_text Hex) (place_text column ++ end) (10 ∷ []) ∙ ap (λ l. refusal_text Hex ++ l) (append_assoc (place_text column) end (10 ∷ [])))) written;
+}
+
+-- ---- what can't be read of a capture
+pub item_faulty : {E : Type 0} (whole : ℕ) (request : DumpRequest) (channels : List Channel) (fault : Fault) (place : ℕ) (r : Result (Unit {0}) E) (old new : Option (List ℕ))
+    → place ≡ whole - fault.left → OnOk r (WritesLines (TellsTold request) (Says (BadCapture fault.cause place) ∷ []) old new)
+    → OnOk r (WritesUnit (TellsItem whole request channels (Faulty fault)) request channels old new)
+item_faulty whole request channels fault place (Err e) old new same wrote = tt
+item_faulty whole request channels fault place (Ok x) old new same wrote = record {
+  tolds = Says (BadCapture fault.cause place) ∷ [];
+  told = (ap (λ p. Says (BadCapture fault.cause p) ∷ []) same, refl);
+  written = wrote;
 }
