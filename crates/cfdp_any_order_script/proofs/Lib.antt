@@ -1,5 +1,1 @@
 mod SameEntries
-mod Counts
-mod Noted
-mod Settling
-mod Running

@@ -1,19 +1,15 @@
 -- The frames of a station on a link that keeps no order: which of them wait, and which arrived.
-use Rattle.std.specs.Prelude.{◌≡◌, zero, suc, ◌+◌, ◌≤◌, ◌<◌, ◌-◌, ℕ, Bool, true, false, List, [], ◌∷◌, ◌++◌, Option, Some, None, length, count_by, drop, take, slice_get}
+use Rattle.std.specs.Prelude.{◌≡◌, ◌+◌, ◌≤◌, ◌<◌, ◌-◌, ℕ, Bool, true, false, List, [], ◌∷◌, ◌++◌, Option, Some, None, length, count_by, drop, take, slice_get}
 use Rattle.aos_frame.specs.declared.config.Lane.{Lane}
 use Rattle.aos_frame.specs.declared.config.Lane.TheVariants.{Directives, Data}
 use Rattle.any_order.specs.declared.answers.SentFrame.{SentFrame}
 use Rattle.any_order.specs.Kept.{EndKept}
-use Rattle.cfdp_any_order_script.specs.declared.links.Frames as declared
 
 -- Those that wait, in the order sent, and those that arrived, in the order in which they arrived
 -- first. What was lost or came damaged is in neither list.
 pub record Frames : Type 0 where
   pub waiting : List SentFrame
   pub arrived : List SentFrame
-
-abbrev pub shown : declared.Frames → Frames
-shown f = record { waiting = f.waiting.items; arrived = f.arrived.items }
 
 abbrev pub no_frames : Frames
 no_frames = record { waiting = []; arrived = [] }

@@ -1,5 +1,5 @@
 -- What each command of a script does over a link that keeps no order, and what it answers.
-use Rattle.std.specs.Prelude.{◌≡◌, ◌⊎◌, zero, suc, ◌+◌, ◌<◌, ◌≤◌, ℕ, Bool, true, false, List, [], ◌∷◌, ◌++◌, Option, None, Some, Result, Ok, Err, remove}
+use Rattle.std.specs.Prelude.{◌≡◌, ◌⊎◌, ◌+◌, ◌<◌, ◌≤◌, ℕ, Bool, true, false, List, [], ◌∷◌, ◌++◌, Option, None, Some, Result, Ok, Err, remove}
 use Rattle.std.specs.declared.alloc.AllocError.{AllocError}
 use Rattle.aos_frame.specs.declared.config.Lane.{Lane}
 use Rattle.aos_frame.specs.declared.config.Lane.TheVariants.{Directives, Data}
@@ -41,8 +41,7 @@ use Rattle.cfdp_any_order_script.specs.declared.answer.Answered.{Answered}
 use Rattle.cfdp_any_order_script.specs.declared.play.Instead.{Instead}
 use Rattle.cfdp_any_order_script.specs.declared.play.Instead.TheVariants as instead
 use Rattle.cfdp_any_order_script.specs.Answers.{after_so_many}
-use Rattle.cfdp_any_order_script.specs.Links.{Frames, IsBack, IsBehind, count_of, is_any, made_since, shown}
-use Rattle.cfdp_any_order_script.specs.declared.links.Frames as declared
+use Rattle.cfdp_any_order_script.specs.Links.{Frames, IsBack, IsBehind, count_of, is_any, made_since}
 use Rattle.cfdp_any_order_script.specs.Told.{IsFrame, kept_of, opposite}
 
 -- The two stations, and the frames of each on the link.
@@ -55,34 +54,17 @@ abbrev pub frames_of : Side → PlayState → Frames
 frames_of One p = p.one
 frames_of Two p = p.two
 
--- What of them concerns one station: the world, and the frames of that station.
-pub record PartState : Type 0 where
-  pub world : WorldKept
-  pub frames : Frames
-
-abbrev pub part_of : WorldKept → declared.Frames → PartState
-part_of w f = record { world = w; frames = shown f }
-
-abbrev pub part : Side → PlayState → PartState
-part s p = record { world = p.world; frames = frames_of s p }
-
--- This came about in the world and with the frames of a station; those of the other are as before.
-pub record At (s : Side) (Does : PartState → PartState → Type 0) (old new : PlayState) : Type 0
-    where
-  pub does : Does (part s old) (part s new)
-  pub others : frames_of (opposite s) new ≡ frames_of (opposite s) old
-
--- These calls were made at a station, and then the frames were these.
-pub record Calls (at : Side) (calls : List Call) (frames : Frames) (old new : PartState) : Type 0
-    where
+-- These calls were made at a station, and then the frames of a station were these, and those of the
+-- other as before.
+pub record Calls (at : Side) (calls : List Call) (from : Side) (frames : Frames)
+    (old new : PlayState) : Type 0 where
   pub happened : Happened (side_of at) calls old.world new.world
-  pub frames : new.frames ≡ frames
+  pub frames : frames_of from new ≡ frames
+  pub others : frames_of (opposite from) new ≡ frames_of (opposite from) old
 
 -- These calls were made, and no frame moved on the link.
-pub record OnlyCalls (at : Side) (calls : List Call) (old new : PlayState) : Type 0 where
-  pub happened : Happened (side_of at) calls old.world new.world
-  pub one : new.one ≡ old.one
-  pub two : new.two ≡ old.two
+abbrev pub OnlyCalls : Side → List Call → (old new : PlayState) → Type 0
+OnlyCalls at calls old new = Calls at calls at (frames_of at old) old new
 
 -- ---- answers
 abbrev pub nothing : Answer
@@ -132,31 +114,35 @@ start_answer (Ok restarted.FrameUsed) = Some FramesSpent
 start_answer (Err error) = Some no_memory
 
 -- It wasn't done, and nothing changed.
-abbrev pub IsNotDone : (why : Answer) → Option Answer → (old new : PartState) → Type 0
+abbrev pub IsNotDone : (why : Answer) → Option Answer → (old new : PlayState) → Type 0
 IsNotDone why answer old new = (answer ≡ Some why) × (new ≡ old)
 
 -- ---- sending
 -- The frames that a station made in these calls wait behind the others; or there was no memory to
 -- note them, and they are lost.
-abbrev pub Sends : Side → List Call → (usually answer : Option Answer) → (old new : PartState)
+abbrev pub Sends : Side → List Call → (usually answer : Option Answer) → (old new : PlayState)
     → Type 0
 Sends s calls usually answer old new =
-    ((answer ≡ usually) × Calls s calls (record { waiting = old.frames.waiting
+    (Calls s calls s (record { waiting = (frames_of s old).waiting
     ++ made_since (kept_of s old.world) (kept_of s new.world);
-    arrived = old.frames.arrived }) old new)
-    ⊎ ((answer ≡ Some no_memory) × Calls s calls old.frames old new)
+    arrived = (frames_of s old).arrived }) old new × (answer ≡ usually))
+    ⊎ (OnlyCalls s calls old new × (answer ≡ Some no_memory))
 
-abbrev pub PollsOnce : Side → Option Answer → (old new : PartState) → Type 0
+abbrev pub PollsOnce : Side → Option Answer → (old new : PlayState) → Type 0
 PollsOnce s answer old new = (result : Result Polled AllocError) × (calls : List Call)
     × ArePollCalls result calls × Sends s calls (poll_answer result) answer old new
 
-abbrev pub FlushesOnce : Side → Option Answer → (old new : PartState) → Type 0
+abbrev pub FlushesOnce : Side → Option Answer → (old new : PlayState) → Type 0
 FlushesOnce s answer old new = (result : Result (Unit {0}) AllocError) × (calls : List Call)
     × AreFlushCalls calls × Sends s calls
     (flush_answer result (is_any (made_since (kept_of s old.world) (kept_of s new.world))))
     answer old new
 
 -- ---- what becomes of a waiting frame
+-- Not so many frames of a lane, or of either, wait.
+abbrev pub WaitFewer : Side → Option Lane → ℕ → PlayState → Type 0
+WaitFewer s lane before p = count_of lane (frames_of s p).waiting ≤ before
+
 -- the frames of a station without the one that waits at a place, and these that arrived
 abbrev pub without : ℕ → List SentFrame → Frames → Frames
 without place arrived f = record { waiting = remove f.waiting place; arrived = arrived }
@@ -168,59 +154,59 @@ behind_delivery delivered.Taken frame place f = without place (f.arrived ++ fram
 behind_delivery delivered.NoSuchFrame frame place f = f
 behind_delivery delivered.TooFar frame place f = f
 
--- The waiting frame of a station that has so many of its lane, or of both, in front of it arrives
--- at the other station. Where not so many wait, the answer is this one; where there is no memory to
--- note it, nothing happens.
+-- The waiting frame that has so many of its lane, or of both, in front of it arrives at the other
+-- station. Where not so many wait, the answer is this one; where there is no memory to note it,
+-- nothing happens.
 abbrev pub ComesFrom : (none : Answer) → Side → Option Lane → ℕ → Option Answer →
-    (old new : PartState) → Type 0
+    (old new : PlayState) → Type 0
 ComesFrom none s lane before answer old new =
-    ((count_of lane old.frames.waiting ≤ before) × IsNotDone none answer old new)
+    (WaitFewer s lane before old × IsNotDone none answer old new)
     ⊎ (IsNotDone no_memory answer old new
     ⊎ ((place : ℕ) × (frame : SentFrame) × (by : Delivered)
-    × IsBehind lane before old.frames.waiting place frame × (answer ≡ arrival_answer by)
-    × Calls (opposite s) (deliver_calls frame by) (behind_delivery by frame place old.frames)
-    old new))
+    × IsBehind lane before (frames_of s old).waiting place frame
+    × ((answer ≡ arrival_answer by) × Calls (opposite s) (deliver_calls frame by) s
+    (behind_delivery by frame place (frames_of s old)) old new)))
 
 -- The oldest waiting frame of a lane, or of both, is lost.
-abbrev pub Loses : Option Lane → Option Answer → (old new : PartState) → Type 0
-Loses lane answer old new =
-    ((count_of lane old.frames.waiting ≤ 0) × IsNotDone nothing answer old new)
-    ⊎ ((place : ℕ) × (frame : SentFrame) × IsBehind lane 0 old.frames.waiting place frame
-    × (answer ≡ None) × (new.world ≡ old.world)
-    × (new.frames ≡ without place old.frames.arrived old.frames))
+abbrev pub Loses : Side → Option Lane → Option Answer → (old new : PlayState) → Type 0
+Loses s lane answer old new =
+    (WaitFewer s lane 0 old × IsNotDone nothing answer old new)
+    ⊎ ((place : ℕ) × (frame : SentFrame)
+    × IsBehind lane 0 (frames_of s old).waiting place frame × (answer ≡ None)
+    × Calls s [] s (without place (frames_of s old).arrived (frames_of s old)) old new)
 
 -- what a station's frames are behind a damage: the frame waits no more, or nothing changed
 abbrev pub behind_damage : (taken : Bool) → ℕ → Frames → Frames
 behind_damage true place f = without place f.arrived f
 behind_damage false place f = f
 
+-- Octets come in the place of the oldest waiting frame of a lane, or of both: these, made of it.
+-- They aren't taken where a packet may come of them.
+abbrev pub ComesDamaged : (as : List ℕ → List ℕ) → Side → Option Lane → Option Answer →
+    (old new : PlayState) → Type 0
+ComesDamaged as s lane answer old new =
+    (WaitFewer s lane 0 old × IsNotDone nothing answer old new)
+    ⊎ (IsNotDone no_memory answer old new
+    ⊎ (IsNotDone NoSuchFrame answer old new
+    ⊎ ((place : ℕ) × (frame : SentFrame) × (octets : List ℕ) × (taken : Bool)
+    × IsBehind lane 0 (frames_of s old).waiting place frame
+    × (IsFrame frame octets (kept_of s old.world) × (answer ≡ damage_answer taken)
+    × Calls (opposite s) (octets_calls (as octets) taken) s
+    (behind_damage taken place (frames_of s old)) old new))))
+
 -- what comes in the place of a frame
 abbrev pub made_by : Instead → List ℕ → List ℕ
 made_by (instead.Damaged damage) frame = damaged damage frame
 made_by (instead.Octets octets) frame = octets.now
 
--- Octets come in the place of the oldest waiting frame of a lane, or of both: these, made of it.
--- They aren't taken where a packet may come of them.
-abbrev pub ComesDamaged : (as : List ℕ → List ℕ) → Side → Option Lane → Option Answer →
-    (old new : PartState) → Type 0
-ComesDamaged as s lane answer old new =
-    ((count_of lane old.frames.waiting ≤ 0) × IsNotDone nothing answer old new)
-    ⊎ (IsNotDone no_memory answer old new
-    ⊎ (IsNotDone NoSuchFrame answer old new
-    ⊎ ((place : ℕ) × (frame : SentFrame) × (octets : List ℕ) × (taken : Bool)
-    × IsBehind lane 0 old.frames.waiting place frame
-    × IsFrame frame octets (kept_of s old.world) × (answer ≡ damage_answer taken)
-    × Calls (opposite s) (octets_calls (as octets) taken) (behind_damage taken place old.frames)
-    old new)))
-
 -- ---- a frame that arrived
 -- The frame that arrived so many ago, of a lane or of both, arrives again.
-abbrev pub ComesAgain : Side → Option Lane → ℕ → Option Answer → (old new : PartState) → Type 0
+abbrev pub ComesAgain : Side → Option Lane → ℕ → Option Answer → (old new : PlayState) → Type 0
 ComesAgain s lane back answer old new =
-    ((count_of lane old.frames.arrived < back) × IsNotDone NoSuchFrame answer old new)
-    ⊎ ((frame : SentFrame) × (by : Delivered) × IsBack lane back old.frames.arrived frame
+    ((count_of lane (frames_of s old).arrived < back) × IsNotDone NoSuchFrame answer old new)
+    ⊎ ((frame : SentFrame) × (by : Delivered) × IsBack lane back (frames_of s old).arrived frame
     × (answer ≡ arrival_answer by)
-    × Calls (opposite s) (deliver_calls frame by) old.frames old new)
+    × Calls (opposite s) (deliver_calls frame by) s (frames_of s old) old new)
 
 -- ---- a station that starts anew
 -- Its frames on the link stay as they are.
@@ -243,15 +229,15 @@ HappensOnce (event.Suspend s id) answer old new = Asks s id Suspend answer old n
 HappensOnce (event.Resume s id) answer old new = Asks s id Resume answer old new
 HappensOnce (event.Prompt s id keep_alive) answer old new =
     Asks s id (Prompt keep_alive) answer old new
-HappensOnce (event.Poll s) answer old new = At s (PollsOnce s answer) old new
-HappensOnce (event.Flush s) answer old new = At s (FlushesOnce s answer) old new
+HappensOnce (event.Poll s) answer old new = PollsOnce s answer old new
+HappensOnce (event.Flush s) answer old new = FlushesOnce s answer old new
 HappensOnce (event.Tick s now) answer old new = (result : Result (Unit {0}) AllocError)
     × (answer ≡ tick_answer result) × OnlyCalls s (tick_calls now result) old new
 HappensOnce (event.Deliver s lane) answer old new =
-    At s (ComesFrom nothing s (Some lane) 0 answer) old new
-HappensOnce (event.Strike s lane) answer old new = At s (Loses (Some lane) answer) old new
+    ComesFrom nothing s (Some lane) 0 answer old new
+HappensOnce (event.Strike s lane) answer old new = Loses s (Some lane) answer old new
 HappensOnce (event.Damage s lane octets) answer old new =
-    At s (ComesDamaged (λ _. octets) s (Some lane) answer) old new
+    ComesDamaged (λ _. octets) s (Some lane) answer old new
 
 -- ---- commands that repeat
 -- The same so many times, one after another.
@@ -270,8 +256,8 @@ Often Step count (Some answer) old new = (before : ℕ) × (before < count)
 
 -- what befalls the oldest waiting frame of both lanes
 abbrev pub BefallsFirst : Fate → Side → Option Answer → (old new : PlayState) → Type 0
-BefallsFirst Arrives s answer old new = At s (ComesFrom nothing s None 0 answer) old new
-BefallsFirst IsLost s answer old new = At s (Loses None answer) old new
+BefallsFirst Arrives s answer old new = ComesFrom nothing s None 0 answer old new
+BefallsFirst IsLost s answer old new = Loses s None answer old new
 
 -- ---- commands that go on until nothing is left to do
 -- how many events they have at most
@@ -298,31 +284,19 @@ abbrev pub SettlesOnce : (old new : PlayState) → Type 0
 SettlesOnce old new = (turn : ℕ) × (HappensOnce (turn_event turn) None old new
     ⊎ HappensOnce (turn_event turn) (Some nothing) old new)
 
--- behind the eighth turn comes the first
+-- From a turn on, so many had nothing to do, one after another. Behind the eighth comes the first.
 abbrev pub next_turn : ℕ → ℕ
-next_turn 0 = 1
-next_turn 1 = 2
-next_turn 2 = 3
-next_turn 3 = 4
-next_turn 4 = 5
-next_turn 5 = 6
-next_turn 6 = 7
-next_turn turn = 0
+next_turn 7 = 0
+next_turn turn = turn + 1
 
--- the turn so many turns behind one
-abbrev pub turns_on : ℕ → ℕ → ℕ
-turns_on turn zero = turn
-turns_on turn (suc count) = next_turn (turns_on turn count)
-
--- From a turn on, so many had nothing to do, one after another.
 abbrev pub Rests : (turn : ℕ) → ℕ → (old new : PlayState) → Type 0
 Rests turn zero old new = new ≡ old
-Rests turn (suc count) old new = (mid : PlayState) × Rests turn count old mid
-    × HappensOnce (turn_event (turns_on turn count)) (Some nothing) mid new
+Rests turn (suc count) old new = (mid : PlayState)
+    × HappensOnce (turn_event turn) (Some nothing) old mid × Rests (next_turn turn) count mid new
 
 -- All eight had nothing to do, one after another.
 abbrev pub IsSettledBy : (old new : PlayState) → Type 0
-IsSettledBy old new = (turn : ℕ) × (turn ≤ 7) × Rests turn 8 old new
+IsSettledBy old new = (turn : ℕ) × Rests turn 8 old new
 
 -- Events of a settling happened, until all had nothing to do; or one had another answer; or there
 -- were too many.
@@ -421,9 +395,8 @@ Recovers answer old new =
 -- ---- all commands
 abbrev pub PerformsDisorder : Disorder → Option Answer → (old new : PlayState) → Type 0
 PerformsDisorder (Overtake p) answer old new =
-    At p.from (ComesFrom NoSuchFrame p.from p.lane p.number answer) old new
-PerformsDisorder (Again p) answer old new =
-    At p.from (ComesAgain p.from p.lane p.number answer) old new
+    ComesFrom NoSuchFrame p.from p.lane p.number answer old new
+PerformsDisorder (Again p) answer old new = ComesAgain p.from p.lane p.number answer old new
 PerformsDisorder (Restart s) answer old new = StartsAnew s answer old new
 
 -- A command had this answer, none where all was done.
@@ -433,7 +406,7 @@ Performs (command.Repeat e count) answer old new = Often (HappensOnce e) count a
 Performs (command.First fate s count) answer old new =
     Often (BefallsFirst fate s) count answer old new
 Performs (command.Damage s lane damage) answer old new =
-    At s (ComesDamaged (damaged damage) s lane answer) old new
+    ComesDamaged (damaged damage) s lane answer old new
 Performs (command.Spread s) answer old new = Spreads s answer old new
 Performs (command.Burst s) answer old new = Bursts s answer old new
 Performs command.Settle answer old new = Settles answer old new

@@ -44,13 +44,13 @@ pub record IsFirst (config : WorldConfig) (files : List GivenFile) (first : Play
 -- From two such stations all commands ran, had these answers, and left the last world; of that the
 -- promise holds.
 pub record RunsAll (config : WorldConfig) (files : List GivenFile) (steps : List Step) : Type 0
-  where
-    pub first : PlayState
-    pub starts : IsFirst config files first
-    pub answered : List Answered
-    pub last : PlayState
-    pub runs : Runs steps answered first last
-    pub promised : KeepsPromise last.world
+    where
+  pub first : PlayState
+  pub starts : IsFirst config files first
+  pub answered : List Answered
+  pub last : PlayState
+  pub runs : Runs steps answered first last
+  pub promised : KeepsPromise last.world
 
 -- They ended so, and what was written is the report of the world that they left.
 abbrev pub RunsTold : WorldConfig → List GivenFile → List Step → Exit → (old new : Option (List ℕ))

@@ -1,14 +1,14 @@
 -- What two stations told their users, in all their lives, and what is kept of that.
-use Rattle.std.specs.Prelude.{◌≡◌, ℕ, List, [], ◌++◌, Some, length, count_by, slice_get, slice_index_or}
+use Rattle.std.specs.Prelude.{◌≡◌, ◌⊎◌, ◌<◌, ℕ, List, [], ◌++◌, Option, Some, length, count_by, slice_get, slice_index_or}
 use Rattle.std.specs.List.{flat_map}
+use Rattle.aos_frame.specs.declared.config.Lane.TheVariants.{Directives, Data}
 use Rattle.cfdp_header.specs.Files.{FileMap}
 use Rattle.cfdp_directives.specs.declared.user.indication.Indication.{Indication}
+use Rattle.cfdp_timers.specs.declared.armed.Armed.{Armed}
 use Rattle.link_sim.specs.declared.side.Side.{Side}
 use Rattle.link_sim.specs.declared.side.Side.TheVariants.{One, Two}
 use Rattle.any_order.specs.declared.answers.SentFrame.{SentFrame}
-use Rattle.any_order.specs.Calls as sides
 use Rattle.any_order.specs.Kept.{EndKept, LifeKept, all_kept, frames_in}
-use Rattle.any_order.specs.Onward.{BeginsAnew, GoesOn}
 use Rattle.any_order.specs.World.{WorldKept, kept_at, side_of, sources_at}
 use Rattle.cfdp_report.specs.Report.Lines.{indication_line, is_own_completion}
 use Rattle.cfdp_script.specs.Script.Outboxes.{outbox_of}
@@ -52,15 +52,3 @@ pub record IsNoted (station lives : ℕ) (told : List ℕ) (completed : ℕ) (k 
 -- The files that both stations can send are those of a script. (Only proofs need it.)
 abbrev pub HasSources : List GivenFile → WorldKept → Type 0
 HasSources files w = (s : Side) → sources_at (side_of s) w ≡ outbox_of s files
-
--- Whatever was called, both stations went on in their lives, and the files that they can send stay.
--- (Only proofs need it, and the next one.)
-abbrev pub GoesOnward : (old new : WorldKept) → Type 0
-GoesOnward old new = ((s : sides.Side) → GoesOn (kept_at s old) (kept_at s new))
-    × ((s : sides.Side) → sources_at s new ≡ sources_at s old)
-
--- A station started anew, and the other one went on.
-abbrev pub Starts : sides.Side → (old new : WorldKept) → Type 0
-Starts side old new = BeginsAnew (kept_at side old) (kept_at side new)
-    × GoesOn (kept_at (sides.other side) old) (kept_at (sides.other side) new)
-    × ((s : sides.Side) → sources_at s new ≡ sources_at s old)

@@ -1,9 +1,8 @@
 //! What the commands of such a script answer.
 ghost use Rattle.std.specs.Prelude.{◌≡◌, Some, true};
-ghost use Rattle.cfdp_any_order_script.specs.Performing.{nothing};
+ghost use Rattle.cfdp_any_order_script.specs.Performing as Performing;
 ghost use Rattle.cfdp_any_order_script.specs.Answers.{answer_name, after_so_many};
 
-use link_sim::RecoverError;
 use std::fmt;
 
 /// Why a command didn't do its work, or not all of it. The report tells it.
@@ -55,14 +54,9 @@ impl Answer {
     /// There was no memory for it.
     pub const NO_MEMORY: Answer = Answer::Usual(cfdp_report::Answer::NO_MEMORY);
 
-    /// After all rounds a timer is left.
-    pub const STILL_ARMED: Answer = Answer::Usual(cfdp_report::Answer::Ended(
-        RecoverError::StillArmed,
-    ));
-
     /// Whether it says that there was nothing to do.
     pub fn is_nothing(self) -> bool
-        ensures { result ≡ true → self ≡ nothing }
+        ensures yes { result ≡ true → self ≡ Performing.nothing }
     {
         match self {
             Answer::Usual(cfdp_report::Answer::Nothing { after }) => after == 0,

@@ -31,8 +31,9 @@ fn is_of(lane: Option<Lane>, frame: &SentFrame) -> bool
     ensures { result ≡ is_of lane frame.now }
 {
     match (lane, frame.lane) {
-        (None, _) | (Some(Lane::Directives), Lane::Directives) | (Some(Lane::Data), Lane::Data) =>
-            true,
+        (None, _)
+        | (Some(Lane::Directives), Lane::Directives)
+        | (Some(Lane::Data), Lane::Data) => true,
         (Some(Lane::Directives), Lane::Data) | (Some(Lane::Data), Lane::Directives) => false,
     }
 }
@@ -42,7 +43,6 @@ fn is_of(lane: Option<Lane>, frame: &SentFrame) -> bool
 /// # Errors
 ///
 /// `AllocError` where there is no memory for them.
-#[tactic(auto, using(crate::proofs::Counts::made_more))]
 fn made_of(
     alloc: Global,
     life: usize,
@@ -66,7 +66,6 @@ fn made_of(
 
 /// The waiting frame of a lane, or of either, that has so many of these in front of it, and its
 /// place; `None` where not so many wait.
-#[tactic(auto, using(crate::proofs::Counts::front_yes, crate::proofs::Counts::front_no))]
 pub fn waiting_behind(
     waiting: &VecDeque<SentFrame>,
     lane: Option<Lane>,
@@ -90,7 +89,6 @@ pub fn waiting_behind(
 
 /// The frame of a lane, or of either, that arrived so many of these ago, 1 being the last one;
 /// `None` where not so many arrived.
-#[tactic(auto, using(crate::proofs::Counts::back_yes, crate::proofs::Counts::back_no))]
 pub fn arrived_back(arrived: &[SentFrame], lane: Option<Lane>, back: u64) -> Option<SentFrame>
     requires { 1 ≤ back }
     ensures { MatchOption result (count_of lane arrived.now < back)
@@ -100,10 +98,10 @@ pub fn arrived_back(arrived: &[SentFrame], lane: Option<Lane>, back: u64) -> Opt
     for done in 0..arrived.len() {
         let frame = arrived[arrived.len() - 1 - done];
         if is_of(lane, &frame) {
-            if passed + 1 == back {
+            passed += 1;
+            if passed == back {
                 return Some(frame);
             }
-            passed += 1;
         }
     }
     None

@@ -1,19 +1,16 @@
 //! What each command of a script does over any link.
-ghost use Rattle.std.specs.Prelude.{◌≡◌, ◌≤◌, None, Some, true, false, IfErr, IfOk, MatchOption};
-ghost use Rattle.std.specs.Result.{result_err};
-ghost use Rattle.link_sim.specs.declared.event.Event.TheVariants as events;
-ghost use Rattle.cfdp_any_order_script.specs.Performing.{BefallsFirst, Bursts, HappensOnce};
-ghost use Rattle.cfdp_any_order_script.specs.Performing.{IsNext, IsRecovered, Often, Performs};
-ghost use Rattle.cfdp_any_order_script.specs.Performing.{PerformsDisorder, PollsAll};
-ghost use Rattle.cfdp_any_order_script.specs.Performing.{PollsAndFlushes, Recovers, RecoversOnce};
-ghost use Rattle.cfdp_any_order_script.specs.Performing.{RoundEnds, SendingEnds, Settles, Spreads};
-ghost use Rattle.cfdp_any_order_script.specs.Performing.{next_turn, nothing, turn_event};
+ghost use Rattle.std.specs.Prelude.{◌≡◌, ◌≤◌, None, Some, true, false, ⊤};
+ghost use Rattle.cfdp_any_order_script.specs.Performing.{BefallsFirst, Bursts, EndsPolling};
+ghost use Rattle.cfdp_any_order_script.specs.Performing.{HappensOnce, IsNext, IsRecovered, Often};
+ghost use Rattle.cfdp_any_order_script.specs.Performing.{Performs, PerformsDisorder, PollsAll};
+ghost use Rattle.cfdp_any_order_script.specs.Performing.{Recovers, Settles, Spreads, turn_event};
+ghost use Rattle.cfdp_any_order_script.specs.Performing.{next_turn};
 
 use crate::answer::Answer;
 use crate::play::{Instead, Play};
 use aos_frame::Lane;
 use cfdp_script::{Command, Disorder, Fate};
-use link_sim::{Event, Side};
+use link_sim::{Event, RecoverError, Side};
 
 /// The most events of a command that goes on until nothing is left to do.
 const MOST_EVENTS: u64 = 1_000_000;
@@ -33,10 +30,10 @@ pub fn perform(play: &mut Play<'_>, command: &Command) -> Option<Answer>
         Command::Damage { from, lane, damage } => {
             play.damage(*from, *lane, Instead::Damaged(*damage))
         }
-        Command::Spread(side) => spread(play, *side).err(),
-        Command::Burst(side) => burst(play, *side).err(),
-        Command::Settle => settle(play).err(),
-        Command::Recover => recover(play).err(),
+        Command::Spread(side) => spread(play, *side),
+        Command::Burst(side) => burst(play, *side),
+        Command::Settle => settle(play),
+        Command::Recover => recover(play),
         Command::Disorder(what) => disorder(play, *what),
     }
 }
@@ -104,48 +101,27 @@ fn turn_event(turn: u8) -> Event
     }
 }
 
-/// Lets an event happen, if there is anything to do for it: whether there was.
-///
-/// # Errors
-///
-/// Any other answer of it.
-fn attempt(play: &mut Play<'_>, event: &Event) -> Result<bool, Answer>
-    ensures done { IfOk result (λ moved. moved ≡ true
-        → HappensOnce event.now None play.old play.new) }
-    ensures idle { IfOk result (λ moved. moved ≡ false
-        → HappensOnce event.now (Some nothing) play.old play.new) }
-    ensures ends { IfErr result (λ why. HappensOnce event.now (Some why) play.old play.new) }
-{
-    match play.once(event) {
-        None => Ok(true),
-        Some(answer) if answer.is_nothing() => Ok(false),
-        Some(answer) => Err(answer),
-    }
-}
-
 /// Polls, flushes and delivers by turns, each until there is nothing to do for it, until there is
-/// nothing to do for all eight in a row.
-///
-/// # Errors
-///
-/// The first other answer of an event; `TooLong`.
-fn settle(play: &mut Play<'_>) -> Result<(), Answer>
-    ensures { Settles (result_err result) play.old play.new }
+/// nothing to do for all eight in a row. Answers why that isn't so.
+fn settle(play: &mut Play<'_>) -> Option<Answer>
+    ensures { Settles result play.old play.new }
 {
     let mut turn = 0;
     let mut idle = 0;
-    for _done in 0..MOST_EVENTS {
-        if attempt(play, &turn_event(turn))? {
-            idle = 0;
-        } else {
-            idle += 1;
-            turn = next_turn(turn);
-            if idle == 8 {
-                return Ok(());
+    for _ in 0..MOST_EVENTS {
+        match play.once(&turn_event(turn)) {
+            None => idle = 0,
+            Some(answer) if answer.is_nothing() => {
+                idle += 1;
+                turn = next_turn(turn);
+                if idle == 8 {
+                    return None;
+                }
             }
+            answer => return answer,
         }
     }
-    Err(Answer::TooLong)
+    Some(Answer::TooLong)
 }
 
 /// The turn behind one.
@@ -154,86 +130,58 @@ fn next_turn(turn: u8) -> u8
     ensures is { result ≡ next_turn turn }
     ensures bound { result ≤ 7 }
 {
-    match turn {
-        0 => 1,
-        1 => 2,
-        2 => 3,
-        3 => 4,
-        4 => 5,
-        5 => 6,
-        6 => 7,
-        _ => 0,
-    }
-}
-
-/// Polls a station, and flushes it if that did something: whether it did.
-///
-/// # Errors
-///
-/// Any other answer of the poll or the flush.
-fn spread_once(play: &mut Play<'_>, side: Side) -> Result<bool, Answer>
-    ensures done { IfOk result (λ moved. moved ≡ true → PollsAndFlushes side play.old play.new) }
-    ensures idle { IfOk result (λ moved. moved ≡ false
-        → HappensOnce (events.Poll side) (Some nothing) play.old play.new) }
-    ensures ends { IfErr result (λ why. SendingEnds side why play.old play.new) }
-{
-    if !attempt(play, &Event::Poll(side))? {
-        return Ok(false);
-    }
-    let _any = attempt(play, &Event::Flush(side))?;
-    Ok(true)
+    if turn == 7 { 0 } else { turn + 1 }
 }
 
 /// Polls a station until nothing is due there, and flushes it after each PDU.
-///
-/// # Errors
-///
-/// Any other answer of a poll or a flush; `TooLong`.
-fn spread(play: &mut Play<'_>, side: Side) -> Result<(), Answer>
-    ensures { Spreads side (result_err result) play.old play.new }
+fn spread(play: &mut Play<'_>, side: Side) -> Option<Answer>
+    ensures { Spreads side result play.old play.new }
 {
-    for _done in 0..MOST_EVENTS {
-        if !spread_once(play, side)? {
-            return Ok(());
+    for _ in 0..MOST_EVENTS {
+        match play.once(&Event::Poll(side)) {
+            None => {}
+            Some(answer) if answer.is_nothing() => return None,
+            answer => return answer,
+        }
+        match play.once(&Event::Flush(side)) {
+            None => {}
+            Some(answer) if answer.is_nothing() => {}
+            answer => return answer,
         }
     }
-    Err(Answer::TooLong)
+    Some(Answer::TooLong)
 }
 
 /// Polls a station until nothing is due there.
-///
-/// # Errors
-///
-/// Any other answer of a poll; `TooLong`.
-fn poll_all(play: &mut Play<'_>, side: Side) -> Result<(), Answer>
-    ensures { PollsAll side (result_err result) play.old play.new }
+fn poll_all(play: &mut Play<'_>, side: Side) -> Option<Answer>
+    ensures { PollsAll side result play.old play.new }
 {
-    for _done in 0..MOST_EVENTS {
-        if !attempt(play, &Event::Poll(side))? {
-            return Ok(());
+    for _ in 0..MOST_EVENTS {
+        match play.once(&Event::Poll(side)) {
+            None => {}
+            Some(answer) if answer.is_nothing() => return None,
+            answer => return answer,
         }
     }
-    Err(Answer::TooLong)
+    Some(Answer::TooLong)
 }
 
 /// Polls a station until nothing is due there, and flushes it once.
-///
-/// # Errors
-///
-/// Any other answer of a poll or of the flush; `TooLong`.
-fn burst(play: &mut Play<'_>, side: Side) -> Result<(), Answer>
-    ensures { Bursts side (result_err result) play.old play.new }
+fn burst(play: &mut Play<'_>, side: Side) -> Option<Answer>
+    ensures { Bursts side result play.old play.new }
 {
-    poll_all(play, side)?;
-    let _any = attempt(play, &Event::Flush(side))?;
-    Ok(())
+    if let Some(answer) = poll_all(play, side) {
+        return Some(answer);
+    }
+    match play.once(&Event::Flush(side)) {
+        Some(answer) if answer.is_nothing() => None,
+        answer => answer,
+    }
 }
 
 /// The station that is told the time next, and which; `None` where no timer is armed but those of
 /// Inactivity.
-fn next_tick(play: &Play<'_>) -> Option<(Side, u64)>
-    ensures { MatchOption result (IsRecovered play.now) (λ next. IsNext next.0 next.1 play.now) }
-{
+fn next_tick(play: &Play<'_>) -> Option<(Side, u64)> {
     if let Some(now) = play.world.next_deadline(Side::One) {
         return Some((Side::One, now));
     }
@@ -241,47 +189,29 @@ fn next_tick(play: &Play<'_>) -> Option<(Side, u64)>
     Some((Side::Two, now))
 }
 
-/// Tells a station the time that is next, and settles: whether a timer was armed other than
-/// Inactivity.
-///
-/// # Errors
-///
-/// Any other answer of the tick, and those of settling.
-fn recover_once(play: &mut Play<'_>) -> Result<bool, Answer>
-    ensures done { IfOk result (λ any. any ≡ true → RecoversOnce play.old play.new) }
-    ensures none { IfOk result (λ any. any ≡ false
-        → IsRecovered play.old × (play.new ≡ play.old)) }
-    ensures ends { IfErr result (λ why. RoundEnds why play.old play.new) }
-{
-    let Some((at, now)) = next_tick(play) else {
-        return Ok(false);
-    };
-    match play.once(&Event::Tick { at, now }) {
-        None => {
-            settle(play)?;
-            Ok(true)
-        }
-        Some(answer) => Err(answer),
-    }
-}
-
 /// Settles, and tells stations the time and settles again, until no timer is armed but those of
-/// Inactivity.
-///
-/// # Errors
-///
-/// Those of settling and of a round; `StillArmed`.
-fn recover(play: &mut Play<'_>) -> Result<(), Answer>
-    ensures { Recovers (result_err result) play.old play.new }
+/// Inactivity. Answers why that isn't so.
+fn recover(play: &mut Play<'_>) -> Option<Answer>
+    ensures { Recovers result play.old play.new }
 {
-    settle(play)?;
-    for _round in 0..MOST_ROUNDS {
-        if !recover_once(play)? {
-            return Ok(());
+    if let Some(answer) = settle(play) {
+        return Some(answer);
+    }
+    for _ in 0..MOST_ROUNDS {
+        let Some((at, now)) = next_tick(play) else {
+            return None;
+        };
+        if let Some(answer) = play.once(&Event::Tick { at, now }) {
+            return Some(answer);
+        }
+        if let Some(answer) = settle(play) {
+            return Some(answer);
         }
     }
     match next_tick(play) {
-        Some(_) => Err(Answer::STILL_ARMED),
-        None => Ok(()),
+        Some(_) => Some(Answer::Usual(cfdp_report::Answer::Ended(
+            RecoverError::StillArmed,
+        ))),
+        None => None,
     }
 }

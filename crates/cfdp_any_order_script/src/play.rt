@@ -1,20 +1,19 @@
 //! Two stations over any link, as a script drives them: the world, and which frames wait.
 ghost use Rattle.std.specs.FinMap as map;
-ghost use Rattle.std.specs.Prelude.{◌≡◌, ◌≤◌, IfOk};
+ghost use Rattle.std.specs.Prelude.{◌≡◌, ◌≤◌, None, Some, IfOk, List};
 ghost use Rattle.link_sim.specs.declared.side.Side.TheVariants as sides;
-ghost use Rattle.any_order.specs.World.{IsNewWorld, WorldKept};
+ghost use Rattle.any_order.specs.World.{IsNewWorld, deliver_calls};
 ghost use Rattle.cfdp_script.specs.Script.Outboxes.{outbox_of};
 ghost use Rattle.cfdp_any_order_script.specs.Links.{no_frames};
-ghost use Rattle.cfdp_any_order_script.specs.Performing.{Asks, At, ComesAgain, ComesDamaged};
-ghost use Rattle.cfdp_any_order_script.specs.Performing.{ComesFrom, part_of};
+ghost use Rattle.cfdp_any_order_script.specs.Performing.{Asks, ComesAgain, ComesDamaged, ComesFrom};
 ghost use Rattle.cfdp_any_order_script.specs.Performing.{FlushesOnce, HappensOnce, Loses};
 ghost use Rattle.cfdp_any_order_script.specs.Performing.{PlayState, PollsOnce, StartsAnew, made_by};
 ghost use Rattle.link_sim.specs.declared.event.Event.TheVariants as events;
 
 use crate::answer::Answer;
-use crate::links::{Frames, arrived_back, waiting_behind};
+use crate::links::{Frames, Made, arrived_back, waiting_behind};
 use crate::told::ToldWorld;
-use any_order::{Delivered, Restarted};
+use any_order::{Delivered, Restarted, SentFrame};
 use aos_frame::Lane;
 use cfdp_directives::Octets;
 use cfdp_entity::Request;
@@ -60,9 +59,7 @@ pub enum Instead<'a> {
 }
 
 /// What is answered where a frame was to arrive.
-fn arrival_answer(by: Delivered) -> Option<Answer>
-    ensures { result ≡ Rattle.cfdp_any_order_script.specs.Performing.arrival_answer by }
-{
+fn arrival_answer(by: Delivered) -> Option<Answer> {
     match by {
         Delivered::Taken => None,
         Delivered::NoSuchFrame => Some(Answer::NoSuchFrame),
@@ -79,10 +76,7 @@ fn arrive(
     lane: Option<Lane>,
     before: u64,
     none: Answer,
-) -> Option<Answer>
-    ensures { ComesFrom none from lane before result (part_of world.old frames.old)
-        (part_of world.new frames.new) }
-{
+) -> Option<Answer> {
     let Some((place, frame)) = waiting_behind(&frames.waiting, lane, before) else {
         return Some(none);
     };
@@ -98,9 +92,7 @@ fn arrive(
 }
 
 /// The oldest waiting frame of a lane, or of both, is lost.
-fn lose(frames: &mut Frames, lane: Option<Lane>) -> Option<Answer>
-    ensures { (w : WorldKept) → Loses lane result (part_of w frames.old) (part_of w frames.new) }
-{
+fn lose(frames: &mut Frames, lane: Option<Lane>) -> Option<Answer> {
     let Some((place, _)) = waiting_behind(&frames.waiting, lane, 0) else {
         return Some(Answer::NOTHING);
     };
@@ -116,10 +108,7 @@ fn damage(
     from: Side,
     lane: Option<Lane>,
     instead: Instead<'_>,
-) -> Option<Answer>
-    ensures { ComesDamaged (made_by instead) from lane result (part_of world.old frames.old)
-        (part_of world.new frames.new) }
-{
+) -> Option<Answer> {
     let Some((place, frame)) = waiting_behind(&frames.waiting, lane, 0) else {
         return Some(Answer::NOTHING);
     };
@@ -144,11 +133,7 @@ fn again(
     from: Side,
     lane: Option<Lane>,
     back: u64,
-) -> Option<Answer>
-    requires { 1 ≤ back }
-    ensures { ComesAgain from lane back result (part_of world.old frames.now)
-        (part_of world.new frames.now) }
-{
+) -> Option<Answer> {
     match arrived_back(frames.arrived.as_slice(), lane, back) {
         Some(frame) => arrival_answer(world.deliver(from, frame)),
         None => Some(Answer::NoSuchFrame),
@@ -156,10 +141,12 @@ fn again(
 }
 
 /// A station is polled, and its frames wait.
-fn poll(alloc: Global, world: &mut ToldWorld<'_>, frames: &mut Frames, side: Side) -> Option<Answer>
-    ensures { PollsOnce side result (part_of world.old frames.old)
-        (part_of world.new frames.new) }
-{
+fn poll(
+    alloc: Global,
+    world: &mut ToldWorld<'_>,
+    frames: &mut Frames,
+    side: Side,
+) -> Option<Answer> {
     let before = world.made(side);
     let polled = world.poll(side);
     if frames.note(alloc, before, world.made(side)).is_err() {
@@ -178,10 +165,7 @@ fn flush(
     world: &mut ToldWorld<'_>,
     frames: &mut Frames,
     side: Side,
-) -> Option<Answer>
-    ensures { FlushesOnce side result (part_of world.old frames.old)
-        (part_of world.new frames.new) }
-{
+) -> Option<Answer> {
     let before = world.made(side);
     let flushed = world.flush(side);
     let Ok(any) = frames.note(alloc, before, world.made(side)) else {
@@ -196,9 +180,7 @@ fn flush(
 
 impl Instead<'_> {
     /// What comes in the place of this frame.
-    fn of(self, alloc: Global, frame: &[u8]) -> Result<Octets, AllocError>
-        ensures { IfOk result (λ octets. octets ≡ made_by self frame.now) }
-    {
+    fn of(self, alloc: Global, frame: &[u8]) -> Result<Octets, AllocError> {
         match self {
             Instead::Damaged(damage) => damaged(alloc, frame, damage),
             Instead::Octets(octets) => Octets::copied(alloc, octets),
@@ -296,7 +278,7 @@ impl<'a> Play<'a> {
     }
 
     fn poll(&mut self, side: Side) -> Option<Answer>
-        ensures { At side (PollsOnce side result) self.old self.new }
+        ensures { PollsOnce side result self.old self.new }
     {
         match side {
             Side::One => poll(self.alloc, &mut self.world, &mut self.one, side),
@@ -305,7 +287,7 @@ impl<'a> Play<'a> {
     }
 
     fn flush(&mut self, side: Side) -> Option<Answer>
-        ensures { At side (FlushesOnce side result) self.old self.new }
+        ensures { FlushesOnce side result self.old self.new }
     {
         match side {
             Side::One => flush(self.alloc, &mut self.world, &mut self.one, side),
@@ -322,7 +304,7 @@ impl<'a> Play<'a> {
         before: u64,
         none: Answer,
     ) -> Option<Answer>
-        ensures { At from (ComesFrom none from lane before result) self.old self.new }
+        ensures { ComesFrom none from lane before result self.old self.new }
     {
         let world = &mut self.world;
         match from {
@@ -333,7 +315,7 @@ impl<'a> Play<'a> {
 
     /// The oldest waiting frame of a lane, or of both, is lost. Answers why it wasn't.
     pub fn lose(&mut self, from: Side, lane: Option<Lane>) -> Option<Answer>
-        ensures { At from (Loses lane result) self.old self.new }
+        ensures { Loses from lane result self.old self.new }
     {
         match from {
             Side::One => lose(&mut self.one, lane),
@@ -343,8 +325,13 @@ impl<'a> Play<'a> {
 
     /// Octets come in the place of the oldest waiting frame of a lane, or of both. Answers why they
     /// didn't.
-    pub fn damage(&mut self, from: Side, lane: Option<Lane>, instead: Instead<'_>) -> Option<Answer>
-        ensures { At from (ComesDamaged (made_by instead) from lane result) self.old self.new }
+    pub fn damage(
+        &mut self,
+        from: Side,
+        lane: Option<Lane>,
+        instead: Instead<'_>,
+    ) -> Option<Answer>
+        ensures { ComesDamaged (made_by instead) from lane result self.old self.new }
     {
         let world = &mut self.world;
         match from {
@@ -357,7 +344,7 @@ impl<'a> Play<'a> {
     /// didn't.
     pub fn again(&mut self, from: Side, lane: Option<Lane>, back: u64) -> Option<Answer>
         requires { 1 ≤ back }
-        ensures { At from (ComesAgain from lane back result) self.old self.new }
+        ensures { ComesAgain from lane back result self.old self.new }
     {
         match from {
             Side::One => again(&mut self.world, &self.one, from, lane, back),

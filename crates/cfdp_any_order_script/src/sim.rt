@@ -35,7 +35,12 @@ pub fn run_script<R: Read + Drop, W: Write + Drop>(
 }
 
 /// Reads a script, runs it and writes its report. The writer isn't flushed.
-fn run_any<R: Read + Drop, W: Write>(rt: &HostRuntime, shown: &Shown, reader: R, out: &mut W) -> Ran
+fn run_any<R: Read + Drop, W: Write>(
+    rt: &HostRuntime,
+    shown: &Shown,
+    reader: R,
+    out: &mut W,
+) -> Ran
     ensures { IfSome (R.remaining reader) (λ text. Ends result.exit text
         (W.contents out.old) (W.contents out.new)) }
 {

@@ -3,13 +3,10 @@
 ghost use Rattle.std.specs.FinMap as map;
 ghost use Rattle.std.specs.Io.KnownBytes.{Appends};
 ghost use Rattle.std.specs.List.{flat_map};
-ghost use Rattle.std.specs.Prelude.{◌≡◌, ◌≢◌, ◌+◌, ◌<◌, ◌≤◌, ◌++◌, ◌∷◌, ◌^◌, ℕ, List, []};
-ghost use Rattle.std.specs.Prelude.{IfOk, IfSome, OnOk, MatchOption, Ok, count_by, length};
-ghost use Rattle.std.specs.Prelude.{vec_capacity, vec_len};
+ghost use Rattle.std.specs.Prelude.{◌≡◌, ◌≢◌, ◌+◌, ◌<◌, ◌≤◌, ◌++◌, ◌^◌, List, IfOk, IfSome, OnErr};
+ghost use Rattle.std.specs.Prelude.{OnOk, MatchOption, count_by, length, Ok};
 ghost use Rattle.link_sim.specs.declared.side.Side.TheVariants as sides;
-ghost use Rattle.any_order.specs.Calls as calls;
-ghost use Rattle.any_order.specs.Calls.{Call, Restarts, other, setup_of};
-ghost use Rattle.any_order.specs.Onward.{AreNoStarts, GoesOn};
+ghost use Rattle.any_order.specs.Calls.{Call, other, setup_of};
 ghost use Rattle.any_order.specs.Refusing.{AnswersFrame, AnswersOctets};
 ghost use Rattle.any_order.specs.World.{ArePollCalls, AreFlushCalls, Happened, IsNewWorld};
 ghost use Rattle.any_order.specs.World.{KeepsPromise, WorldKept, deliver_calls, kept_at};
@@ -20,19 +17,17 @@ ghost use Rattle.cfdp_report.specs.Report.Lines.{indication_line, is_own_complet
 ghost use Rattle.cfdp_script.specs.Script.Outboxes.{outbox_of};
 ghost use Rattle.cfdp_timers.specs.ButInactivity.{IsLeastOther, OnlyInactivity};
 ghost use Rattle.cfdp_any_order_script.specs.Told.{IsFrame, IsNoted, kept_of, received, station_of};
-ghost use Rattle.cfdp_any_order_script.specs.Told.{GoesOnward, HasSources, Starts, told_ever};
+ghost use Rattle.cfdp_any_order_script.specs.Told.{told_ever};
 
 use crate::copies::copied;
 use crate::links::Made;
-use any_order::{
-    Delivered, Restarted, SentFrame, UnorderedWorld, lives_stay, the_files_to_send_stay,
-};
+use any_order::{Delivered, LifeFrames, Restarted, SentFrame, UnorderedWorld};
 use aos_frame::Lane;
 use cfdp_entity::Request;
 use cfdp_header::TransactionId;
 use cfdp_report::{own_completions, write_indications};
 use cfdp_script::{GivenFile, outboxes};
-use cfdp_station::{Inbox, Polled, PutError, RequestError, Station};
+use cfdp_station::{Polled, PutError, RequestError, Station};
 use cfdp_store::{Files, MemoryInbox, MemoryOutbox};
 use link_sim::{Side, WorldConfig};
 use std::alloc::{AllocError, Global};
@@ -93,22 +88,10 @@ fn number_of(side: Side) -> u64
     }
 }
 
-/// The lines of what a station told in this life, of which nothing was let go.
-///
-/// # Errors
-///
-/// Where there is no memory for them.
-fn told_now(alloc: Global, world: &Stations, side: Side) -> io::Result<Vec<u8>>
-    requires { (kept_of side world.now).station.entity.state.table.gone ≡ 0 }
-    ensures { IfOk result (λ told. told.items ≡ flat_map (indication_line (station_of side))
-        (kept_of side world.now).station.entity.state.table.told) }
-{
+/// The lines of what a station told in this life.
+fn told_now(alloc: Global, world: &Stations, side: Side) -> io::Result<Vec<u8>> {
     let mut told = Vec::new(alloc);
-    write_indications(
-        &mut told,
-        number_of(side),
-        world.station(side).indications(),
-    )?;
+    write_indications(&mut told, number_of(side), world.station(side).indications())?;
     Ok(told)
 }
 
@@ -119,15 +102,11 @@ fn told_now(alloc: Global, world: &Stations, side: Side) -> io::Result<Vec<u8>>
 ///
 /// `AllocError` where there is no memory for them.
 fn stores_of(
-    world: &Stations,
     alloc: Global,
+    world: &Stations,
     side: Side,
     files: &[GivenFile],
-) -> Result<(MemoryOutbox, MemoryInbox), AllocError>
-    ensures sources { IfOk result (λ stores. stores.0 ≡ outbox_of side files.now) }
-    ensures files { IfOk result (λ stores. ⟦<MemoryInbox as Inbox>⟧.published stores.1
-        ≡ received side world.now) }
-{
+) -> Result<(MemoryOutbox, MemoryInbox), AllocError> {
     let published = copied(world.inbox(side).published())?;
     let (one, two) = outboxes(alloc, files)?;
     let files = match side {
@@ -140,129 +119,40 @@ fn stores_of(
 
 /// The number of the first frame of a station that starts anew: as small as it may be. `None` where
 /// there is none.
-fn first_of(world: &Stations, side: Side, life: usize) -> Option<u32> {
-    let life = world.life(side, life)?;
+fn first_frame(life: &LifeFrames) -> Option<u32> {
     let directives = life.count(Lane::Directives);
     let next = life.number(directives.max(life.count(Lane::Data)))?;
     u32::try_from(next.checked_add(1)?).ok()
 }
 
-/// Puts octets behind others, for which there is room.
-fn append_reserved(text: &mut Vec<u8>, more: &[u8])
-    requires { vec_len text.old + length more.now ≤ vec_capacity text.old }
-    ensures { text.new.items ≡ text.old.items ++ more.now }
-{
-    let _ = text.extend_from_slice(more);
-}
-
-/// Shows what stays of a world in which no station starts anew.
-fn show_onward(world: &Stations)
-    ensures { (side : calls.Side) (all : List Call) (new : WorldKept) →
-        Happened side all world.now new → AreNoStarts all → GoesOnward world.now new }
-{
-    lives_stay();
-    the_files_to_send_stay();
-    let _ = world.inbox(Side::One);
-}
-
-/// Shows what a start makes of a world.
-fn show_start(world: &Stations)
-    ensures { (side : calls.Side) (first number : ℕ) (new : WorldKept) →
-        Happened side (Restarts first number ∷ []) world.now new → Starts side world.now new }
-{
-    lives_stay();
-    the_files_to_send_stay();
-    let _ = world.inbox(Side::One);
-}
-
-/// What has to be there before a station starts anew: what is noted then, and its stores.
-#[derive(Drop)]
-struct Prepared {
-    lives: usize,
-    told: Vec<u8>,
-    completed: u64,
-    stores: (MemoryOutbox, MemoryInbox),
-}
-
-/// Makes what has to be there before a station starts anew.
-///
-/// # Errors
-///
-/// `AllocError` where there is no memory for it.
-fn prepare(
-    alloc: Global,
-    world: &Stations,
-    side: Side,
-    before: &Before,
-    files: &[GivenFile],
-) -> Result<Prepared, AllocError>
-    requires { (kept_of side world.now).station.entity.state.table.gone ≡ 0 }
-    ensures lives { IfOk result (λ p. p.lives ≡ before.now.lives + 1) }
-    ensures told { IfOk result (λ p. p.told.items ≡ flat_map (indication_line (station_of side))
-        (kept_of side world.now).station.entity.state.table.told) }
-    ensures completed { IfOk result (λ p. p.completed ≡ before.now.completed
-        + count_by (is_own_completion (station_of side))
-        (kept_of side world.now).station.entity.state.table.told) }
-    ensures sources { IfOk result (λ p. p.stores.0 ≡ outbox_of side files.now) }
-    ensures files { IfOk result (λ p. ⟦<MemoryInbox as Inbox>⟧.published p.stores.1
-        ≡ received side world.now) }
-{
-    let Ok(told) = told_now(alloc, world, side) else {
-        return Err(AllocError);
-    };
-    let lives = before.lives.checked_add(1).ok_or(AllocError)?;
-    let completed = before
-        .completed
-        .checked_add(completed_now(world, side))
-        .ok_or(AllocError)?;
-    Ok(Prepared {
-        lives,
-        told,
-        completed,
-        stores: stores_of(world, alloc, side, files)?,
-    })
-}
-
-/// How many of its puts a station was told complete in this life, of which nothing was let go.
-fn completed_now(world: &Stations, side: Side) -> u64
-    requires { (kept_of side world.now).station.entity.state.table.gone ≡ 0 }
-    ensures { result ≡ count_by (is_own_completion (station_of side))
-        (kept_of side world.now).station.entity.state.table.told }
-{
-    own_completions(number_of(side), world.station(side).indications()) as u64
-}
-
-/// A station starts anew, and what it told is noted. Where no number is left, it tries one that was
-/// used.
+/// A station starts anew, and what it told is noted.
 fn restart_at(
     alloc: Global,
     world: &mut Stations,
     side: Side,
     before: &mut Before,
     files: &[GivenFile],
-) -> Result<Restarted, AllocError>
-    requires noted { IsNoted (station_of side) before.old.lives before.old.told.items
-        before.old.completed (kept_of side world.old) }
-    requires sources { HasSources files.now world.old }
-    ensures happened { (first number : ℕ) × Happened (side_of side)
-        (restart_calls first number result) world.old world.new }
-    ensures refused { result ≢ Ok restarted.Done → world.new ≡ world.old }
-    ensures noted { IsNoted (station_of side) before.new.lives before.new.told.items
-        before.new.completed (kept_of side world.new) }
-    ensures other { GoesOn (kept_at (other (side_of side)) world.old)
-        (kept_at (other (side_of side)) world.new) }
-    ensures sources { HasSources files.now world.new }
-{
-    let prepared = prepare(alloc, world, side, before, files)?;
-    before.told.reserve(prepared.told.len())?;
-    let number = before.next.unwrap_or(0);
-    let first = first_of(world, side, before.lives).unwrap_or(0);
-    show_start(world);
-    let answer = world.restart(side, prepared.stores, number, first)?;
+) -> Result<Restarted, AllocError> {
+    let Some(number) = before.next else {
+        return Ok(Restarted::NumberUsed);
+    };
+    let Some(first) = world.life(side, before.lives).and_then(first_frame) else {
+        return Ok(Restarted::FrameUsed);
+    };
+    let Ok(told) = told_now(alloc, world, side) else {
+        return Err(AllocError);
+    };
+    let now = own_completions(number_of(side), world.station(side).indications());
+    let Some(completed) = before.completed.checked_add(now as u64) else {
+        return Err(AllocError);
+    };
+    before.told.reserve(told.len())?;
+    let stores = stores_of(alloc, world, side, files)?;
+    let answer = world.restart(side, stores, number, first)?;
     if answer == Restarted::Done {
-        before.lives = prepared.lives;
-        before.completed = prepared.completed;
-        append_reserved(&mut before.told, prepared.told.as_slice());
+        before.lives += 1;
+        before.completed = completed;
+        before.told.extend_from_slice(told.as_slice())?;
     }
     Ok(answer)
 }
@@ -310,7 +200,6 @@ impl<'a> ToldWorld<'a> {
         ensures { Happened (side_of side) (put_calls source.now destination.now result) self.old
             self.new }
     {
-        show_onward(&self.world);
         let id = self.world.put(side, source, destination)?;
         let next = id.number.checked_add(1);
         match side {
@@ -333,7 +222,6 @@ impl<'a> ToldWorld<'a> {
     ) -> Result<(), RequestError>
         ensures { Happened (side_of side) (request_calls id request result) self.old self.new }
     {
-        show_onward(&self.world);
         self.world.request(side, id, request)
     }
 
@@ -345,7 +233,6 @@ impl<'a> ToldWorld<'a> {
     pub fn tick(&mut self, side: Side, now: u64) -> Result<(), AllocError>
         ensures { Happened (side_of side) (tick_calls now result) self.old self.new }
     {
-        show_onward(&self.world);
         self.world.tick(side, now)
     }
 
@@ -358,7 +245,6 @@ impl<'a> ToldWorld<'a> {
         ensures { (calls : List Call) × ArePollCalls result calls
             × Happened (side_of side) calls self.old self.new }
     {
-        show_onward(&self.world);
         self.world.poll(side)
     }
 
@@ -371,7 +257,6 @@ impl<'a> ToldWorld<'a> {
         ensures { (calls : List Call) × AreFlushCalls calls
             × Happened (side_of side) calls self.old self.new }
     {
-        show_onward(&self.world);
         self.world.flush(side)
     }
 
@@ -382,7 +267,6 @@ impl<'a> ToldWorld<'a> {
         ensures answers { AnswersFrame result which (kept_of side self.old)
             (kept_at (other (side_of side)) self.old) (self.new ≡ self.old) }
     {
-        show_onward(&self.world);
         self.world.deliver(side, which)
     }
 
@@ -394,7 +278,6 @@ impl<'a> ToldWorld<'a> {
             (setup_of (other (side_of side)) (setup self.old.config)).receives
             (self.new ≡ self.old) }
     {
-        show_onward(&self.world);
         self.world.deliver_octets(side, octets)
     }
 
@@ -426,11 +309,7 @@ impl<'a> ToldWorld<'a> {
         self.world.station(side)
     }
 
-    /// What was noted of its lives before, lent.
-    fn before(&self, side: Side) -> &Before
-        ensures { IsNoted (station_of side) result.now.lives result.now.told.items
-            result.now.completed (kept_of side self.now) }
-    {
+    fn before(&self, side: Side) -> &Before {
         match side {
             Side::One => &self.one,
             Side::Two => &self.two,
@@ -513,11 +392,7 @@ impl<'a> ToldWorld<'a> {
 
 impl Before {
     /// No life; the first put has this number.
-    fn none(alloc: Global, first_number: u64) -> Before
-        ensures lives { result.lives ≡ 0 }
-        ensures told { result.told.items ≡ [] }
-        ensures completed { result.completed ≡ 0 }
-    {
+    fn none(alloc: Global, first_number: u64) -> Before {
         Before {
             lives: 0,
             told: Vec::new(alloc),
