@@ -10,6 +10,5 @@ mod Numbers
 pub mod Coming
 mod Happening
 pub mod Leading
-mod Onward
 mod Sources
 mod Beginning

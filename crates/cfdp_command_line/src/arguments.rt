@@ -111,10 +111,6 @@ Then, what happens:
   settle                both poll and flush and all arrives, until nothing is due
   recover               settle, then tick the station whose timer is next, again
                         and again, until no timer but for inactivity is left
-With one of these the link keeps no order, and nothing can be shown:
-  overtake S [LANE] N   a frame arrives before the N that S sent before it
-  repeat S [LANE] N     the frame of S that arrived N ago (1: the last) comes again
-  restart S             S starts anew: it keeps its files, and no transaction
 
 Settings, with their defaults:
 ";
@@ -130,7 +126,6 @@ puts were completed. A command that could not do its work is told as
   line N NotDamaged     the other station would not see that it is damaged
   line N NoMemory       or StoreFailed, TableFull: it ended early
   line N StillArmed     after 24576 ticks of recover a timer is left
-  line N NoSuchFrame    no such frame waits, or has arrived
 Conditions, as in 'fault ID 7': 0 none, 1 no ACK came, 4 the store failed,
 5 checksum, 6 size, 7 NAKs were of no use, 8 silence, 11 unknown checksum type,
 14 suspended, 15 cancelled. --explain tells them in words.

@@ -163,9 +163,6 @@ pub enum LineError {
     OutOfRange { setting: Setting, line: usize },
     /// The last `set` leaves a configuration that isn't valid.
     BadConfiguration,
-    /// Something is to be shown of the run, and the command is none of a link that keeps the order
-    /// of its frames: nobody can look on there.
-    Unshown,
 }
 
 impl fmt::Display for LineError {
@@ -210,9 +207,6 @@ impl fmt::Display for LineError {
             LineError::BadConfiguration => {
                 f.write_str("after the last set a setting is out of its range")
             }
-            LineError::Unshown => f.write_str(
-                "--explain, --trace, --pcap and --chart show no script that has such a command",
-            ),
         }
     }
 }
