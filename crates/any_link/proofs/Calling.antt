@@ -1,7 +1,6 @@
 -- What the calls of a station's user say: each put that was accepted is found, and what was heard was told.
-use Rattle.std.proofs.Common.{◌≡◌, ◌⊎◌, ℕ, zero, suc, ◌+◌, ◌<◌, Bool, false, Option, Some, None, Result, Ok, Err, List, [], ◌∷◌, ◌++◌, length, map, drop, refl, sym, ap, ap₂, subst, ◌∙◌, inl, inr, arith, append-nil, append_assoc, length-append}
+use Rattle.std.proofs.Common.{◌≡◌, ℕ, ◌<◌, Bool, false, Some, None, Ok, List, [], ◌∷◌, ◌++◌, length, map, drop, refl, sym, ap, ap₂, subst, ◌∙◌, inl, inr, arith}
 use Rattle.std.specs.Prelude.{Contains, ◌^◌, nat_lt, cond, true}
-use Rattle.std.specs.List.{flat_map}
 use Rattle.std.proofs.lemmas.Grind.{flat_map-append}
 use Rattle.std.proofs.lemmas.List.{take-append-drop}
 use Rattle.std.proofs.lemmas.List.Elements.{Contains-append_cases, Contains-append_left, Contains-append_right}
@@ -12,10 +11,8 @@ use Rattle.cfdp_header.specs.Ids.{same_id}
 use Rattle.cfdp_header.proofs.Ids.{other_id}
 use Rattle.cfdp_directives.specs.declared.user.indication.Indication.{Indication}
 use Rattle.cfdp_directives.specs.User.Put.{Put}
-use Rattle.cfdp_entity.specs.declared.error.PutError.{PutError}
 use Rattle.cfdp_entity.specs.Entity.{EntityState}
-use Rattle.cfdp_entity.specs.Sound.{FindsMore, next_put}
-use Rattle.cfdp_entity.specs.Putting.{next_id}
+use Rattle.cfdp_entity.specs.Sound.{next_put}
 use Rattle.cfdp_entity.specs.Table.{TableState}
 use Rattle.cfdp_station.specs.declared.config.StationConfig.{StationConfig}
 use Rattle.cfdp_station.specs.Station.{StationState}
@@ -23,10 +20,7 @@ use Rattle.any_order.specs.Calls.{entity_of}
 use Rattle.any_order.specs.Kept.{EndKept}
 use Rattle.any_order.specs.Promise.{found}
 use Rattle.any_order.proofs.Puts.{finds_last, finds_more}
-use Rattle.cfdp_port.specs.Calls.{WireCall}
-use Rattle.cfdp_port.specs.Port.{table_of}
 use Rattle.cfdp_service.specs.Calls.{UserCall, Asks, Answered, Hears, Intends, Ends, heard_by, heard_in}
-use Rattle.cfdp_service.specs.declared.user.Intent.{Intent}
 use Rattle.cfdp_service.specs.declared.wish.PutNames.{PutNames}
 use Rattle.cfdp_service.specs.declared.wish.Reply.{Reply}
 use Rattle.cfdp_service.specs.declared.wish.Reply.TheVariants as replies

@@ -1,25 +1,19 @@
 -- What is kept of two stations as something is done at one of them.
-use Rattle.std.proofs.Common.{◌≡◌, ◌≢◌, ℕ, ◌+◌, ◌<◌, Bool, true, false, Option, Some, None, Result, Ok, Err, List, [], ◌∷◌, ◌++◌, length, slice_get, refl, sym, ap, ap₂, subst, ◌∙◌, inl, inr, append-nil}
-use Rattle.aos_frame.specs.declared.config.Lane.{Lane}
+use Rattle.std.proofs.Common.{◌≡◌, ℕ, true, Option, None, Result, Ok, Err, List, [], ◌∷◌, ◌++◌, refl, sym, ap, subst, ◌∙◌, inl, inr, append-nil}
 use Rattle.aos_frame.specs.declared.config.Lane.TheVariants.{Directives, Data}
 use Rattle.link_stack.specs.Downward.{both_counted_from, first_down}
-use Rattle.link_stack.specs.Upward.{first_up}
 use Rattle.cfdp_header.specs.declared.value.TransactionId.{TransactionId}
 use Rattle.cfdp_header.specs.Files.{FileMap}
 use Rattle.cfdp_directives.specs.User.Put.{Put}
-use Rattle.cfdp_store.specs.Files.{octets_in}
-use Rattle.cfdp_sender.specs.State.{SenderState}
 use Rattle.cfdp_entity.specs.declared.config.EntityConfig.{EntityConfig}
 use Rattle.cfdp_entity.specs.declared.error.PutError.{PutError}
-use Rattle.cfdp_entity.specs.Entity.{Counted, EntityState, first_entity, with_table}
+use Rattle.cfdp_entity.specs.Entity.{Counted, EntityState, first_entity}
 use Rattle.cfdp_entity.specs.Forgetting.{ForgetsSome}
-use Rattle.cfdp_entity.specs.Seen.{Sends}
 use Rattle.cfdp_entity.specs.Sound.{IsSound, next_put}
-use Rattle.cfdp_entity.specs.Table.{TableState}
 use Rattle.cfdp_station.specs.declared.config.StationConfig.{StationConfig}
 use Rattle.cfdp_station.specs.Station.{StationState}
 use Rattle.any_order.specs.Calls.{numbered_from, Puts, Refuses}
-use Rattle.any_order.specs.Kept.{EndKept, LifeKept, all_kept}
+use Rattle.any_order.specs.Kept.{EndKept}
 use Rattle.any_order.specs.Promise.{found}
 use Rattle.any_order.specs.World.{request_calls}
 use Rattle.any_order.proofs.Coming.{makes_anew}
@@ -31,16 +25,14 @@ use Rattle.cfdp_port.specs.Asking.{LooksAt}
 use Rattle.cfdp_port.specs.Calls.{WireCall}
 use Rattle.cfdp_port.specs.Port.{table_of}
 use Rattle.cfdp_port.proofs.GainLemmas.{GoesOnLaws}
-use Rattle.cfdp_service.specs.declared.wish.PutNames.{PutNames}
 use Rattle.cfdp_service.specs.declared.wish.Reply.{Reply}
 use Rattle.cfdp_service.specs.declared.wish.Reply.TheVariants as replies
 use Rattle.cfdp_service.specs.declared.wish.Wish.{Wish}
 use Rattle.cfdp_service.specs.declared.wish.Wish.TheVariants as wishes
 use Rattle.cfdp_service.specs.Serving.{once_said, once_told}
-use Rattle.any_link.specs.Passing.{EndsEarly, TakesTurn}
 use Rattle.any_link.specs.Serving.{Deed, DoesDeed, Fulfils, IsBegun, KeepsSent, LetsGo, PutsFile, Says, Served, Starts, StartsAnew, Stops, Tells, Turns, Wishes, accepted_by, life_from}
 use Rattle.any_link.proofs.Holding.{Held, at_count, held_like, held_makes}
-use Rattle.any_link.proofs.Sounds.{IsLike, like_same, looked_like, some_like, sound_else, sound_looked}
+use Rattle.any_link.proofs.Sounds.{looked_like, some_like, sound_else, sound_looked}
 use Rattle.any_link.proofs.Telling.{TellsMore, makes_told, tells_both, tells_same, told_of}
 use Rattle.any_link.proofs.Turning.{MakesSome, at, stopped, turned}
 

@@ -1,6 +1,5 @@
 -- What is kept of two stations, with histories of both of which the promise holds, as calls are made.
-use Rattle.std.proofs.Common.{◌≡◌, ℕ, ◌<◌, ◌≤◌, ◌+◌, Option, Some, None, List, [], ◌∷◌, ◌++◌, length, map, refl, sym, ap, ap₂, subst, ◌∙◌, inl, inr, arith}
-use Rattle.std.specs.Prelude.{Contains}
+use Rattle.std.proofs.Common.{◌≡◌, ℕ, ◌<◌, List, [], ◌∷◌, ◌++◌, map, refl, sym, ap, subst, ◌∙◌}
 use Rattle.aos_frame.specs.declared.config.Lane.{Lane}
 use Rattle.aos_frame.specs.declared.config.Lane.TheVariants.{Directives, Data}
 use Rattle.link_stack.specs.AnyOrder.{ReceivesAll}
@@ -8,18 +7,16 @@ use Rattle.link_stack.specs.Downward.{DownState, both_counted_from, first_down}
 use Rattle.link_stack.specs.EndToEnd.{DoesAll}
 use Rattle.link_stack.specs.Lives.{octets_coming}
 use Rattle.link_stack.specs.Upward.{UpState, first_up}
-use Rattle.cfdp_header.specs.declared.value.TransactionId.{TransactionId}
 use Rattle.cfdp_header.specs.Files.{FileMap}
 use Rattle.cfdp_directives.specs.declared.user.indication.Indication.{Indication}
 use Rattle.cfdp_directives.specs.User.Put.{Put}
 use Rattle.cfdp_entity.specs.declared.config.EntityConfig.{EntityConfig}
-use Rattle.cfdp_entity.specs.Entity.{EntityState}
 use Rattle.cfdp_entity.specs.Sound.{IsSound}
 use Rattle.cfdp_station.specs.declared.config.StationConfig.{StationConfig}
 use Rattle.cfdp_station.specs.Station.{StationState}
 use Rattle.any_order.specs.Calls.{Call, End, entity_of, lives}
 use Rattle.any_order.specs.Kept.{DoesCalls, EndKept, HasTaken, IsOf, Makes, last_at}
-use Rattle.any_order.specs.Promise.{found, told_ever}
+use Rattle.any_order.specs.Promise.{found}
 use Rattle.any_order.proofs.Keeping.{calls_grow, taken_grown}
 use Rattle.any_order.proofs.Kept.{IsJoinedTo, IsKept, SaysSo}
 use Rattle.any_order.proofs.Promise.{BothKept, Laws, call_kept}

@@ -1,5 +1,5 @@
 -- What is known of the calls of both stations' users, as something is done at one of them.
-use Rattle.std.proofs.Common.{◌≡◌, ℕ, zero, suc, ◌<◌, arith, Option, Some, None, Result, Ok, Err, List, [], ◌∷◌, ◌++◌, map, refl, sym, ap, ap₂, subst, ◌∙◌, append-nil}
+use Rattle.std.proofs.Common.{◌≡◌, ℕ, zero, suc, ◌<◌, arith, List, [], ◌++◌, map, refl, sym, ap, subst, ◌∙◌, append-nil}
 use Rattle.std.specs.Prelude.{Contains}
 use Rattle.std.proofs.lemmas.List.Elements.{Contains-append_left}
 use Rattle.cfdp_header.specs.declared.value.TransactionId.{TransactionId}
@@ -9,14 +9,12 @@ use Rattle.cfdp_directives.specs.declared.pdu.codes.FileStatus.TheVariants.{Reta
 use Rattle.cfdp_directives.specs.declared.user.indication.Indication.{Indication}
 use Rattle.cfdp_directives.specs.declared.user.indication.Indication.TheVariants.{Finished}
 use Rattle.cfdp_directives.specs.Pdu.Codes.{no_error}
-use Rattle.cfdp_directives.specs.User.Completions.{IsToldComplete}
 use Rattle.cfdp_directives.specs.User.Put.{Put}
 use Rattle.cfdp_station.specs.declared.config.StationConfig.{StationConfig}
 use Rattle.cfdp_station.specs.Station.{StationState}
 use Rattle.cfdp_station.specs.Transmitting.{Times}
 use Rattle.any_order.specs.Calls.{AreJoined, One, Two, Setup, Side, other, setup_of}
 use Rattle.any_order.specs.Kept.{EndKept}
-use Rattle.any_order.proofs.Kept.{IsJoinedTo}
 use Rattle.any_order.proofs.Promise.{joined_to}
 use Rattle.any_order.proofs.Puts.{finds_more}
 use Rattle.any_order.specs.Promise.{found}
@@ -27,7 +25,7 @@ use Rattle.cfdp_service.specs.Serving.{said_by}
 use Rattle.any_link.specs.Promise.{IsSent, own_of, told_by}
 use Rattle.any_link.specs.Serving.{AreFirst, Deed, DoesDeed, Goes, HaveServed, LetsGo, Says, Served, Starts, Stations, Stops, Tells, Turns, Wishes, served_at}
 use Rattle.any_link.proofs.Calling.{ArePut, AreTold, all_more, heard_grown, hears_known, none_known, said_heard, said_known, tells_heard, wish_heard, wish_known}
-use Rattle.any_link.proofs.Doing.{AllLaws, deed_held, deed_told}
+use Rattle.any_link.proofs.Doing.{AllLaws, deed_told}
 use Rattle.any_link.proofs.Holding.{Held}
 use Rattle.any_link.proofs.Promising.{AreHeld, first_held, goes_held, held_at, went_held}
 use Rattle.any_link.proofs.Telling.{TellsMore, tells_same, told_of}

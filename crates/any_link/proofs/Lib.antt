@@ -8,3 +8,4 @@ mod Calling
 mod Knowing
 mod Lying
 mod Wishing
+mod Readying

@@ -1,5 +1,5 @@
 -- A file that left its spool as sent lies in the inbox of the other station.
-use Rattle.std.proofs.Common.{◌≡◌, ◌≢◌, ◌⊎◌, ℕ, zero, suc, ◌<◌, Bool, true, false, cond, Option, Some, None, Ok, List, [], ◌∷◌, ◌++◌, length, refl, sym, ap, ap₂, subst, ◌∙◌, inl, inr, arith, append-nil, append_assoc, ⊎_elim}
+use Rattle.std.proofs.Common.{◌≡◌, ◌⊎◌, ℕ, zero, suc, true, cond, Option, Some, None, List, [], ◌∷◌, ◌++◌, refl, sym, ap, subst, ◌∙◌, inl, inr, arith, append-nil, append_assoc, ⊎_elim}
 use Rattle.std.specs.Prelude.{Contains}
 use Rattle.std.specs.FinMap.{get, insert, get-insert, slice_cmp-IsAntisymmetric, nat_cmp-IsAntisymmetric}
 use Rattle.std.specs.Ordering.{nat_cmp, is_eq, eq_by_cmp}
@@ -21,14 +21,14 @@ use Rattle.cfdp_station.specs.Station.{StationState}
 use Rattle.cfdp_station.specs.Transmitting.{Times}
 use Rattle.any_order.specs.Calls.{AreJoined, Setup, Side, at, other, setup_of}
 use Rattle.any_order.specs.Kept.{IsOf}
-use Rattle.any_order.specs.Promise.{found, told_ever}
+use Rattle.any_order.specs.Promise.{found}
 use Rattle.any_order.proofs.Puts.{finds_by_id}
 use Rattle.cfdp_port.specs.Calls.{WireCall}
 use Rattle.cfdp_service.specs.Calls.{Asks, Chain, UserCall}
 use Rattle.cfdp_service.specs.Clerk.{ClerkState, ClerkSteps, IsDelivered as IsHeardComplete}
-use Rattle.any_link.specs.Promise.{IsDelivered, IsSent, KeepPromise, Lies, completed_by, inbox_of, own_of, told_by}
+use Rattle.any_link.specs.Promise.{IsDelivered, IsSent, KeepPromise, Lies, completed_by, told_by}
 use Rattle.any_link.specs.Serving.{Goes, HaveServed, Stations, served_at}
-use Rattle.any_link.proofs.Calling.{IsPut, asks_put, accepts_put}
+use Rattle.any_link.proofs.Calling.{IsPut, accepts_put}
 use Rattle.any_link.proofs.Doing.{AllLaws}
 use Rattle.any_link.proofs.Knowing.{AreKnown, Known, delivered, own_so, served_known, went_known, went_sent}
 use Rattle.any_link.proofs.Promising.{held_keeps}

@@ -1,11 +1,11 @@
 -- From two stations at which nothing was done to what holds of both after anything was done.
-use Rattle.std.proofs.Common.{◌≡◌, ℕ, zero, suc, Option, Some, None, List, [], ◌∷◌, ◌++◌, refl, sym, ap, ap₂, subst, ◌∙◌}
+use Rattle.std.proofs.Common.{◌≡◌, ℕ, zero, suc, None, List, [], ◌++◌, refl, sym, ap, ap₂, subst, ◌∙◌}
 use Rattle.aos_frame.specs.declared.config.Lane.{Lane}
 use Rattle.aos_frame.specs.declared.config.Lane.TheVariants.{Directives, Data}
 use Rattle.cfdp_header.specs.Files.{FileMap}
 use Rattle.cfdp_directives.specs.declared.user.indication.Indication.{Indication}
 use Rattle.cfdp_directives.specs.User.Completions.{completions}
-use Rattle.cfdp_directives.specs.User.Put.{Put, inbox_after}
+use Rattle.cfdp_directives.specs.User.Put.{inbox_after}
 use Rattle.link_stack.specs.Downward.{both_counted_from, first_down}
 use Rattle.cfdp_entity.specs.Entity.{Counted}
 use Rattle.cfdp_station.specs.declared.config.StationConfig.{StationConfig}
@@ -16,7 +16,7 @@ use Rattle.any_order.specs.Kept.{EndKept, HasTaken, IsOf, last_at}
 use Rattle.any_order.specs.Promise.{HoldsAt, found}
 use Rattle.any_order.proofs.Promise.{AreKept, all_hold, joined_to, new_kept}
 use Rattle.cfdp_port.specs.Calls.{WireCall}
-use Rattle.any_link.specs.Promise.{KeepPromise, completed_by, inbox_of}
+use Rattle.any_link.specs.Promise.{KeepPromise}
 use Rattle.any_link.specs.Serving.{AreFirst, Deed, DoesDeed, Goes, HaveServed, IsFirst, Served, Stations, served_at}
 use Rattle.any_link.proofs.Doing.{AllLaws, deed_held}
 use Rattle.any_link.proofs.Holding.{Held, at_count, held_other}

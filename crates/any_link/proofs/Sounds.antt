@@ -1,10 +1,7 @@
 -- An entity stays sound where its outbox has other files than before, but for those that its records send, and where
 -- indications were let go.
-use Rattle.std.proofs.Common.{◌≡◌, ◌≢◌, ℕ, Bool, true, false, List, [], ◌∷◌, slice_get, Option, Some, None, refl, sym, ap, subst, ◌∙◌, inl, inr}
+use Rattle.std.proofs.Common.{◌≡◌, ℕ, Bool, List, [], ◌∷◌, slice_get, Option, Some, refl, sym, ap, subst, ◌∙◌, inl, inr}
 use Rattle.std.specs.Prelude.{unwrap_or}
-use Rattle.std.specs.Ordering.{nat_cmp, eq_by_cmp}
-use Rattle.std.specs.Cmp.Lexicographic.{slice_cmp}
-use Rattle.std.specs.FinMap.{get}
 use Rattle.std.specs.Prelude.{bytes_eq}
 use Rattle.std.proofs.lemmas.Bool.{cases_Bool}
 use Rattle.std.proofs.lemmas.Bool.Decides.{not_from_Decides}
@@ -20,7 +17,7 @@ use Rattle.cfdp_entity.specs.Looking.{LooksUp}
 use Rattle.cfdp_entity.specs.Seen.{Seen, Sends, Receives}
 use Rattle.cfdp_entity.specs.Sending.{SendsItsPut}
 use Rattle.cfdp_entity.specs.Sound.{IsSound}
-use Rattle.cfdp_entity.specs.Table.{Entry, TableState}
+use Rattle.cfdp_entity.specs.Table.{TableState}
 use Rattle.any_link.specs.Serving.{KeepsSent}
 
 -- What of an entity doesn't change.

@@ -1,6 +1,5 @@
 -- What a station told its user stays, over all its lives, whatever is done.
-use Rattle.std.proofs.Common.{◌≡◌, ℕ, Option, Some, None, Result, Ok, Err, List, [], ◌∷◌, ◌++◌, refl, sym, ap, ap₂, subst, ◌∙◌, inl, inr, append-nil, append_assoc}
-use Rattle.cfdp_header.specs.declared.value.TransactionId.{TransactionId}
+use Rattle.std.proofs.Common.{◌≡◌, List, [], ◌∷◌, ◌++◌, sym, ap, ap₂, ◌∙◌, append-nil, append_assoc}
 use Rattle.cfdp_header.specs.Files.{FileMap}
 use Rattle.cfdp_directives.specs.declared.user.indication.Indication.{Indication}
 use Rattle.cfdp_directives.specs.User.Put.{Put}

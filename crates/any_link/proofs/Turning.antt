@@ -19,7 +19,7 @@ use Rattle.cfdp_station.proofs.Lent.{polls-stood}
 use Rattle.cfdp_port.specs.Calls.{WireCall}
 use Rattle.cfdp_port.specs.InOrder.{frames_came, what_came}
 use Rattle.cfdp_port.specs.PeerTurn.{EndsPolls, Pulls, SendsNext, SendsSome, SendsSomeInPart, TakesInPart}
-use Rattle.cfdp_port.specs.Port.{PortState, port_state, table_of}
+use Rattle.cfdp_port.specs.Port.{PortState, port_state}
 use Rattle.cfdp_port.specs.Turn.{AsksOn, HearsAll, TakesWhat, TellsTime}
 use Rattle.cfdp_port.specs.declared.wire.WireFault.{WireFault}
 use Rattle.cfdp_port.proofs.GainLemmas.{GoesOnLaws, poll-gains}
@@ -29,7 +29,7 @@ use Rattle.any_order.specs.Refusing.{IsNearLast, number_in}
 use Rattle.any_order.proofs.Coming.{makes_copy, makes_noise}
 use Rattle.any_order.proofs.Keeping.{makes_both, makes_gives, makes_none}
 use Rattle.any_order.proofs.Leading.{makes_fill, makes_poll, makes_tick}
-use Rattle.any_link.specs.Passing.{Comes, ComesOne, EndsEarly, IsCopy, SendsThen, Stand, TakesTurn, with_sent}
+use Rattle.any_link.specs.Passing.{Comes, ComesOne, EndsEarly, SendsThen, Stand, TakesTurn, with_sent}
 
 -- Some calls were made.
 abbrev pub MakesSome : StationConfig → (old theirs new : EndKept) → List Put → Type 0
@@ -58,10 +58,10 @@ module _ {W : Type 0} (Steps : W → WireCall → W → Type 0) where
       let end : t.heard.station ≡ h.last.station = heard_end _ t.heard h in
       elim (t.ends) [
         | inl same ↦ (
-            at h.last.station heard,
-            record { wire = wire; count = h.count; mid = h.last; hears = h.heard; heard = heard; came = came; ends = inl refl },
-            sym (ap (λ (x : PortState W). x.station) same ∙ end),
-          )
+          at h.last.station heard,
+          record { wire = wire; count = h.count; mid = h.last; hears = h.heard; heard = heard; came = came; ends = inl refl },
+          sym (ap (λ (x : PortState W). x.station) same ∙ end),
+        )
         | inr more ↦
             let some : SendsSomeInPart Steps (port_state more.0 t.timed) last = more.2 in
             let new : EndKept = record heard { station = last.station; latest = with_sent Steps some.count _ _ some.sent heard.latest } in
@@ -91,7 +91,7 @@ module _ (laws : GoesOnLaws) (c : StationConfig) (theirs : EndKept) (puts : List
       let lent : station_lent b a ≡ a = (polls-stood answer a b once.shows stand).1 in (
         Polls answer ∷ [],
         makes_poll answer c (at a k) theirs (at b k) puts (subst (λ (s : StationState). IsPolled answer s b) lent once.polls)
-        (λ moved. subst (λ (s : StationState). SpellsTurn (turn s.entity.state) s.entity.state) lent (once.spells moved)) refl,
+            (λ moved. subst (λ (s : StationState). SpellsTurn (turn s.entity.state) s.entity.state) lent (once.spells moved)) refl,
       )
 
   moved : (k : EndKept) (count : ℕ) (a b : StationState) → Times MovesMore count a b → Stand b → MakesSome c (at a k) theirs (at b k) puts
@@ -180,7 +180,7 @@ module _ (laws : GoesOnLaws) (c : StationConfig) (theirs : EndKept) (puts : List
         let f = copy.frame in (
           Receives (CopyOf f.life f.lane f.place) ∷ [],
           makes_copy c f.life f.lane f.place copy.life octets (at a old) theirs (at b new) puts copy.made.0 copy.made.1 copy.is (near_at f.lane (number_in f copy.life) a old copy.near)
-          (last_on f.lane (number_in f copy.life) a b old new copy.last) takes,
+              (last_on f.lane (number_in f copy.life) a b old new copy.last) takes,
         )
     came_one octets old new a b (inr (stray, same)) takes =
         (Receives (NoiseOf octets) ∷ [], makes_noise c octets (at a old) theirs (at b new) puts stray (ap (λ (k : EndKept). at b k) same) takes)

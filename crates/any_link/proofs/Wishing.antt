@@ -1,12 +1,9 @@
 -- What a station does for a wish is what is said of it here, where its file is free.
-use Rattle.std.proofs.Common.{◌≡◌, ◌≢◌, ◌⊎◌, ℕ, true, false, List, [], ◌∷◌, slice_get, Some, Result, Ok, Err, refl, sym, ap, ◌∙◌, inl, inr}
+use Rattle.std.proofs.Common.{List, [], refl, sym, ap, ◌∙◌, inl, inr}
 use Rattle.std.proofs.lemmas.Bool.{false≢true}
-use Rattle.cfdp_header.specs.declared.value.TransactionId.{TransactionId}
 use Rattle.cfdp_directives.specs.User.Put.{Put}
 use Rattle.cfdp_store.specs.Files.{octets_in}
-use Rattle.cfdp_sender.specs.State.{SenderState}
-use Rattle.cfdp_entity.specs.Looking.{IsSent, Looks}
-use Rattle.cfdp_entity.specs.Seen.{Sends}
+use Rattle.cfdp_entity.specs.Looking.{Looks}
 use Rattle.cfdp_entity.specs.Table.{TableState}
 use Rattle.cfdp_station.specs.Station.{StationState}
 use Rattle.cfdp_port.specs.Port.{table_of}

@@ -1,6 +1,6 @@
 -- Two stations in service over such a link, each of which may start anew: what is done at either,
 -- one thing after another.
-use Rattle.std.specs.Prelude.{◌≡◌, ◌≢◌, ◌⊎◌, ◌<◌, ◌≤◌, ◌+◌, ◌%◌, ℕ, List, [], ◌∷◌, ◌++◌, length, map, slice_get, Option, Some, None, Result, Ok, Err, true, ⊤}
+use Rattle.std.specs.Prelude.{◌≡◌, ◌≢◌, ◌⊎◌, ◌<◌, ◌≤◌, ◌+◌, ◌%◌, ℕ, List, [], ◌∷◌, ◌++◌, length, map, slice_get, Some, None, Result, Ok, Err, true, ⊤}
 use Rattle.aos_frame.specs.Counts.{frame_counts}
 use Rattle.aos_frame.specs.declared.config.Lane.{Lane}
 use Rattle.cfdp_header.specs.declared.value.TransactionId.{TransactionId}
@@ -27,12 +27,13 @@ use Rattle.cfdp_port.specs.Asking.{CountsFrom, FailsToLook, LooksAt, Puts}
 use Rattle.cfdp_port.specs.Asking as asking
 use Rattle.cfdp_port.specs.Calls.{WireCall}
 use Rattle.cfdp_port.specs.Port.{table_of}
-use Rattle.cfdp_service.specs.Calls.{UserCall, Asks, Answered, Hears, Intends, Ends}
+use Rattle.cfdp_service.specs.Calls.{UserCall, Asks, Hears, Intends, Ends}
 use Rattle.cfdp_service.specs.declared.wish.Reply.{Reply}
 use Rattle.cfdp_service.specs.declared.wish.Reply.TheVariants as replies
 use Rattle.cfdp_service.specs.declared.wish.Wish.{Wish}
 use Rattle.cfdp_service.specs.declared.wish.Wish.TheVariants as wishes
-use Rattle.cfdp_service.specs.Serving.{once_told, said_by, wish_calls}
+use Rattle.cfdp_service.specs.declared.user.Intent.{Intent}
+use Rattle.cfdp_service.specs.Serving.{Does, Prepares, once_told, said_by, wish_calls}
 use Rattle.any_link.specs.Passing as passing
 
 -- ---- a station in service
@@ -218,3 +219,30 @@ pub record HaveServed {W : Type 0} (Steps : W → WireCall → W → Type 0) (c 
   pub begins : AreFirst c counts sources files first
   pub count : ℕ
   pub went : Times (Goes Steps c) count first now
+
+-- ---- what a service does
+-- These wishes were done and answered, in this order, and each was free.
+abbrev pub DoesFree : List (Wish × Reply) → (old new : StationState) → Type 0
+DoesFree [] old new = new ≡ old
+DoesFree (one ∷ more) old new =
+    (mid : StationState) × IsFree one.0 (table_of old) × Does one.0 one.1 old mid
+    × DoesFree more mid new
+
+-- All was done that is between two turns in service, by these calls of the user, and each wish was
+-- free.
+pub record IsPrepared (calls : List UserCall) (old new : StationState) : Type 0 where
+  pub prepared : List UserCall
+  pub prepares : Prepares prepared old new
+  pub free : DoesFree prepares.obeys.done old prepares.done
+  pub intent : Intent
+  pub is : calls ≡ prepared ++ Intends intent ∷ []
+
+-- Deeds at one side alone led to this station there, and to these puts.
+pub record Leads {W : Type 0} (Steps : W → WireCall → W → Type 0) (c : Setup) (s : Side)
+    (old : Stations) (station : Served) (puts : List Put) : Type 0 where
+  pub count : ℕ
+  pub now : Stations
+  pub went : Times (Goes Steps c) count old now
+  pub here : served_at s now ≡ station
+  pub beside : served_at (other s) now ≡ served_at (other s) old
+  pub all : now.puts ≡ puts

@@ -11,15 +11,15 @@ ghost use Rattle.any_order.specs.Kept.{EndKept, Makes};
 ghost use Rattle.cfdp_port.specs.InOrder.{frames_came};
 ghost use Rattle.cfdp_port.specs.PeerTurn.{TakesInPart};
 ghost use Rattle.cfdp_port.specs.Port.{PortState, port_state, table_of};
-ghost use Rattle.cfdp_service.specs.Calls.{Chain};
+ghost use Rattle.cfdp_service.specs.Calls.{Chain, UserCall};
 ghost use Rattle.cfdp_service.specs.Serving.{Does};
 ghost use Rattle.cfdp_service.specs.declared.wish.Reply.{Reply};
 ghost use Rattle.cfdp_service.specs.declared.wish.Wish.{Wish};
 ghost use Rattle.cfdp_service.specs.Clerk.{ClerkState, ClerkSteps};
 ghost use Rattle.any_link.specs.Passing.{Comes, EndsEarly, Stand, TakesTurn};
 ghost use Rattle.any_link.specs.Promise.{IsDelivered, KeepPromise};
-ghost use Rattle.any_link.specs.Serving.{Fulfils, Goes, HaveServed, IsFree, Stations};
-ghost use Rattle.any_link.specs.Serving.{served_at};
+ghost use Rattle.any_link.specs.Serving.{Fulfils, Goes, HaveServed, IsFree, IsPrepared, Leads};
+ghost use Rattle.any_link.specs.Serving.{Stations, served_at, served_on};
 
 use cfdp_entity::{
     an_entity_goes_on, an_entity_keeps_the_truth, an_entity_may_forget, an_entity_sends_the_truth,
@@ -57,6 +57,16 @@ pub fn a_turn_in_part_ends_early<W: PeerWire>()
 pub fn what_is_wished_is_fulfilled()
     ensures { (wish : Wish) (reply : Reply) (old new : StationState) → Does wish reply old new
         → IsFree wish (table_of old) → (added : List Put) × Fulfils wish reply old new added }
+{}
+
+/// All that a station in service does between two turns is deeds of it, with the very calls of its
+/// user: its wishes are done, what it indicated is told and let go, and so are transactions that are
+/// over, and the user says what it intends.
+pub fn what_is_done_between_turns_is_deeds<W: PeerWire>()
+    ensures { (c : Setup) (s : Side) (old : Stations) (calls : List UserCall)
+        (station : StationState) → IsPrepared calls (served_at s old).kept.station station
+        → (puts : List Put)
+        × Leads W.steps c s old (served_on station calls (served_at s old)) puts }
 {}
 
 /// Two stations in service keep the promise of delivery in whatever order and however often their

@@ -12,5 +12,6 @@ mod laws;
 
 pub use laws::{
     a_turn_in_part_ends_early, a_turn_is_calls, stations_keep_the_promise_in_any_order,
-    what_is_wished_is_fulfilled, what_left_the_spool_lies_in_the_inbox,
+    what_is_done_between_turns_is_deeds, what_is_wished_is_fulfilled,
+    what_left_the_spool_lies_in_the_inbox,
 };
