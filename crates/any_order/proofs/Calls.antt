@@ -72,7 +72,7 @@ goes_both first second third g h = record {
   next = omega (arith, g.next, h.next);
 }
 
-all_goes : TruthLaws → (pdus : List (List ℕ)) (a b : Counted) → HearsAll pdus a b → GoesOn a.state b.state
+pub all_goes : TruthLaws → (pdus : List (List ℕ)) (a b : Counted) → HearsAll pdus a b → GoesOn a.state b.state
 all_goes laws [] a b same = goes_same a.state b.state (ap (λ (x : Counted). x.state) same)
 all_goes laws (pdu ∷ pdus) a b (mid, here, rest) = goes_both a.state mid.state b.state (one_goes laws pdu a mid here) (all_goes laws pdus mid b rest)
 
@@ -139,7 +139,7 @@ same_kept : (p : TransactionId → Option user.Put) (heard : List (List ℕ)) (f
 same_kept p heard first old new same sound = subst (λ (e : EntityState). IsSound p heard first e) (sym same) sound
 
 module _ (laws : EntityLaws) where
-  served_goes : (stored : Stored) (old new : EntityState) → new ≡ served stored (turn old) old → GoesOn old new
+  pub served_goes : (stored : Stored) (old new : EntityState) → new ≡ served stored (turn old) old → GoesOn old new
   served_goes stored old new is = subst (λ (e : EntityState). GoesOn old e) (sym is) (laws.served_on stored old)
 
   served_kept : (p : TransactionId → Option user.Put) (heard : List (List ℕ)) (first : FileMap) (stored : Stored) (old new : EntityState) → new ≡ served stored (turn old) old → IsSound p heard first old →
