@@ -20,26 +20,28 @@ impl InboxFile {
         InboxFile { file, place: None }
     }
 
-    /// The system read or wrote so many octets, or failed.
-    fn passes(&mut self, answer: io::Result<usize>) -> io::Result<usize> {
+    /// Notes the place at which the system read or wrote so many octets more, or failed.
+    fn passes(&mut self, answer: &io::Result<usize>) {
         let place = self.place.take();
-        let count = answer?;
-        self.place = place.and_then(|place| place.checked_add(count as u64));
-        Ok(count)
+        if let Ok(count) = answer {
+            self.place = place.and_then(|place| place.checked_add(*count as u64));
+        }
     }
 }
 
 impl Read for InboxFile {
     fn read(&mut self, buffer: &mut [u8]) -> io::Result<usize> {
         let answer = self.file.read(buffer);
-        self.passes(answer)
+        self.passes(&answer);
+        answer
     }
 }
 
 impl Write for InboxFile {
     fn write(&mut self, octets: &[u8]) -> io::Result<usize> {
         let answer = self.file.write(octets);
-        self.passes(answer)
+        self.passes(&answer);
+        answer
     }
 
     fn flush(&mut self) -> io::Result<()> {
