@@ -33,7 +33,7 @@ HERE = os.path.dirname(os.path.abspath(__file__))
 TOP = os.path.dirname(HERE)
 
 # For how many seconds an answer is waited for, and something that the page is to show.
-PATIENCE, SOON = 60, 20
+PATIENCE, SOON = 180, 60
 
 # The most connections, and the most octets of a request's body.
 MOST_OPEN, MOST_BODY = 16, 65536
@@ -163,7 +163,7 @@ def bound_mistakes(program):
             begun = time.monotonic()
             script = settings + "fill 1 a 16384 41\n" + "put 1 a b\n" * 64 + "recover\n"
             found = it.runs(script)
-            if time.monotonic() - begun > 30:
+            if time.monotonic() - begun > 120:
                 yield f"{settings}: it took {time.monotonic() - begun:.0f} s"
             if found["report"] != simulated(program, script)[1]:
                 yield f"{settings}: {found['report'][-300:]}"
@@ -233,7 +233,7 @@ def crowd_mistakes(it):
         with contextlib.suppress(TimeoutError):
             yield f"one more than {MOST_OPEN} is answered {late.recv(20)}"
         held.pop().close()
-        late.settimeout(5)
+        late.settimeout(20)
         if not late.recv(20).startswith(b"HTTP/1.1 200"):
             yield "nobody is served where there is room again"
     for one in held:
@@ -251,14 +251,14 @@ def slow_mistakes(program):
         with socket.create_connection(("127.0.0.1", it.port), timeout=0.4) as late:
             late.sendall(f"GET / HTTP/1.1\r\nHost: {it.own[7:]}\r\n\r\n".encode())
             found = b""
-            while not found and time.monotonic() < begun + 2 * LEFT_AFTER:
+            while not found and time.monotonic() < begun + 3 * LEFT_AFTER:
                 for one in held[8:]:
                     with contextlib.suppress(OSError):
                         one.sendall(b"#")
                 with contextlib.suppress(TimeoutError):
                     found = late.recv(20)
         took = time.monotonic() - begun
-        if not found.startswith(b"HTTP/1.1 200") or took > LEFT_AFTER + 3:
+        if not found.startswith(b"HTTP/1.1 200") or took > LEFT_AFTER + 10:
             yield f"after {took:.0f} s one is answered {found}"
         for one in held:
             one.close()
@@ -280,7 +280,7 @@ def gone_mistakes(it):
                 one.sendall(words[count % len(words)])
         count += 1
     begun = time.monotonic()
-    if it.asks("GET", "/")[0] != 200 or time.monotonic() - begun > 5:
+    if it.asks("GET", "/")[0] != 200 or time.monotonic() - begun > 20:
         yield f"behind {count} that went away one waits {time.monotonic() - begun:.0f} s"
     with open(f"/proc/{it.process.pid}/status", encoding="ascii") as status:
         most = int(re.search(r"VmHWM:\s+(\d+) kB", status.read())[1])
