@@ -182,8 +182,12 @@ shape_of rows = option_and_then
 
 abbrev pub lines_of : List Row → Option Lines
 lines_of rows = option_and_then (λ kind. option_map
-    (λ shape. (kind, shape, form_of (is_given (codes "fields") rows) (is_given (codes "long") rows),
-    is_given (codes "deep") rows))
+    (λ shape. (
+      kind,
+      shape,
+      form_of (is_given (codes "fields") rows) (is_given (codes "long") rows),
+      is_given (codes "deep") rows,
+    ))
     (shape_of rows))
     (option_and_then kind_of_word (first_of (codes "kind") rows))
 

@@ -240,9 +240,9 @@ line_bad request channels line bare (Ok x) old new same has wrote = record {
 -- all octets up to a place may stand, and so may the one there
 pub places_more : (P : ℕ → Bool) (n : ℕ) → ((k : ℕ) → k < n → P k ≡ true) → P n ≡ true → (k : ℕ) → k < n + 1 → P k ≡ true
 places_more P n before now k below = elim (cases_Bool (k == n)) [
-    | inl same ↦ ap P (eqb-true k n same) ∙ now
-    | inr other ↦ (let apart = eqb-false k n other in before k (omega (arith, below, apart)))
-  ]
+  | inl same ↦ ap P (eqb-true k n same) ∙ now
+  | inr other ↦ (let apart = eqb-false k n other in before k (omega (arith, below, apart)))
+]
 
 pub bad_line : {E : Type 0} (request : DumpRequest) (line : List ℕ) (column : Option ℕ) (end : List ℕ) (r : Result (Unit {0}) E) (old new : Option (List ℕ)) → IsSaidOf line column
     → end ≡ end_of request.form → OnOk r (Appends old new (refusal_text Hex ++ (place_text column ++ (end ++ 10 ∷ [])))) → OnOk r (WritesLine (TellsTold request (BadHex line)) old new)
