@@ -1,4 +1,4 @@
-use Rattle.std.proofs.Common.{rules, ◌≡◌, ℕ, Bool, false, List, ◌++◌, sym, ap, ap₂, subst, ◌∙◌}
+use Rattle.std.proofs.Common.{rules, ◌≡◌, ℕ, Bool, true, false, List, ◌++◌, sym, ap, ap₂, subst, ◌∙◌}
 use denote.Enum.Bare.{same_true, sameb}
 use Rattle.std.proofs.lemmas.Result.{err_from_is_err_and}
 use Rattle.any_order.specs.contracts.answers.Restarted.{the_type}
@@ -13,7 +13,7 @@ use Rattle.cfdp_any_order_script.proofs.told.restart_at.Goals.{then-eq, else-eq}
 
 -- an answer that isn't one is another
 is_other : (a : Restarted) → a ≡ restarted.Done → sameb the_type a restarted.Done ≡ false → ⊥
-is_other a e other = absurd (subst (λ (x : Restarted). sameb the_type x restarted.Done ≡ false) e other)
+is_other a e other = let no : true ≡ false = subst (λ (x : Restarted). sameb the_type x restarted.Done ≡ false) e other in cc
 
 pub returns-in_err-prepared-clause-happened : goal.returns-in_err-prepared-clause-happened
 returns-in_err-prepared-clause-happened c =
