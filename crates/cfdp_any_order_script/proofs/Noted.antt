@@ -45,7 +45,7 @@ gives_no (m ∷ made) = (tt, gives_no made)
 pub poll_no : (result : Result Polled AllocError) (calls : List Call) → ArePollCalls result calls → AreNoStarts calls
 poll_no (Ok answer) calls (made, same) = subst AreNoStarts (sym same) (tt, gives_no made)
 poll_no (Err error) calls (inl same) = subst AreNoStarts (sym same) (tt, tt)
-poll_no (Err error) calls (inr (answer, (made, same))) = subst AreNoStarts (sym same) (tt, gives_no made)
+poll_no (Err error) calls (inr (answer, made, same)) = subst AreNoStarts (sym same) (tt, gives_no made)
 
 pub flush_no : (calls : List Call) → AreFlushCalls calls → AreNoStarts calls
 flush_no calls (made, same) = subst AreNoStarts (sym same) (tt, (tt, gives_no made))
@@ -75,7 +75,7 @@ abbrev pub AllNoted : (files : List GivenFile) (a : ℕ) (b : List ℕ) (c : ℕ
 AllNoted files a b c d e f w = IsNoted 1 a b c w.one × IsNoted 2 d e f w.two × HasSources files w
 
 pub all_on : (files : List GivenFile) (a : ℕ) (b : List ℕ) (c : ℕ) (d : ℕ) (e : List ℕ) (f : ℕ) (v w : WorldKept) → GoesOnward v w → AllNoted files a b c d e f v → AllNoted files a b c d e f w
-all_on files a b c d e f v w g n = (noted_on 1 a b c v.one w.one (g.0 One) n.0, (noted_on 2 d e f v.two w.two (g.0 Two) n.1, sources_on files v w g.1 n.2))
+all_on files a b c d e f v w g n = (noted_on 1 a b c v.one w.one (g.0 One) n.0, noted_on 2 d e f v.two w.two (g.0 Two) n.1, sources_on files v w g.1 n.2)
 
 -- a station that starts anew
 pub noted_anew : (station lives : ℕ) (told now : List ℕ) (completed count : ℕ) (k l : EndKept) → BeginsAnew k l → IsNoted station lives told completed k →
@@ -111,7 +111,7 @@ all_complete station lives told completed k n =
 
 -- ---- where nothing was called
 pub happened_none : (s : Side) (w : WorldKept) → Happened s [] w w
-happened_none s w = record { same = refl; follow = λ before is. (before, (refl, is)) }
+happened_none s w = record { same = refl; follow = λ before is. (before, refl, is) }
 
 pub goes_none : (k : EndKept) → GoesOn k k
 goes_none k = record { before = refl; told_before = refl; gone = refl }

@@ -43,10 +43,10 @@ IsFrame f octets k = (l : LifeKept) × (slice_get (all_kept k) f.life ≡ Some l
 -- Of the lives that a station had before, their number, the lines of all that it told in them, and
 -- how many of its puts were complete by these are kept; and all that it told in this life is there.
 -- (Only proofs need it.)
-pub record IsNoted (station lives : ℕ) (told : List ℕ) (completed : ℕ) (k : EndKept) : Type 0 where
-  pub lives : lives ≡ length k.before
-  pub told : told ≡ flat_map (indication_line station) k.told_before
-  pub completed : completed ≡ count_by (is_own_completion station) k.told_before
+pub record IsNoted (station number : ℕ) (lines : List ℕ) (complete : ℕ) (k : EndKept) : Type 0 where
+  pub lives : number ≡ length k.before
+  pub told : lines ≡ flat_map (indication_line station) k.told_before
+  pub completed : complete ≡ count_by (is_own_completion station) k.told_before
   pub none_gone : k.station.entity.state.table.gone ≡ 0
 
 -- The files that both stations can send are those of a script. (Only proofs need it.)

@@ -66,7 +66,6 @@ pub struct ToldWorld<'a> {
 }
 
 impl<'a> Model for ToldWorld<'a> {
-    ghost use Rattle.std.specs.Prelude.{◌×◌};
     ghost use Rattle.cfdp_entity.specs.Coded.{state_codes};
     ghost use Rattle.any_order.specs.World.{WorldKept};
     ghost use Rattle.cfdp_any_order_script.specs.Told.{HasSources, IsNoted};
