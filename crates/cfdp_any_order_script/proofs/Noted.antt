@@ -7,23 +7,31 @@ use Rattle.std.proofs.lemmas.Grind.{flat_map-append}
 use Rattle.std.proofs.lemmas.List.Sums.{sum_by-append}
 use Rattle.std.proofs.lemmas.List.{length-append}
 use Rattle.cfdp_directives.specs.declared.user.indication.Indication.{Indication}
+use Rattle.cfdp_entity.specs.Entity.{EntityState}
 use Rattle.cfdp_entity.specs.declared.error.PutError.{PutError}
 use Rattle.cfdp_entity.specs.declared.error.RequestError.{RequestError}
 use Rattle.cfdp_entity.specs.declared.request.Request.{Request}
+use Rattle.cfdp_header.specs.Files.{FileMap}
 use Rattle.cfdp_header.specs.declared.value.TransactionId.{TransactionId}
+use Rattle.cfdp_station.specs.declared.config.StationConfig.{StationConfig}
 use Rattle.cfdp_station.specs.declared.polled.Polled.{Polled}
 use Rattle.link_sim.specs.declared.side.Side as declared
 use Rattle.link_sim.specs.declared.side.Side.TheVariants as sides
-use Rattle.any_order.specs.Calls.{Call, One, Two, Side, other}
-use Rattle.any_order.specs.Kept.{EndKept, LifeKept, MadeFrame, all_kept, gives}
+use Rattle.link_sim.specs.declared.world_config.WorldConfig.{WorldConfig}
+use Rattle.any_order.specs.Calls.{Call, One, Restarts, Two, Side, other}
+use Rattle.any_order.specs.Kept.{EndKept, IsNewKept, LifeKept, MadeFrame, all_kept, gives}
 use Rattle.any_order.specs.Onward.{AreNoStarts, BeginsAnew, GoesOn}
-use Rattle.any_order.specs.World.{ArePollCalls, AreFlushCalls, Happened, WorldKept, deliver_calls, kept_at, octets_calls, put_calls, request_calls, side_of, sources_at, tick_calls}
+use Rattle.any_order.specs.Refusing.{AnswersStart}
+use Rattle.any_order.specs.World.{ArePollCalls, AreFlushCalls, Happened, IsNewWorld, WorldKept, deliver_calls, kept_at, octets_calls, put_calls, request_calls, restart_calls, side_of, sources_at, tick_calls}
 use Rattle.any_order.specs.declared.answers.Delivered.{Delivered}
 use Rattle.any_order.specs.declared.answers.Delivered.TheVariants as delivered
+use Rattle.any_order.specs.declared.answers.Restarted.{Restarted}
+use Rattle.any_order.specs.declared.answers.Restarted.TheVariants as restarted
 use Rattle.any_order.specs.declared.answers.SentFrame.{SentFrame}
 use Rattle.cfdp_report.specs.Report.Lines.{indication_line, is_own_completion}
+use Rattle.cfdp_script.specs.Script.Outboxes.{outbox_of}
 use Rattle.cfdp_script.specs.declared.script.GivenFile.{GivenFile}
-use Rattle.cfdp_any_order_script.specs.Told.{GoesOnward, HasSources, IsNoted, kept_of, station_of}
+use Rattle.cfdp_any_order_script.specs.Told.{GoesOnward, HasSources, IsNoted, Starts, kept_of, station_of}
 
 -- ---- calls that are no starts
 pub put_no : (source destination : List ℕ) (result : Result TransactionId PutError) → AreNoStarts (put_calls source destination result)
@@ -93,6 +101,52 @@ noted_anew station lives told now completed count k l b n t c =
           ∙ (sym (sum_by-append _ k.told_before k.station.entity.state.table.told) ∙ ap (count_by own) (sym b.told_before)));
       none_gone = b.gone;
     }
+
+-- a station that is new
+pub noted_new : (station number : ℕ) (lines : List ℕ) (complete : ℕ) (c : StationConfig) (sources files : FileMap) (k : EndKept) → IsNewKept c sources files k → number ≡ 0 → lines ≡ [] → complete ≡ 0 →
+    IsNoted station number lines complete k
+noted_new station number lines complete c sources files k new n l o = record {
+  lives = n ∙ ap length (sym new.before);
+  told = l ∙ ap (flat_map (indication_line station)) (sym new.told_before);
+  completed = o ∙ ap (count_by (is_own_completion station)) (sym new.told_before);
+  none_gone = ap (λ (e : EntityState). e.table.gone) new.entity;
+}
+
+pub sources_new : (c : WorldConfig) (files : List GivenFile) (a b : FileMap) (inboxes : FileMap × FileMap) (w : WorldKept) → IsNewWorld c (a, b) inboxes w → a ≡ outbox_of sides.One files → b ≡ outbox_of sides.Two files →
+    HasSources files w
+sources_new c files a b inboxes w new one two sides.One = ap (λ (e : EntityState). e.table.sources) new.one.entity ∙ one
+sources_new c files a b inboxes w new one two sides.Two = ap (λ (e : EntityState). e.table.sources) new.two.entity ∙ two
+
+-- the same noted
+pub noted_as : (station a : ℕ) (b : List ℕ) (c : ℕ) (d : ℕ) (e : List ℕ) (f : ℕ) (k : EndKept) → d ≡ a → e ≡ b → f ≡ c → IsNoted station a b c k → IsNoted station d e f k
+noted_as station a b c d e f k p q r n = record { lives = p ∙ n.lives; told = q ∙ n.told; completed = r ∙ n.completed; none_gone = n.none_gone }
+
+-- ---- a start that may be refused
+abbrev pub ShowsStart : WorldKept → Type 0
+ShowsStart v = (s : Side) (first number : ℕ) (new : WorldKept) → Happened s (Restarts first number ∷ []) v new → Starts s v new
+
+-- what stays
+pub record StaysThrough (s : Side) (old new : WorldKept) : Type 0 where
+  pub other : GoesOn (kept_at (other s) old) (kept_at (other s) new)
+  pub sources : (t : Side) → sources_at t new ≡ sources_at t old
+
+stays_same : (s : Side) (v w : WorldKept) → w ≡ v → StaysThrough s v w
+stays_same s v w same = subst (λ (x : WorldKept). StaysThrough s v x) (sym same) (record { other = record { before = refl; told_before = refl; gone = refl }; sources = λ t. refl })
+
+pub stays_through : (s : Side) (first number : ℕ) (answer : Restarted) (v w : WorldKept) → ShowsStart v → Happened s (restart_calls first number (Ok answer)) v w →
+    AnswersStart first number (Ok answer) (kept_at s v) (w ≡ v) → StaysThrough s v w
+stays_through s first number restarted.Done v w shows h is = let starts = shows s first number w h in record { other = starts.1; sources = starts.2 }
+stays_through s first number restarted.NumberUsed v w shows h is = stays_same s v w is.1
+stays_through s first number restarted.FrameUsed v w shows h is = stays_same s v w is.2
+
+pub started : (s : Side) (first number : ℕ) (answer : Restarted) (v w : WorldKept) → ShowsStart v → Happened s (restart_calls first number (Ok answer)) v w → answer ≡ restarted.Done →
+    BeginsAnew (kept_at s v) (kept_at s w)
+started s first number answer v w shows h done = (shows s first number w (subst (λ (a : Restarted). Happened s (restart_calls first number (Ok a)) v w) done h)).0
+
+pub not_started : (first number : ℕ) (answer : Restarted) (k : EndKept) (unchanged : Type 0) → AnswersStart first number (Ok answer) k unchanged → (answer ≡ restarted.Done → ⊥) → unchanged
+not_started first number restarted.Done k unchanged is not = absurd (not refl)
+not_started first number restarted.NumberUsed k unchanged is not = is.1
+not_started first number restarted.FrameUsed k unchanged is not = is.2
 
 -- ---- what is told of all lives
 pub all_lines : (station lives : ℕ) (told : List ℕ) (completed : ℕ) (k : EndKept) → IsNoted station lives told completed k → flat_map (indication_line station) (k.told_before ++ k.station.entity.state.table.told)
