@@ -1,5 +1,6 @@
 mod SameEntries
 mod Counts
 mod Noted
+mod Playing
 mod Settling
 mod Running

@@ -1,5 +1,5 @@
 -- What each command of a script does over a link that keeps no order, and what it answers.
-use Rattle.std.specs.Prelude.{◌≡◌, ◌⊎◌, zero, suc, ◌+◌, ◌<◌, ◌≤◌, ℕ, Bool, true, false, List, [], ◌∷◌, ◌++◌, Option, None, Some, Result, Ok, Err, remove}
+use Rattle.std.specs.Prelude.{◌≡◌, ◌⊎◌, zero, suc, ◌+◌, ◌<◌, ◌≤◌, ℕ, Bool, true, false, List, [], ◌∷◌, ◌++◌, Option, None, Some, Result, Ok, Err, remove, if◌then◌else◌, nat_lt, slice_index_or}
 use Rattle.std.specs.declared.alloc.AllocError.{AllocError}
 use Rattle.aos_frame.specs.declared.config.Lane.{Lane}
 use Rattle.aos_frame.specs.declared.config.Lane.TheVariants.{Directives, Data}
@@ -73,10 +73,10 @@ pub record At (s : Side) (Does : PartState → PartState → Type 0) (old new : 
   pub others : frames_of (opposite s) new ≡ frames_of (opposite s) old
 
 -- These calls were made at a station, and then the frames were these.
-pub record Calls (at : Side) (calls : List Call) (frames : Frames) (old new : PartState) : Type 0
+pub record Calls (at : Side) (calls : List Call) (behind : Frames) (old new : PartState) : Type 0
     where
   pub happened : Happened (side_of at) calls old.world new.world
-  pub frames : new.frames ≡ frames
+  pub frames : new.frames ≡ behind
 
 -- These calls were made, and no frame moved on the link.
 pub record OnlyCalls (at : Side) (calls : List Call) (old new : PlayState) : Type 0 where
@@ -201,23 +201,25 @@ made_by (instead.Octets octets) frame = octets.now
 
 -- Octets come in the place of the oldest waiting frame of a lane, or of both: these, made of it.
 -- They aren't taken where a packet may come of them.
-abbrev pub ComesDamaged : (as : List ℕ → List ℕ) → Side → Option Lane → Option Answer →
+abbrev pub ComesDamaged : (made : List ℕ → List ℕ) → Side → Option Lane → Option Answer →
     (old new : PartState) → Type 0
-ComesDamaged as s lane answer old new =
+ComesDamaged made s lane answer old new =
     ((count_of lane old.frames.waiting ≤ 0) × IsNotDone nothing answer old new)
     ⊎ (IsNotDone no_memory answer old new
     ⊎ (IsNotDone NoSuchFrame answer old new
     ⊎ ((place : ℕ) × (frame : SentFrame) × (octets : List ℕ) × (taken : Bool)
     × IsBehind lane 0 old.frames.waiting place frame
     × IsFrame frame octets (kept_of s old.world) × (answer ≡ damage_answer taken)
-    × Calls (opposite s) (octets_calls (as octets) taken) (behind_damage taken place old.frames)
+    × Calls (opposite s) (octets_calls (made octets) taken) (behind_damage taken place old.frames)
     old new)))
 
 -- ---- a frame that arrived
--- The frame that arrived so many ago, of a lane or of both, arrives again.
+-- The frame that arrived so many ago, of a lane or of both, arrives again: 1 is the last one, and
+-- none arrived 0 ago.
 abbrev pub ComesAgain : Side → Option Lane → ℕ → Option Answer → (old new : PartState) → Type 0
 ComesAgain s lane back answer old new =
-    ((count_of lane old.frames.arrived < back) × IsNotDone NoSuchFrame answer old new)
+    (((count_of lane old.frames.arrived < back) ⊎ (back ≡ 0))
+    × IsNotDone NoSuchFrame answer old new)
     ⊎ ((frame : SentFrame) × (by : Delivered) × IsBack lane back old.frames.arrived frame
     × (answer ≡ arrival_answer by)
     × Calls (opposite s) (deliver_calls frame by) old.frames old new)
@@ -284,14 +286,10 @@ IsTooLong why count last new = (why ≡ TooLong) × (count ≡ most_events) × (
 
 -- the events of a settling, by turns
 abbrev pub turn_event : ℕ → Event
-turn_event 0 = event.Poll One
-turn_event 1 = event.Flush One
-turn_event 2 = event.Poll Two
-turn_event 3 = event.Flush Two
-turn_event 4 = event.Deliver One Directives
-turn_event 5 = event.Deliver One Data
-turn_event 6 = event.Deliver Two Directives
-turn_event turn = event.Deliver Two Data
+turn_event turn = slice_index_or (event.Poll One ∷ event.Flush One
+    ∷ event.Poll Two ∷ event.Flush Two
+    ∷ event.Deliver One Directives ∷ event.Deliver One Data
+    ∷ event.Deliver Two Directives ∷ []) turn (event.Deliver Two Data)
 
 -- One of these had something to do, or nothing.
 abbrev pub SettlesOnce : (old new : PlayState) → Type 0
@@ -300,14 +298,7 @@ SettlesOnce old new = (turn : ℕ) × (HappensOnce (turn_event turn) None old ne
 
 -- behind the eighth turn comes the first
 abbrev pub next_turn : ℕ → ℕ
-next_turn 0 = 1
-next_turn 1 = 2
-next_turn 2 = 3
-next_turn 3 = 4
-next_turn 4 = 5
-next_turn 5 = 6
-next_turn 6 = 7
-next_turn turn = 0
+next_turn turn = if nat_lt turn 7 then turn + 1 else 0
 
 -- the turn so many turns behind one
 abbrev pub turns_on : ℕ → ℕ → ℕ

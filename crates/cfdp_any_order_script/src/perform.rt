@@ -154,16 +154,7 @@ fn next_turn(turn: u8) -> u8
     ensures is { result ≡ next_turn turn }
     ensures bound { result ≤ 7 }
 {
-    match turn {
-        0 => 1,
-        1 => 2,
-        2 => 3,
-        3 => 4,
-        4 => 5,
-        5 => 6,
-        6 => 7,
-        _ => 0,
-    }
+    if turn < 7 { turn + 1 } else { 0 }
 }
 
 /// Polls a station, and flushes it if that did something: whether it did.

@@ -5,6 +5,7 @@ ghost use Rattle.link_sim.specs.declared.side.Side.TheVariants as sides;
 ghost use Rattle.any_order.specs.World.{IsNewWorld, WorldKept};
 ghost use Rattle.cfdp_script.specs.Script.Outboxes.{outbox_of};
 ghost use Rattle.cfdp_any_order_script.specs.Links.{no_frames};
+ghost use Rattle.cfdp_any_order_script.specs.Performing as answers;
 ghost use Rattle.cfdp_any_order_script.specs.Performing.{Asks, At, ComesAgain, ComesDamaged};
 ghost use Rattle.cfdp_any_order_script.specs.Performing.{ComesFrom, part_of};
 ghost use Rattle.cfdp_any_order_script.specs.Performing.{FlushesOnce, HappensOnce, Loses};
@@ -20,7 +21,7 @@ use cfdp_directives::Octets;
 use cfdp_entity::Request;
 use cfdp_header::TransactionId;
 use cfdp_script::{Damage, GivenFile, damaged};
-use cfdp_station::Polled;
+use cfdp_station::{Polled, PutError, RequestError};
 use link_sim::{Event, Refusal, Side, WorldConfig};
 use std::alloc::{AllocError, Global};
 use std::marker::Model;
@@ -61,12 +62,80 @@ pub enum Instead<'a> {
 
 /// What is answered where a frame was to arrive.
 fn arrival_answer(by: Delivered) -> Option<Answer>
-    ensures { result ≡ Rattle.cfdp_any_order_script.specs.Performing.arrival_answer by }
+    ensures { result ≡ answers.arrival_answer by }
 {
     match by {
         Delivered::Taken => None,
         Delivered::NoSuchFrame => Some(Answer::NoSuchFrame),
         Delivered::TooFar => Some(Answer::TooFar),
+    }
+}
+
+/// What is answered where a file was to be put.
+fn put_answer(put: Result<TransactionId, PutError>) -> Option<Answer>
+    ensures { result ≡ answers.put_answer put }
+{
+    match put {
+        Ok(_) => None,
+        Err(error) => Some(Answer::Usual(cfdp_report::Answer::Refused(Refusal::Put(
+            error,
+        )))),
+    }
+}
+
+/// What is answered where a transaction was to be changed.
+fn request_answer(called: Result<(), RequestError>) -> Option<Answer>
+    ensures { result ≡ answers.request_answer called }
+{
+    match called {
+        Ok(()) => None,
+        Err(error) => Some(Answer::Usual(cfdp_report::Answer::Refused(Refusal::Call(
+            error,
+        )))),
+    }
+}
+
+/// What is answered where a station was told the time.
+fn tick_answer(told: Result<(), AllocError>) -> Option<Answer>
+    ensures { result ≡ answers.tick_answer told }
+{
+    match told {
+        Ok(()) => None,
+        Err(AllocError) => Some(Answer::NO_MEMORY),
+    }
+}
+
+/// What is answered where a station was polled.
+fn poll_answer(polled: Result<Polled, AllocError>) -> Option<Answer>
+    ensures { result ≡ answers.poll_answer polled }
+{
+    match polled {
+        Ok(Polled::Moved | Polled::SourceFailed) => None,
+        Ok(Polled::Nothing | Polled::Full) => Some(Answer::NOTHING),
+        Err(AllocError) => Some(Answer::NO_MEMORY),
+    }
+}
+
+/// What is answered where a station was flushed, by whether it made a frame.
+fn flush_answer(flushed: Result<(), AllocError>, any: bool) -> Option<Answer>
+    ensures { result ≡ answers.flush_answer flushed any }
+{
+    match flushed {
+        Ok(()) if any => None,
+        Ok(()) => Some(Answer::NOTHING),
+        Err(AllocError) => Some(Answer::NO_MEMORY),
+    }
+}
+
+/// What is answered where a station was to start anew.
+fn start_answer(started: Result<Restarted, AllocError>) -> Option<Answer>
+    ensures { result ≡ answers.start_answer started }
+{
+    match started {
+        Ok(Restarted::Done) => None,
+        Ok(Restarted::NumberUsed) => Some(Answer::NumbersSpent),
+        Ok(Restarted::FrameUsed) => Some(Answer::FramesSpent),
+        Err(AllocError) => Some(Answer::NO_MEMORY),
     }
 }
 
@@ -117,7 +186,7 @@ fn damage(
     lane: Option<Lane>,
     instead: Instead<'_>,
 ) -> Option<Answer>
-    ensures { ComesDamaged (made_by instead) from lane result (part_of world.old frames.old)
+    ensures { ComesDamaged (made_by instead.entry) from lane result (part_of world.old frames.old)
         (part_of world.new frames.new) }
 {
     let Some((place, frame)) = waiting_behind(&frames.waiting, lane, 0) else {
@@ -145,10 +214,12 @@ fn again(
     lane: Option<Lane>,
     back: u64,
 ) -> Option<Answer>
-    requires { 1 ≤ back }
     ensures { ComesAgain from lane back result (part_of world.old frames.now)
         (part_of world.new frames.now) }
 {
+    if back < 1 {
+        return Some(Answer::NoSuchFrame);
+    }
     match arrived_back(frames.arrived.as_slice(), lane, back) {
         Some(frame) => arrival_answer(world.deliver(from, frame)),
         None => Some(Answer::NoSuchFrame),
@@ -165,11 +236,7 @@ fn poll(alloc: Global, world: &mut ToldWorld<'_>, frames: &mut Frames, side: Sid
     if frames.note(alloc, before, world.made(side)).is_err() {
         return Some(Answer::NO_MEMORY);
     }
-    match polled {
-        Ok(Polled::Moved | Polled::SourceFailed) => None,
-        Ok(Polled::Nothing | Polled::Full) => Some(Answer::NOTHING),
-        Err(AllocError) => Some(Answer::NO_MEMORY),
-    }
+    poll_answer(polled)
 }
 
 /// A station is flushed, and its frames wait.
@@ -187,17 +254,13 @@ fn flush(
     let Ok(any) = frames.note(alloc, before, world.made(side)) else {
         return Some(Answer::NO_MEMORY);
     };
-    match flushed {
-        Ok(()) if any => None,
-        Ok(()) => Some(Answer::NOTHING),
-        Err(AllocError) => Some(Answer::NO_MEMORY),
-    }
+    flush_answer(flushed, any)
 }
 
 impl Instead<'_> {
     /// What comes in the place of this frame.
     fn of(self, alloc: Global, frame: &[u8]) -> Result<Octets, AllocError>
-        ensures { IfOk result (λ octets. octets ≡ made_by self frame.now) }
+        ensures { IfOk result (λ octets. octets ≡ made_by self.entry frame.now) }
     {
         match self {
             Instead::Damaged(damage) => damaged(alloc, frame, damage),
@@ -262,37 +325,22 @@ impl<'a> Play<'a> {
     fn put(&mut self, at: Side, source: &Octets, destination: &Octets) -> Option<Answer>
         ensures { HappensOnce (events.Put at source.now destination.now) result self.old self.new }
     {
-        match self
-            .world
-            .put(at, source.as_slice(), destination.as_slice())
-        {
-            Ok(_) => None,
-            Err(error) => {
-                let refused = cfdp_report::Answer::Refused(Refusal::Put(error));
-                Some(Answer::Usual(refused))
-            }
-        }
+        put_answer(
+            self.world
+                .put(at, source.as_slice(), destination.as_slice()),
+        )
     }
 
     fn ask(&mut self, at: Side, id: TransactionId, request: Request) -> Option<Answer>
         ensures { Asks at id request result self.old self.new }
     {
-        match self.world.request(at, id, request) {
-            Ok(()) => None,
-            Err(error) => {
-                let refused = cfdp_report::Answer::Refused(Refusal::Call(error));
-                Some(Answer::Usual(refused))
-            }
-        }
+        request_answer(self.world.request(at, id, request))
     }
 
     fn tick(&mut self, at: Side, now: u64) -> Option<Answer>
         ensures { HappensOnce (events.Tick at now) result self.old self.new }
     {
-        match self.world.tick(at, now) {
-            Ok(()) => None,
-            Err(AllocError) => Some(Answer::NO_MEMORY),
-        }
+        tick_answer(self.world.tick(at, now))
     }
 
     fn poll(&mut self, side: Side) -> Option<Answer>
@@ -344,7 +392,7 @@ impl<'a> Play<'a> {
     /// Octets come in the place of the oldest waiting frame of a lane, or of both. Answers why they
     /// didn't.
     pub fn damage(&mut self, from: Side, lane: Option<Lane>, instead: Instead<'_>) -> Option<Answer>
-        ensures { At from (ComesDamaged (made_by instead) from lane result) self.old self.new }
+        ensures { At from (ComesDamaged (made_by instead.entry) from lane result) self.old self.new }
     {
         let world = &mut self.world;
         match from {
@@ -356,7 +404,6 @@ impl<'a> Play<'a> {
     /// The frame of a lane, or of both, that arrived so many ago, arrives again. Answers why it
     /// didn't.
     pub fn again(&mut self, from: Side, lane: Option<Lane>, back: u64) -> Option<Answer>
-        requires { 1 ≤ back }
         ensures { At from (ComesAgain from lane back result) self.old self.new }
     {
         match from {
@@ -369,11 +416,6 @@ impl<'a> Play<'a> {
     pub fn restart(&mut self, side: Side) -> Option<Answer>
         ensures { StartsAnew side result self.old self.new }
     {
-        match self.world.restart(side) {
-            Ok(Restarted::Done) => None,
-            Ok(Restarted::NumberUsed) => Some(Answer::NumbersSpent),
-            Ok(Restarted::FrameUsed) => Some(Answer::FramesSpent),
-            Err(AllocError) => Some(Answer::NO_MEMORY),
-        }
+        start_answer(self.world.restart(side))
     }
 }
