@@ -4,3 +4,4 @@ mod Noted
 mod Playing
 mod Settling
 mod Running
+mod Simulating

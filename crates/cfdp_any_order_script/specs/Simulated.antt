@@ -1,6 +1,7 @@
 -- How the program ends at a script, over whatever link it runs, and what it writes.
 use Rattle.std.specs.Prelude.{◌≡◌, ◌⊎◌, ℕ, Bool, true, false, List, [], ◌∷◌, Option, None, Some, if◌then◌else◌}
 use Rattle.std.specs.FinMap.{empty}
+use Rattle.std.specs.Option.{option_map}
 use Rattle.std.specs.Io.KnownBytes.{Appends, Keeps}
 use Rattle.link_sim.specs.declared.side.Side.TheVariants.{One, Two}
 use Rattle.link_sim.specs.declared.world_config.WorldConfig.{WorldConfig}
@@ -9,11 +10,13 @@ use Rattle.cfdp_report.specs.Settings.{world_of}
 use Rattle.cfdp_report.specs.declared.exit.Exit.{Exit}
 use Rattle.cfdp_report.specs.declared.exit.Exit.TheVariants.{Complete, Incomplete, BadScript, Device}
 use Rattle.cfdp_report.specs.declared.exit.Fault.TheVariants.{Unreadable, TooLong, Unwritable, NoMemoryAtStart, NoMemory}
+use Rattle.cfdp_script.specs.Script.Lines as scripts
 use Rattle.cfdp_script.specs.Script.Lines.{IsFirstBad, files_of, settings_of, steps_of}
 use Rattle.cfdp_script.specs.Script.Outboxes.{outbox_of}
 use Rattle.cfdp_script.specs.Script.Report.{puts_asked}
 use Rattle.cfdp_script.specs.Script.Simulated.{EndsScript, IsTooLong}
 use Rattle.cfdp_script.specs.declared.script.GivenFile.{GivenFile}
+use Rattle.cfdp_script.specs.declared.script.Script.{Script}
 use Rattle.cfdp_script.specs.declared.script.Step.{Step}
 use Rattle.cfdp_script.specs.declared.script.command.Command.{Command}
 use Rattle.cfdp_script.specs.declared.script.command.Command.TheVariants.{Disorder}
@@ -79,11 +82,23 @@ abbrev pub IsRefused : (disorder line : ℕ) → List ℕ → Type 0
 IsRefused disorder line text = IsFirstBad text (Some line)
     ⊎ (IsFirstBad text None × (line ≡ disorder))
 
+-- This is the first bad line of a script, by what was noted of it.
+abbrev pub IsFirstNoted : Script → Option ℕ → Type 0
+IsFirstNoted script first = scripts.IsFirst (option_map (λ bad. bad.line) script.first_bad)
+    script.last_set script.settings first
+
 -- The program ended so at a script whose first such command stands in this line.
 abbrev pub EndsDisorder : ℕ → Exit → List ℕ → (old new : Option (List ℕ)) → Type 0
 EndsDisorder line (BadScript bad) text old new = IsRefused line bad.line text × Keeps old new
 EndsDisorder line exit text old new = IsFirstBad text None
     × EndsRun exit (world_of (settings_of text)) (files_of text) (steps_of text) old new
+
+-- It ended so at such a script, by what was noted of the script as it was read.
+abbrev pub EndsAt : ℕ → Exit → Script → (old new : Option (List ℕ)) → Type 0
+EndsAt line (BadScript bad) script old new = (IsFirstNoted script (Some bad.line)
+    ⊎ (IsFirstNoted script None × (bad.line ≡ line))) × Keeps old new
+EndsAt line exit script old new = IsFirstNoted script None
+    × EndsRun exit (world_of script.settings) script.files.items script.steps.items old new
 
 -- It ended so at a script that was read: at one without such a command as `cfdp_script` says.
 abbrev pub EndsAny : Option ℕ → Exit → List ℕ → (old new : Option (List ℕ)) → Type 0
