@@ -1,9 +1,83 @@
 //! The files of an inbox, where a file that came may not take the place of another, nor be longer
 //! than a limit.
 use std::alloc::Allocator;
-use std::fs::{File, Files, Metadata, OpenOptions};
+use std::fs::{File, Files, Metadata, OpenFile, OpenOptions};
 use std::io;
-use std::io::ErrorKind;
+use std::io::{ErrorKind, Read, Seek, SeekFrom, Write};
+
+/// A file of an inbox. It knows the place in it at which the next octet is written, and goes there
+/// only where that is another one: what comes in order is written by one call of the system each.
+#[derive(Drop)]
+pub struct InboxFile {
+    file: File,
+    /// `None` where it isn't known.
+    place: Option<u64>,
+}
+
+impl InboxFile {
+    /// A file that was opened, of whose place nothing is known.
+    fn new(file: File) -> InboxFile {
+        InboxFile { file, place: None }
+    }
+
+    /// The system read or wrote so many octets, or failed.
+    fn passes(&mut self, answer: io::Result<usize>) -> io::Result<usize> {
+        let place = self.place.take();
+        let count = answer?;
+        self.place = place.and_then(|place| place.checked_add(count as u64));
+        Ok(count)
+    }
+}
+
+impl Read for InboxFile {
+    fn read(&mut self, buffer: &mut [u8]) -> io::Result<usize> {
+        let answer = self.file.read(buffer);
+        self.passes(answer)
+    }
+}
+
+impl Write for InboxFile {
+    fn write(&mut self, octets: &[u8]) -> io::Result<usize> {
+        let answer = self.file.write(octets);
+        self.passes(answer)
+    }
+
+    fn flush(&mut self) -> io::Result<()> {
+        self.file.flush()
+    }
+}
+
+impl Seek for InboxFile {
+    fn seek(&mut self, to: SeekFrom) -> io::Result<u64> {
+        if let (SeekFrom::Start(wanted), Some(place)) = (to, self.place)
+            && wanted == place
+        {
+            return Ok(place);
+        }
+        self.place = None;
+        let place = self.file.seek(to)?;
+        self.place = Some(place);
+        Ok(place)
+    }
+}
+
+impl OpenFile for InboxFile {
+    fn metadata(&self) -> io::Result<Metadata> {
+        self.file.metadata()
+    }
+
+    fn set_len(&self, size: u64) -> io::Result<()> {
+        self.file.set_len(size)
+    }
+
+    fn sync_all(&self) -> io::Result<()> {
+        self.file.sync_all()
+    }
+
+    fn sync_data(&self) -> io::Result<()> {
+        self.file.sync_data()
+    }
+}
 
 /// The files of the system, for an inbox that replaces files, or keeps those that are there.
 ///
@@ -31,12 +105,12 @@ impl<'a> InboxFiles<'a> {
 }
 
 impl Files for InboxFiles<'_> {
-    type File = File;
+    type File = InboxFile;
 
     type Dir = <HostRuntime as Files>::Dir;
 
-    fn open_file(&self, how: &OpenOptions, path: &str) -> io::Result<File> {
-        self.rt.open_file(how, path)
+    fn open_file(&self, how: &OpenOptions, path: &str) -> io::Result<InboxFile> {
+        Ok(InboxFile::new(self.rt.open_file(how, path)?))
     }
 
     fn open_dir(&self, path: &str) -> io::Result<<HostRuntime as Files>::Dir> {

@@ -274,8 +274,11 @@ impl<'a> LineSources<'a> {
 
     /// Reads, sends and takes connections, as far as that can be done without waiting.
     fn attend(&mut self) {
-        let now = self.now();
         let watched = self.watched_lines();
+        if watched.is_empty() && self.connections.is_empty() {
+            return;
+        }
+        let now = self.now();
         let mut places = watched.alone();
         let stirred = libc::net::poll(&mut places, 0);
         if let Some(standard) = &mut self.standard

@@ -47,6 +47,11 @@ impl Watched {
         }
     }
 
+    /// Whether no descriptor is looked at.
+    pub fn is_empty(&self) -> bool {
+        self.count <= 1
+    }
+
     /// Something lies there already, so that nobody is to wait.
     pub fn is_due(&self) -> bool {
         self.is_due

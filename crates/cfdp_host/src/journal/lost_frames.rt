@@ -103,8 +103,19 @@ impl<'a> FrameMonitor<'a> {
     /// Looks at a frame that came. One that isn't of the link is left out.
     pub fn takes(&mut self, frame: &[u8]) {
         let (link, found) = (&self.link, self.found);
-        look_at(link, Lane::Directives, &mut self.directives, found, frame);
-        look_at(link, Lane::Data, &mut self.file_data, found, frame);
+        if is_on(frame, link.data_virtual_channel) {
+            look_at(link, Lane::Data, &mut self.file_data, found, frame);
+        } else {
+            look_at(link, Lane::Directives, &mut self.directives, found, frame);
+        }
+    }
+}
+
+/// Whether a frame's header says that it is of this virtual channel (CCSDS 732.0-B-4, 4.1.2.2).
+fn is_on(frame: &[u8], virtual_channel: u8) -> bool {
+    match frame.get(1) {
+        Some(octet) => *octet & 63 == virtual_channel,
+        None => false,
     }
 }
 
