@@ -113,8 +113,9 @@ pub struct Notices<'a> {
     link: [Tally; 12],
     pdus: [Tally; 17],
     datagrams: [Tally; 8],
-    // When something of the link came last, when it was looked what is waited for, and when what
-    // was told last.
+    // Whether something of the link came in this turn. When something did last, when it was looked
+    // what is waited for, and when what was told last.
+    hears: bool,
     heard: u64,
     looked: u64,
     beacon_at: Option<u64>,
@@ -151,6 +152,7 @@ impl<'a> Notices<'a> {
             link: [Tally::NONE; 12],
             pdus: [Tally::NONE; 17],
             datagrams: [Tally::NONE; 8],
+            hears: false,
             heard: 0,
             looked: 0,
             beacon_at: None,
@@ -189,7 +191,7 @@ impl<'a> Notices<'a> {
         } else if virtual_channel == up.virtual_channel
             || virtual_channel == up.data_virtual_channel
         {
-            self.heard = self.now();
+            self.hears = true;
         } else if virtual_channel != 63 {
             self.foreign.virtual_channel = virtual_channel;
         }
@@ -409,6 +411,10 @@ impl Lookout for Notices<'_> {
             }
             Passed::Ticked(_) => {
                 let now = self.now();
+                if self.hears {
+                    self.hears = false;
+                    self.heard = now;
+                }
                 self.tell_drops(now, station);
                 self.tell_datagram_drops(now);
                 self.tell_beacon(now);

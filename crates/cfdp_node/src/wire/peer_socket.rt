@@ -36,6 +36,14 @@ const MOST_REST: u64 = 50 * MILLISECOND;
 /// came in time is taken before a timer expires for want of it.
 const MOST_LAG: u64 = 2 * SECOND;
 
+/// Where so many datagrams came in a turn before none was left, the peer sends many, and more come
+/// soon.
+const MANY: u32 = 4;
+
+/// For how many microseconds it lets these come, so that it is woken once for some of them. They
+/// are far fewer than the socket has room for.
+const GATHERING: u64 = 50;
+
 /// The octets of a datagram for which room is asked beside those of its frame.
 const DATAGRAM_COST: u64 = 768;
 
@@ -129,10 +137,13 @@ pub struct PeerSocket<'a> {
     // Whether a transaction was open when that was told last.
     was_open: bool,
     // How many datagrams came in this turn, when the first of them did, and whether it has sent or
-    // waited in it.
+    // waited in it. Whether nothing waited in the socket when the turn before ended.
     came: u32,
     came_first: u64,
     has_sent: bool,
+    is_drained: bool,
+    // Whether many came in that.
+    comes_more: bool,
     // Whether a frame waits that might not leave as it was to.
     is_held: bool,
 }
@@ -196,6 +207,8 @@ impl<'a> PeerSocket<'a> {
             came: 0,
             came_first: 0,
             has_sent: true,
+            is_drained: false,
+            comes_more: false,
             is_held: false,
         })
     }
@@ -216,7 +229,13 @@ impl<'a> PeerSocket<'a> {
 
     /// The time of the link, in nanoseconds.
     fn link_time(&mut self) -> u64 {
-        let (now, is_frozen) = (self.since_start(), self.is_frozen());
+        let now = self.since_start();
+        self.link_time_at(now)
+    }
+
+    /// The time of the link, in nanoseconds, at this time since the start.
+    fn link_time_at(&mut self, now: u64) -> u64 {
+        let is_frozen = self.is_frozen();
         self.clock.at(now, is_frozen)
     }
 
@@ -300,10 +319,10 @@ impl<'a> PeerSocket<'a> {
         let _ = self.has_gone(answer);
     }
 
-    /// Whether enough was taken in this turn.
-    fn has_enough(&self) -> bool {
+    /// Whether enough was taken in this turn, at this time.
+    fn has_enough(&self, now: u64) -> bool {
         self.came >= MOST_IN_TURN
-            || self.came > 0 && self.since_start().saturating_sub(self.came_first) >= MOST_TURN_TIME
+            || self.came > 0 && now.saturating_sub(self.came_first) >= MOST_TURN_TIME
     }
 
     /// Notes that one frame more leaves. False where that can't be noted: then none leaves for a
@@ -317,16 +336,18 @@ impl<'a> PeerSocket<'a> {
         is_covered
     }
 
-    /// Notes that a datagram came, or was told to be lost.
-    fn counts(&mut self) {
+    /// Notes that a datagram came at this time, or was told to be lost.
+    fn counts(&mut self, now: u64) {
         if self.came == 0 {
-            self.came_first = self.since_start();
+            self.came_first = now;
         }
         self.came = self.came.saturating_add(1);
     }
 
     /// Nothing waits in the socket, or enough was taken in this turn: the next one begins.
-    fn ends_turn(&mut self) {
+    fn ends_turn(&mut self, is_drained: bool) {
+        self.is_drained = is_drained;
+        self.comes_more = is_drained && self.came >= MANY;
         self.came = 0;
         self.has_sent = false;
         self.tell_peer();
@@ -346,7 +367,10 @@ impl<'a> PeerSocket<'a> {
         } else {
             i32::try_from(wait.div_ceil(MILLISECOND)).unwrap_or(1)
         };
-        if net::poll(&mut places, milliseconds) < 0 {
+        if milliseconds > 0 && self.comes_more {
+            // A wait for the next one would end at once, and the peer would pay for waking it.
+            let _ = thread::sleep(self.rt, Duration::from_micros(GATHERING));
+        } else if net::poll(&mut places, milliseconds) < 0 {
             self.pauses();
         }
     }
@@ -370,35 +394,47 @@ impl<'a> PeerSocket<'a> {
         }
     }
 
-    /// The system gave no datagram, for this cause. Where nothing waits in the socket and nothing was
-    /// sent or came in this turn, it waits before it is asked once more.
+    /// The system, asked at this time, gave no datagram, for this cause. Where nothing waits in the
+    /// socket and nothing was sent or came in this turn, it waits before it is asked once more.
     ///
     /// # Errors
     ///
     /// `WireFault` where it is to be asked once more.
-    fn receives_none(&mut self, kind: ErrorKind) -> Result<(), WireFault> {
+    fn receives_none(&mut self, kind: ErrorKind, now: u64) -> Result<(), WireFault> {
         if kind == ErrorKind::ConnectionRefused {
-            self.counts();
+            self.counts(now);
             self.fails(kind);
             return Err(WireFault);
         }
         if kind != ErrorKind::WouldBlock {
             self.fails(kind);
             self.pauses();
-            self.ends_turn();
+            self.ends_turn(false);
             return Ok(());
         }
-        self.drained = self.link_time();
+        self.drained = self.link_time_at(now);
         if self.has_sent || self.came > 0 {
-            self.ends_turn();
+            self.ends_turn(true);
             return Ok(());
         }
+        self.waits();
+        Err(WireFault)
+    }
+
+    /// Whether nothing waited in the socket when the turn before ended, and nothing was sent since:
+    /// it waits then, without being told once more that nothing does.
+    fn may_wait(&self) -> bool {
+        self.is_drained && !self.has_sent && self.came == 0
+    }
+
+    /// Waits, unless the frame that was kept can go now.
+    fn waits(&mut self) {
+        self.is_drained = false;
         self.tell_peer();
         if self.kept_len == 0 || !self.sends_kept() {
             self.rests();
         }
         self.has_sent = true;
-        Err(WireFault)
     }
 
     /// Reserves transaction numbers where some are wanted; else they are wanted again.
@@ -422,9 +458,9 @@ impl<'a> PeerSocket<'a> {
             .max(self.blocked_until.saturating_sub(now))
     }
 
-    /// What came of a datagram of so many octets: whether it is for the station. A beacon isn't, and
+    /// What came of a datagram at this time: whether it is for the station. A beacon isn't, and
     /// nothing is while the link is down by plan.
-    fn hears(&mut self, datagram: &[u8]) -> bool {
+    fn hears(&mut self, datagram: &[u8], now: u64) -> bool {
         if self.is_frozen() {
             self.exchange.gaps.throws_away();
             return false;
@@ -437,7 +473,7 @@ impl<'a> PeerSocket<'a> {
             return false;
         }
         if is_of_link(datagram, &self.pace) {
-            self.quiet_since = self.link_time();
+            self.quiet_since = self.link_time_at(now);
         }
         true
     }
@@ -519,21 +555,26 @@ impl Wire for PeerSocket<'_> {
     }
 
     fn receive(&mut self, buffer: &mut [u8]) -> Result<Option<usize>, WireFault> {
-        if self.has_enough() {
-            self.ends_turn();
+        let now = self.since_start();
+        if self.has_enough(now) {
+            self.ends_turn(false);
             return Ok(None);
+        }
+        if self.may_wait() {
+            self.waits();
+            return Err(WireFault);
         }
         match self.socket.recv(buffer) {
             Ok(len) => {
-                self.counts();
-                if self.hears(&buffer[..len]) {
+                self.counts(now);
+                if self.hears(&buffer[..len], now) {
                     Ok(Some(len))
                 } else {
                     Err(WireFault)
                 }
             }
             Err(error) => {
-                self.receives_none(error.kind())?;
+                self.receives_none(error.kind(), now)?;
                 Ok(None)
             }
         }
