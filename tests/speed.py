@@ -1,15 +1,22 @@
 #!/usr/bin/env python3
-"""How fast two stations send a file, beside a plain program that sends as many datagrams as long.
+"""How fast stations send a file, beside a plain program that sends as many datagrams as long.
 
     tests/speed.py                by crates/cfdp_node/out/cfdp_node, which `rt ci` leaves
     tests/speed.py PROGRAM [MB]   by another program, and a file of so many MB, 100 if none is said
+    tests/speed.py --page [PROGRAM]   prints the tables of docs/SPEED.md, in some ten minutes
 
 The stations send at any rate, by the values of each of CASES. All files lie in memory where the
 machine has such a folder. A time goes from the start of the sender's process until the file is
 published, and for plain.c until its receiver ends; plain.c says what both have in common.
+
+The tables are of runs that take turns, and of the least processor time of many: so they may be made
+on a machine that does other work beside it. Instructions are those that `valgrind --tool=callgrind`
+counts, which no other work changes.
 """
+import collections
 import os
 import random
+import re
 import subprocess
 import sys
 import tempfile
@@ -19,6 +26,7 @@ import types
 sys.dont_write_bytecode = True
 import links
 import stations
+import turns
 
 HERE = os.path.dirname(os.path.abspath(__file__))
 TOP = os.path.dirname(HERE)
@@ -31,6 +39,24 @@ CASES = (
 
 # How often each is run: the middle one of them counts.
 RUNS = 3
+
+# The rows of the page's first table: what is set, the octets of a zone and of a segment, words of
+# the sender, and keys of both. Where frames are lost, times are in milliseconds.
+LOSSY = {"eof_time": 100, "nak_time": 100, "finished_time": 100, "inactivity_time": 100_000}
+ROWS = (
+    ("zone 2,040, segment 4,096", 2040, 4096, (), {}),
+    ("the same, each 100th frame lost", 2040, 4096, ("--drop", "100"), LOSSY),
+    ("zone 256, segment 1,024", 256, 1024, (), {}),
+)
+
+# How often each program of a row is run for the page: the best counts. And its file's octets.
+PAGE_RUNS, PAGE_SIZE = 9, 100_000_000
+
+# Of the page's table of instructions: the octets of a zone, of a segment and of the file.
+COUNTED = ((2040, 4096, 10_000_000), (256, 1024, 4_000_000), (256, 1, 40_000))
+
+# So many functions are told of each.
+MOST_TOLD = 8
 
 # How often tests/run tries each, where a datagram is lost.
 TRIES = 5
@@ -63,18 +89,28 @@ def datagrams(size, zone, segment):
     return -(-octets // zone), zone + FRAME_HEADER
 
 
-def by_stations(program, octets, zone, segment, seconds=stations.SECONDS):
-    """How two stations send these octets; None where they don't in time."""
-    settings = {**stations.PATIENT, "zone": zone, "segment": segment}
+def processor_seconds(station):
+    """How long a station that waits had a processor."""
+    with open(f"/proc/{station.process.pid}/schedstat", encoding="ascii") as it:
+        return int(it.read().split()[0]) / 1e9
+
+
+def by_stations(program, octets, zone, segment, more=(), keys=None, seconds=stations.SECONDS):
+    """How two stations send these octets, with more words for the sender and more keys; None where
+    they don't in time."""
+    settings = {**stations.PATIENT, **(keys or {}), "zone": zone, "segment": segment}
+    both = ["--rate", "0", *(("--unit", "ms") if keys else ())]
     with links.Link(program) as link:
         words = link.puts(1, {"a": octets})
-        receiver = link.starts(2, ["--inbox", "to", "--rate", "0"], settings)
+        receiver = link.starts(2, ["--inbox", "to", *both], settings)
         start = time.time()
-        sender = link.starts(1, [*words, "--rate", "0"], settings, waits=False)
+        sender = link.starts(1, [*words, *both, *more], settings, waits=False)
         ended = receiver.comes_to("finished .* 0 complete retained", seconds)
         if ended is None or stations.files_at(link.folder, 2) != {"a": octets}:
             return None
-        spent = [links.processor_seconds(it) for it in (sender, receiver)]
+        sender.comes_to("finished", seconds)
+        time.sleep(0.05)
+        spent = [processor_seconds(it) for it in (sender, receiver)]
     return Result(len(octets), ended - start, *spent)
 
 
@@ -145,12 +181,132 @@ def lone_mistakes(program):
     yield "the speed of stations", slowness_mistakes(program)
 
 
+# ---- the page
+
+
+def table(titles, rows):
+    """Prints a table in the form of the page."""
+    print(f"| {' | '.join(titles)} |\n|{'---|' * len(titles)}")
+    for cells in rows:
+        print(f"| {' | '.join(cells)} |")
+    print(flush=True)
+
+
+def best(results):
+    """The best speed and the least processor time of some results."""
+    found = [it for it in results if it is not None]
+    return max(it.speed for it in found), min(sum(it.seconds) for it in found)
+
+
+def tell_rows(program):
+    """The table of stations over UDP."""
+    octets, rows = random.Random(44).randbytes(PAGE_SIZE), []
+    for title, zone, segment, more, keys in ROWS:
+        own, plain = [], []
+        for _ in range(PAGE_RUNS):
+            plain.append(by_plain(program, octets, zone, segment))
+            own.append(by_stations(program, octets, zone, segment, more, keys))
+        (speed, spent), (plain_speed, plain_spent) = best(own), best(plain)
+        row = [title, f"{1000 * spent:.0f} ms", f"{1000 * plain_spent:.0f} ms"]
+        row += [f"{spent / plain_spent:.2f}", f"{speed:.0f} MB/s", f"{plain_speed:.0f} MB/s"]
+        rows.append([*row, f"{speed / plain_speed:.2f}"])
+    table(["Setting", "Processor", "plain", "Ratio", "Speed", "plain", "Ratio"], rows)
+
+
+def counted(path):
+    """The instructions of a run by function, which stand in a file of callgrind."""
+    words = ["callgrind_annotate", "--threshold=100", path]
+    text = subprocess.run(words, capture_output=True, check=True).stdout.decode()
+    line = re.compile(r"^ *([\d,]+) \([^)]*\)  [^:\n]*:(.*?) \[[^\]\n]*\]$", re.M)
+    found = collections.Counter()
+    for count, name in line.findall(text):
+        found[re.sub("::<.*", "", name).removeprefix("__")] += int(count.replace(",", ""))
+    return found
+
+
+def watched(folder, end, path):
+    """A program that runs the other one under callgrind, and the file with what that counts."""
+    program, file = f"{folder}/{end}.sh", f"{folder}/{end}.out"
+    with open(program, "w", encoding="ascii") as it:
+        tool = f"valgrind --tool=callgrind --callgrind-out-file={file}"
+        it.write(f'#!/bin/sh\nexec {tool} {path} "$@" 2>/dev/null\n')
+    os.chmod(program, 0o755)
+    return program, file
+
+
+def under_callgrind(program, octets, zone, segment, end):
+    """The instructions by function of the station at this end of a transfer. The other one runs as
+    it does otherwise, so that either waits for as little as it can."""
+    settings = {**stations.PATIENT, "eof_time": 60, "zone": zone, "segment": segment}
+    with links.Link(program) as link:
+        slow, file = watched(link.folder, end, program.path)
+        paths = {end: slow, 3 - end: program.path}
+        words, started = [*link.puts(1, {"a": octets}), "--idle", "3", "--rate", "0"], []
+        for own, those in ((2, ["--inbox", "to", "--idle", "6", "--rate", "0"]), (1, words)):
+            link.program = types.SimpleNamespace(path=paths[own])
+            started.append(link.starts(own, those, settings))
+        for it in started:
+            it.ended()
+        link.program = program
+        return counted(file)
+
+
+def by_plain_stack(program, zone, segment, size):
+    """How many instructions plain_stack.c needs for a file, both ends together."""
+    with tempfile.TemporaryDirectory(dir=program.room) as folder:
+        plain = f"{folder}/plain_stack"
+        words = [os.environ.get("CC", "cc"), "-O3", "-Wall", "-Werror", "-o", plain]
+        subprocess.run([*words, f"{HERE}/plain_stack.c"], check=True)
+        slow, file = watched(folder, 0, plain)
+        subprocess.run([slow, str(zone), str(segment), str(size)], check=True, capture_output=True)
+        return sum(counted(file).values())
+
+
+def greatest(found, pdus):
+    """The functions that most instructions are of, with how many for a PDU."""
+    return ", ".join(f"`{it}` {count / pdus:,.0f}" for it, count in found.most_common(MOST_TOLD))
+
+
+def tell_instructions(program):
+    """The tables of instructions for a PDU, with the functions that most of them are of."""
+    rows, parts = [], []
+    for zone, segment, size in COUNTED:
+        octets, pdus = random.Random(45).randbytes(size), -(-size // segment)
+        ends = [under_callgrind(program, octets, zone, segment, end) for end in (1, 2)]
+        own, plain = [sum(it.values()) for it in ends], by_plain_stack(program, zone, segment, size)
+        row = [f"{zone:,}", f"{segment:,}", *(f"{it / pdus:,.0f}" for it in (*own, plain))]
+        rows.append([*row, f"{sum(own) / plain:.2f}"])
+        for title, found in zip(("sender", "receiver"), ends):
+            parts.append([f"{zone:,}, {segment:,}, {title}", greatest(found, pdus)])
+    table(["Zone", "Segment", "Sender", "Receiver", "`plain_stack.c`", "Ratio"], rows)
+    table(["Zone, segment, station", "Instructions of a PDU"], parts)
+
+
+def tell_turns(program):
+    """The table of turns."""
+    turns.preload(program)
+    rows = [*turns.both_ways(program), *turns.asked_for(program)]
+    table(["Load", "Longest turn", "over 1 ms", "over 5 ms", "over 10 ms"], rows)
+
+
+def tell_page(program):
+    """Prints the tables of docs/SPEED.md."""
+    tell_rows(program)
+    tell_instructions(program)
+    tell_turns(program)
+
+
 def main(words):
+    is_page = words[:1] == ["--page"]
+    words = words[1:] if is_page else words
     path = os.path.abspath(words[0] if words else f"{TOP}/crates/cfdp_node/out/cfdp_node")
     octets = random.Random(43).randbytes(int(float(words[1]) * 1e6) if words[1:] else 100_000_000)
     is_well, memory = True, "/dev/shm" if os.path.isdir("/dev/shm") else None
     with tempfile.TemporaryDirectory(dir=memory) as room:
         program = types.SimpleNamespace(path=path, room=room)
+        if is_page:
+            tell_page(program)
+            return 0
         for title, zone, segment, wanted in CASES:
             own, plain, ratio = compared(program, octets, zone, segment, RUNS)
             print(f"{title}, {datagrams(len(octets), zone, segment)[0]} datagrams")
