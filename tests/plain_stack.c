@@ -7,7 +7,7 @@
  * (CCSDS 133.0-B-2); the packets fill the zones of AOS frames end to end (CCSDS 732.0-B-4), and
  * each frame is copied, as a link has it. The other end reads the frame's header and its count,
  * joins the packets, reads each PDU's header, copies its octets into the file, and adds them to the
- * modular checksum, which the sender makes too. It does no more than that: there is one transaction,
+ * modular checksum, which the sender makes too. It does no more: there is one transaction,
  * no timer, and nothing that is lost or comes out of order is mended.
  *
  * It prints how many PDUs and frames there were. */
