@@ -42,7 +42,7 @@ RUNS = 3
 
 # The rows of the page's first table: what is set, the octets of a zone and of a segment, words of
 # the sender, and keys of both. Where frames are lost, times are in milliseconds.
-LOSSY = {"eof_time": 100, "nak_time": 100, "finished_time": 100, "inactivity_time": 100_000}
+LOSSY = {"eof_time": 20, "nak_time": 20, "finished_time": 20, "inactivity_time": 100_000}
 ROWS = (
     ("zone 2,040, segment 4,096", 2040, 4096, (), {}),
     ("the same, each 100th frame lost", 2040, 4096, ("--drop", "100"), LOSSY),
@@ -52,11 +52,12 @@ ROWS = (
 # How often each program of a row is run for the page: the best counts. And its file's octets.
 PAGE_RUNS, PAGE_SIZE = 9, 100_000_000
 
-# Of the page's table of instructions: the octets of a zone, of a segment and of the file.
-COUNTED = ((2040, 4096, 10_000_000), (256, 1024, 4_000_000), (256, 1, 40_000))
+# Of the page's table of instructions: the octets of a zone, of a segment and of the file. All its
+# frames fit into a socket, since a receiver is slow whose instructions are counted.
+COUNTED = ((2040, 4096, 1_638_400), (256, 1024, 1_024_000), (256, 1, 20_000))
 
 # So many functions are told of each.
-MOST_TOLD = 8
+MOST_TOLD = 6
 
 # How often tests/run tries each, where a datagram is lost.
 TRIES = 5
@@ -114,12 +115,23 @@ def by_stations(program, octets, zone, segment, more=(), keys=None, seconds=stat
     return Result(len(octets), ended - start, *spent)
 
 
+def wait_for(port):
+    """Waits until a socket has this port, for five seconds at most."""
+    end = time.monotonic() + 5
+    while time.monotonic() < end:
+        with open("/proc/net/udp", encoding="ascii") as it:
+            if f":{port:04X} " in it.read():
+                return
+        time.sleep(0.01)
+
+
 def run_plain(plain, folder, count, length, window):
     """How the plain program sends a file, and how many datagrams came."""
-    port = str(stations.free_ports(1)[0])
+    number = stations.free_ports(1)[0]
+    port = str(number)
     pipes = {"stdout": subprocess.PIPE, "cwd": folder}
     receiver = subprocess.Popen([plain, "receive", port, "b"], **pipes)
-    time.sleep(0.2)
+    wait_for(number)
     start = time.time()
     words = [plain, "send", port, "a", str(count), str(length), str(window)]
     sender = subprocess.Popen(words, **pipes)
@@ -237,12 +249,12 @@ def watched(folder, end, path):
 def under_callgrind(program, octets, zone, segment, end):
     """The instructions by function of the station at this end of a transfer. The other one runs as
     it does otherwise, so that either waits for as little as it can."""
-    settings = {**stations.PATIENT, "eof_time": 60, "zone": zone, "segment": segment}
+    settings = {**stations.PATIENT, "zone": zone, "segment": segment}
     with links.Link(program) as link:
         slow, file = watched(link.folder, end, program.path)
         paths = {end: slow, 3 - end: program.path}
-        words, started = [*link.puts(1, {"a": octets}), "--idle", "3", "--rate", "0"], []
-        for own, those in ((2, ["--inbox", "to", "--idle", "6", "--rate", "0"]), (1, words)):
+        words, started = [*link.puts(1, {"a": octets}), "--idle", "2", "--rate", "0"], []
+        for own, those in ((2, ["--inbox", "to", "--idle", "4", "--rate", "0"]), (1, words)):
             link.program = types.SimpleNamespace(path=paths[own])
             started.append(link.starts(own, those, settings))
         for it in started:
@@ -255,16 +267,22 @@ def by_plain_stack(program, zone, segment, size):
     """How many instructions plain_stack.c needs for a file, both ends together."""
     with tempfile.TemporaryDirectory(dir=program.room) as folder:
         plain = f"{folder}/plain_stack"
-        words = [os.environ.get("CC", "cc"), "-O3", "-Wall", "-Werror", "-o", plain]
+        words = [os.environ.get("CC", "cc"), "-O3", "-march=x86-64-v2", "-o", plain]
         subprocess.run([*words, f"{HERE}/plain_stack.c"], check=True)
         slow, file = watched(folder, 0, plain)
         subprocess.run([slow, str(zone), str(segment), str(size)], check=True, capture_output=True)
         return sum(counted(file).values())
 
 
+def short(name):
+    """The crate of a function, its type and its own name; of the C library the name alone."""
+    words = name.split("::")
+    return f"{words[0]} `{'::'.join(words[1:][-2:])}`" if words[1:] else f"`{name}`"
+
+
 def greatest(found, pdus):
     """The functions that most instructions are of, with how many for a PDU."""
-    return ", ".join(f"`{it}` {count / pdus:,.0f}" for it, count in found.most_common(MOST_TOLD))
+    return ", ".join(f"{short(it)} {count / pdus:,.0f}" for it, count in found.most_common(MOST_TOLD))
 
 
 def tell_instructions(program):
@@ -272,8 +290,14 @@ def tell_instructions(program):
     rows, parts = [], []
     for zone, segment, size in COUNTED:
         octets, pdus = random.Random(45).randbytes(size), -(-size // segment)
-        ends = [under_callgrind(program, octets, zone, segment, end) for end in (1, 2)]
-        own, plain = [sum(it.values()) for it in ends], by_plain_stack(program, zone, segment, size)
+        ends = [
+            under_callgrind(program, octets, zone, segment, end)
+            - under_callgrind(program, octets[:segment], zone, segment, end)
+            for end in (1, 2)
+        ]
+        plain = by_plain_stack(program, zone, segment, size)
+        plain -= by_plain_stack(program, zone, segment, segment)
+        own, pdus = [sum(it.values()) for it in ends], pdus - 1
         row = [f"{zone:,}", f"{segment:,}", *(f"{it / pdus:,.0f}" for it in (*own, plain))]
         rows.append([*row, f"{sum(own) / plain:.2f}"])
         for title, found in zip(("sender", "receiver"), ends):
