@@ -5,7 +5,7 @@
     tests/bindings.py --archive PATH ..     over another archive
     tests/bindings.py --program PATH ..     with another cfdp_node for the transfer over UDP
     tests/bindings.py --after 'A passed, B failed'    counts these in the last line
-    tests/bindings.py --figures             tells what the archive takes (docs/SPEED.md), no more
+    tests/bindings.py --figures             tells what the archive takes, no more
 
 Compares cfdp.h and ffi.rs with the crate's sources, and the archive's names with them; compiles the
 header, the examples, calls.c and what stands in bindings/*/tests without warnings; runs them, also
