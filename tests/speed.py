@@ -282,7 +282,8 @@ def short(name):
 
 def greatest(found, pdus):
     """The functions that most instructions are of, with how many for a PDU."""
-    return ", ".join(f"{short(it)} {count / pdus:,.0f}" for it, count in found.most_common(MOST_TOLD))
+    most = found.most_common(MOST_TOLD)
+    return ", ".join(f"{short(it)} {count / pdus:,.0f}" for it, count in most)
 
 
 def tell_instructions(program):

@@ -1,5 +1,5 @@
 #!/usr/bin/env python3
-"""Builds cfdp_node without proof and without the checks that a proof makes needless, to be measured.
+"""Builds cfdp_node without proof, and without the checks that one makes needless, to be measured.
 
     tests/unchecked.py FILE
 
