@@ -50,7 +50,7 @@ static void note(void)
 ssize_t recv(int fd, void *to, size_t count, int flags)
 {
     static ssize_t (*next)(int, void *, size_t, int);
-    static long before = -1, noted = 0;
+    static long before = -1, noted = -1;
     if (!next)
         next = NEXT("recv");
     long now = microseconds(), took = before < 0 ? 0 : now - before;
@@ -60,7 +60,7 @@ ssize_t recv(int fd, void *to, size_t count, int flags)
     over_10 += took > 10000;
     if (took > longest)
         longest = took;
-    if (now - noted > 100000) {
+    if (noted < 0 || took > 1000 || now - noted > 100000) {
         noted = now;
         note();
     }
