@@ -2,5 +2,6 @@ mod SameEntries
 mod Counts
 mod Noted
 mod Playing
+mod Ending
 mod Settling
 mod Running

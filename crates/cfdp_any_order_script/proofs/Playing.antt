@@ -1,13 +1,20 @@
 -- What came about at one of two stations, and calls that move no frame.
-use Rattle.std.proofs.Common.{◌≡◌, ℕ, List, [], ◌∷◌, ◌++◌, Bool, true, false, Option, None, Some, Result, Ok, Err, refl, sym, subst, ap, ◌∙◌}
+use Rattle.std.proofs.Common.{◌≡◌, ℕ, ◌-◌, length, inl, inr, ap₂, List, [], ◌∷◌, ◌++◌, Bool, true, false, Option, None, Some, Result, Ok, Err, refl, sym, subst, ap, ◌∙◌}
 use Rattle.std.specs.declared.alloc.AllocError.{AllocError}
 use Rattle.link_sim.specs.declared.side.Side.{Side}
 use Rattle.link_sim.specs.declared.side.Side.TheVariants.{One, Two}
 use Rattle.any_order.specs.Calls.{Call, other}
 use Rattle.any_order.specs.World.{Happened, WorldKept, side_of}
-use Rattle.cfdp_any_order_script.specs.Links.{Frames}
-use Rattle.cfdp_any_order_script.specs.Performing.{At, Calls, OnlyCalls, PartState, PlayState, part}
-use Rattle.cfdp_any_order_script.specs.Told.{opposite}
+use Rattle.aos_frame.specs.declared.config.Lane.{Lane}
+use Rattle.aos_frame.specs.declared.config.Lane.TheVariants.{Directives, Data}
+use Rattle.any_order.specs.Kept.{EndKept}
+use Rattle.any_order.specs.declared.answers.Delivered.{Delivered}
+use Rattle.any_order.specs.declared.answers.SentFrame.{SentFrame}
+use Rattle.any_order.specs.World.{deliver_calls}
+use Rattle.cfdp_any_order_script.specs.declared.answer.Answer.{Answer}
+use Rattle.cfdp_any_order_script.specs.Links.{Frames, IsBehind, made_of, made_since}
+use Rattle.cfdp_any_order_script.specs.Performing.{At, Calls, ComesFrom, OnlyCalls, PartState, PlayState, Sends, arrival_answer, behind_delivery, no_memory, part}
+use Rattle.cfdp_any_order_script.specs.Told.{kept_of, opposite}
 
 pub at_one : (s : Side) (Does : PartState → PartState → Type 0) (v old new : PlayState) → s ≡ One → v ≡ old → Does (part One v) (part One new) → new.two ≡ v.two → At s Does old new
 at_one s Does v old new is same does others = subst (λ t. At t Does old new) (sym is) (subst (λ p. At One Does p new) same (record { does = does; others = others }))
@@ -25,3 +32,31 @@ other_side Two = refl
 -- calls at the other station
 pub others_calls : (s : Side) (calls : List Call) (behind : Frames) (old new : PartState) → Happened (other (side_of s)) calls old.world new.world → new.frames ≡ behind → Calls (opposite s) calls behind old new
 others_calls s calls behind old new happened frames = record { happened = subst (λ t. Happened t calls old.world new.world) (other_side s) happened; frames = frames }
+
+abbrev pub frames : List SentFrame → List SentFrame → Frames
+frames waiting arrived = record { waiting = waiting; arrived = arrived }
+
+abbrev pub parted : WorldKept → Frames → PartState
+parted w f = record { world = w; frames = f }
+
+-- ---- frames that were made
+pub since : (old new : EndKept) (life first_directives directives first_data data : ℕ) → life ≡ length new.before → first_directives ≡ length old.latest.directives → directives ≡ length new.latest.directives →
+    first_data ≡ length old.latest.file_data → data ≡ length new.latest.file_data →
+    made_of life Directives first_directives (directives - first_directives) ++ made_of life Data first_data (data - first_data) ≡ made_since old new
+since old new life first_directives directives first_data data a b c d e = cc
+
+pub sends : (s : Side) (calls : List Call) (usually answer : Option Answer) (v w : WorldKept) (f : Frames) (made waiting arrived : List SentFrame) → answer ≡ usually → Happened (side_of s) calls v w →
+    made ≡ made_since (kept_of s v) (kept_of s w) → waiting ≡ f.waiting ++ made → arrived ≡ f.arrived → Sends s calls usually answer (parted v f) (parted w (frames waiting arrived))
+sends s calls usually answer v w f made waiting arrived same happened are waits stay =
+    inl (same, record { happened = happened; frames = ap₂ frames (waits ∙ ap (λ (m : List SentFrame). f.waiting ++ m) are) stay })
+
+pub sends_none : (s : Side) (calls : List Call) (usually answer : Option Answer) (v w : WorldKept) (f : Frames) (waiting arrived : List SentFrame) → answer ≡ Some no_memory → Happened (side_of s) calls v w →
+    waiting ≡ f.waiting → arrived ≡ f.arrived → Sends s calls usually answer (parted v f) (parted w (frames waiting arrived))
+sends_none s calls usually answer v w f waiting arrived same happened waits stay = inr (same, record { happened = happened; frames = ap₂ frames waits stay })
+
+-- ---- a frame that was to arrive
+pub comes : (none : Answer) (s : Side) (lane : Option Lane) (before place : ℕ) (frame : SentFrame) (by : Delivered) (answer : Option Answer) (v w : WorldKept) (f g : Frames) →
+    IsBehind lane before f.waiting place frame → answer ≡ arrival_answer by → Happened (other (side_of s)) (deliver_calls frame by) v w → g ≡ behind_delivery by frame place f →
+    ComesFrom none s lane before answer (parted v f) (parted w g)
+comes none s lane before place frame by answer v w f g there same happened are =
+    inr (inr (place, frame, by, there, same, others_calls s (deliver_calls frame by) (behind_delivery by frame place f) (parted v f) (parted w g) happened are))

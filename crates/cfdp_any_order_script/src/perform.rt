@@ -89,6 +89,7 @@ fn repeat_first(play: &mut Play<'_>, fate: Fate, from: Side, count: u64) -> Opti
 }
 
 /// The event of a turn of a settling.
+#[tactic(auto, using(crate::proofs::Ending::last_turn))]
 fn turn_event(turn: u8) -> Event
     ensures { result ≡ turn_event turn }
 {

@@ -1,13 +1,13 @@
 //! Two stations over any link, as a script drives them: the world, and which frames wait.
 ghost use Rattle.std.specs.FinMap as map;
-ghost use Rattle.std.specs.Prelude.{◌≡◌, ◌≤◌, IfOk};
+ghost use Rattle.std.specs.Prelude.{◌≡◌, ◌<◌, IfOk, Some, slice_get, vec_capacity, vec_len};
 ghost use Rattle.link_sim.specs.declared.side.Side.TheVariants as sides;
 ghost use Rattle.any_order.specs.World.{IsNewWorld, WorldKept};
 ghost use Rattle.cfdp_script.specs.Script.Outboxes.{outbox_of};
-ghost use Rattle.cfdp_any_order_script.specs.Links.{no_frames};
+ghost use Rattle.cfdp_any_order_script.specs.Links.{no_frames, shown};
 ghost use Rattle.cfdp_any_order_script.specs.Performing as answers;
 ghost use Rattle.cfdp_any_order_script.specs.Performing.{Asks, At, ComesAgain, ComesDamaged};
-ghost use Rattle.cfdp_any_order_script.specs.Performing.{ComesFrom, part_of};
+ghost use Rattle.cfdp_any_order_script.specs.Performing.{ComesFrom, behind_delivery, part_of};
 ghost use Rattle.cfdp_any_order_script.specs.Performing.{FlushesOnce, HappensOnce, Loses};
 ghost use Rattle.cfdp_any_order_script.specs.Performing.{PlayState, PollsOnce, StartsAnew, made_by};
 ghost use Rattle.link_sim.specs.declared.event.Event.TheVariants as events;
@@ -15,7 +15,7 @@ ghost use Rattle.link_sim.specs.declared.event.Event.TheVariants as events;
 use crate::answer::Answer;
 use crate::links::{Frames, arrived_back, waiting_behind};
 use crate::told::ToldWorld;
-use any_order::{Delivered, Restarted};
+use any_order::{Delivered, Restarted, SentFrame};
 use aos_frame::Lane;
 use cfdp_directives::Octets;
 use cfdp_entity::Request;
@@ -139,6 +139,22 @@ fn start_answer(started: Result<Restarted, AllocError>) -> Option<Answer>
     }
 }
 
+/// What becomes of a waiting frame that was to arrive: if it was taken, it waits no more, and is
+/// the last one that arrived.
+fn move_on(frames: &mut Frames, place: usize, frame: SentFrame, by: Delivered)
+    requires there { slice_get frames.old.waiting.items place ≡ Some frame }
+    requires room { vec_len frames.old.arrived < vec_capacity frames.old.arrived }
+    ensures { shown frames.new ≡ behind_delivery by frame place (shown frames.old) }
+{
+    match by {
+        Delivered::Taken => {
+            let _ = frames.waiting.remove(place);
+            frames.arrived.push_reserved(frame);
+        }
+        Delivered::NoSuchFrame | Delivered::TooFar => {}
+    }
+}
+
 /// A waiting frame of a station arrives at the other one, if there is one with so many of its lane,
 /// or of both, in front of it; else this is answered.
 fn arrive(
@@ -159,10 +175,7 @@ fn arrive(
         return Some(Answer::NO_MEMORY);
     }
     let by = world.deliver(from, frame);
-    if by == Delivered::Taken {
-        let _ = frames.waiting.remove(place);
-        frames.arrived.push_reserved(frame);
-    }
+    move_on(frames, place, frame, by);
     arrival_answer(by)
 }
 
@@ -233,9 +246,9 @@ fn poll(alloc: Global, world: &mut ToldWorld<'_>, frames: &mut Frames, side: Sid
 {
     let before = world.made(side);
     let polled = world.poll(side);
-    if frames.note(alloc, before, world.made(side)).is_err() {
+    let Ok(_any) = frames.note(alloc, before, world.made(side)) else {
         return Some(Answer::NO_MEMORY);
-    }
+    };
     poll_answer(polled)
 }
 
