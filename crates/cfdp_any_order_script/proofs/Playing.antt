@@ -40,10 +40,10 @@ abbrev pub parted : WorldKept → Frames → PartState
 parted w f = record { world = w; frames = f }
 
 -- ---- frames that were made
-pub since : (old new : EndKept) (life first_directives directives first_data data : ℕ) → life ≡ length new.before → first_directives ≡ length old.latest.directives → directives ≡ length new.latest.directives →
-    first_data ≡ length old.latest.file_data → data ≡ length new.latest.file_data →
-    made_of life Directives first_directives (directives - first_directives) ++ made_of life Data first_data (data - first_data) ≡ made_since old new
-since old new life first_directives directives first_data data a b c d e = cc
+pub since : (old new : EndKept) (life first_directives directives first_data pdus : ℕ) → life ≡ length new.before → first_directives ≡ length old.latest.directives → directives ≡ length new.latest.directives →
+    first_data ≡ length old.latest.file_data → pdus ≡ length new.latest.file_data →
+    made_of life Directives first_directives (directives - first_directives) ++ made_of life Data first_data (pdus - first_data) ≡ made_since old new
+since old new life first_directives directives first_data pdus a b c d e = cc
 
 pub sends : (s : Side) (calls : List Call) (usually answer : Option Answer) (v w : WorldKept) (f : Frames) (made waiting arrived : List SentFrame) → answer ≡ usually → Happened (side_of s) calls v w →
     made ≡ made_since (kept_of s v) (kept_of s w) → waiting ≡ f.waiting ++ made → arrived ≡ f.arrived → Sends s calls usually answer (parted v f) (parted w (frames waiting arrived))

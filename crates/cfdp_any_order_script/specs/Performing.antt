@@ -68,15 +68,15 @@ part s p = record { world = p.world; frames = frames_of s p }
 
 -- This came about in the world and with the frames of a station; those of the other are as before.
 pub record At (s : Side) (Does : PartState → PartState → Type 0) (old new : PlayState) : Type 0
-    where
-  pub does : Does (part s old) (part s new)
-  pub others : frames_of (opposite s) new ≡ frames_of (opposite s) old
+  where
+    pub does : Does (part s old) (part s new)
+    pub others : frames_of (opposite s) new ≡ frames_of (opposite s) old
 
 -- These calls were made at a station, and then the frames were these.
 pub record Calls (at : Side) (calls : List Call) (behind : Frames) (old new : PartState) : Type 0
-    where
-  pub happened : Happened (side_of at) calls old.world new.world
-  pub frames : new.frames ≡ behind
+  where
+    pub happened : Happened (side_of at) calls old.world new.world
+    pub frames : new.frames ≡ behind
 
 -- These calls were made, and no frame moved on the link.
 pub record OnlyCalls (at : Side) (calls : List Call) (old new : PlayState) : Type 0 where
@@ -141,9 +141,11 @@ IsNotDone why answer old new = (answer ≡ Some why) × (new ≡ old)
 abbrev pub Sends : Side → List Call → (usually answer : Option Answer) → (old new : PartState)
     → Type 0
 Sends s calls usually answer old new =
-    ((answer ≡ usually) × Calls s calls (record { waiting = old.frames.waiting
-    ++ made_since (kept_of s old.world) (kept_of s new.world);
-    arrived = old.frames.arrived }) old new)
+    ((answer ≡ usually) × Calls s calls (record {
+      waiting = old.frames.waiting
+          ++ made_since (kept_of s old.world) (kept_of s new.world);
+      arrived = old.frames.arrived;
+    }) old new)
     ⊎ ((answer ≡ Some no_memory) × Calls s calls old.frames old new)
 
 abbrev pub PollsOnce : Side → Option Answer → (old new : PartState) → Type 0

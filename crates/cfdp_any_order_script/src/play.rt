@@ -77,9 +77,7 @@ fn put_answer(put: Result<TransactionId, PutError>) -> Option<Answer>
 {
     match put {
         Ok(_) => None,
-        Err(error) => Some(Answer::Usual(cfdp_report::Answer::Refused(Refusal::Put(
-            error,
-        )))),
+        Err(error) => Some(Answer::Usual(cfdp_report::Answer::Refused(Refusal::Put(error)))),
     }
 }
 
@@ -89,9 +87,7 @@ fn request_answer(called: Result<(), RequestError>) -> Option<Answer>
 {
     match called {
         Ok(()) => None,
-        Err(error) => Some(Answer::Usual(cfdp_report::Answer::Refused(Refusal::Call(
-            error,
-        )))),
+        Err(error) => Some(Answer::Usual(cfdp_report::Answer::Refused(Refusal::Call(error)))),
     }
 }
 
