@@ -25,7 +25,6 @@ import time
 import types
 import urllib.parse
 
-import control
 from browser import Browser, path_of_browser
 from console_page import FAINT, NAMED
 
@@ -34,6 +33,10 @@ TOP = os.path.dirname(HERE)
 
 # For how many seconds an answer is waited for, and something that the page is to show.
 PATIENCE, SOON = 180, 60
+
+# From where clients connect: so their ports, of which there are hundreds, are none of those that
+# other tests need.
+OTHER = ("127.0.0.9", 0)
 
 # The most connections, and the most octets of a request's body.
 MOST_OPEN, MOST_BODY = 16, 65536
@@ -63,12 +66,12 @@ class Served:
     """The program as it serves its page, and its port."""
 
     def __init__(self, program):
-        self.port = control.free_port()
-        self.own = f"http://127.0.0.1:{self.port}"
-        call = [program.path, "play", "--listen", f"127.0.0.1:{self.port}"]
+        call = [program.path, "play", "--listen", "127.0.0.1:0"]
         self.process = subprocess.Popen(call, stdin=subprocess.DEVNULL, stdout=subprocess.PIPE,
                                         stderr=subprocess.PIPE)
         self.told = self.process.stdout.readline().decode()
+        self.own = self.told.strip().removesuffix("/")
+        self.port = int(self.own.rpartition(":")[2])
 
     def __enter__(self):
         return self
@@ -79,7 +82,7 @@ class Served:
 
     def asks(self, method, path, headers=None, body=None):
         """The status of an answer, its fields and its body."""
-        it = http.client.HTTPConnection("127.0.0.1", self.port, timeout=PATIENCE)
+        it = http.client.HTTPConnection("127.0.0.1", self.port, PATIENCE, OTHER)
         with contextlib.closing(it):
             it.request(method, path, body=body, headers=headers or {})
             answer = it.getresponse()
@@ -180,7 +183,7 @@ def asked_mistakes(program):
     """What is wrong with who may ask for what."""
     own = {"Origin": None}
     with Served(program) as it:
-        if it.told != f"{it.own}/\n":
+        if not re.fullmatch(r"http://127\.0\.0\.1:[1-9]\d*/\n", it.told):
             yield f"it tells {it.told}"
         own = {"Origin": it.own}
         there = f"127.0.0.1:{it.port}"
@@ -226,9 +229,10 @@ def head_mistakes(it):
 
 def crowd_mistakes(it):
     """What is wrong where more connections come than it takes: one goes, and the next is served."""
-    held = [socket.create_connection(("127.0.0.1", it.port)) for _ in range(MOST_OPEN)]
+    held = [socket.create_connection(("127.0.0.1", it.port), None, OTHER)
+            for _ in range(MOST_OPEN)]
     time.sleep(0.5)
-    with socket.create_connection(("127.0.0.1", it.port), timeout=1) as late:
+    with socket.create_connection(("127.0.0.1", it.port), 1, OTHER) as late:
         late.sendall(f"GET / HTTP/1.1\r\nHost: {it.own[7:]}\r\n\r\n".encode())
         with contextlib.suppress(TimeoutError):
             yield f"one more than {MOST_OPEN} is answered {late.recv(20)}"
@@ -244,11 +248,12 @@ def slow_mistakes(program):
     """What is wrong where all connections are taken by such as ask for nothing, ask for half of
     something, or go on asking slowly: these are left, and the next one is served."""
     with Served(program) as it:
-        held = [socket.create_connection(("127.0.0.1", it.port)) for _ in range(MOST_OPEN)]
+        held = [socket.create_connection(("127.0.0.1", it.port), None, OTHER)
+            for _ in range(MOST_OPEN)]
         for one in held[4:]:
             one.sendall(b"POST /run HTTP/1.1\r\nHost: 127.0.0.1\r\nContent-Length: 60000\r\n\r\n")
         begun = time.monotonic()
-        with socket.create_connection(("127.0.0.1", it.port), timeout=0.4) as late:
+        with socket.create_connection(("127.0.0.1", it.port), 0.4, OTHER) as late:
             late.sendall(f"GET / HTTP/1.1\r\nHost: {it.own[7:]}\r\n\r\n".encode())
             found = b""
             while not found and time.monotonic() < begun + 3 * LEFT_AFTER:
@@ -275,7 +280,7 @@ def gone_mistakes(it):
     stop, count = time.monotonic() + 3, 0
     while time.monotonic() < stop:
         with contextlib.suppress(OSError):
-            with socket.create_connection(("127.0.0.1", it.port), timeout=1) as one:
+            with socket.create_connection(("127.0.0.1", it.port), 1, OTHER) as one:
                 one.setsockopt(socket.SOL_SOCKET, socket.SO_LINGER, struct.pack("ii", 1, 0))
                 one.sendall(words[count % len(words)])
         count += 1
@@ -290,10 +295,10 @@ def gone_mistakes(it):
 
 def address_mistakes(program):
     """What is wrong with addresses that can't be had."""
-    port = control.free_port()
     with socket.socket() as taken:
-        taken.bind(("127.0.0.1", port))
+        taken.bind(("127.0.0.1", 0))
         taken.listen()
+        port = taken.getsockname()[1]
         for address, status, words in ((f"0.0.0.0:{port}", 2, "this machine alone"),
                                        (f"[::]:{port}", 2, "this machine alone"),
                                        (f"127.0.0.1:{port}", 3, "in use"),
