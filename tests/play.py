@@ -25,6 +25,7 @@ import time
 import types
 import urllib.parse
 
+import any_order
 from browser import Browser, path_of_browser
 from console_page import FAINT, NAMED
 
@@ -115,11 +116,18 @@ def scripts():
     for path in sorted(glob.glob(f"{HERE}/rows/*.rows")):
         for row in module.rows_of(path):
             is_plain = not (row.faults or row.files or row.there or row.before or row.is_swept)
-            if is_plain and row.words == ["sim"]:
+            if is_plain and row.words == ["sim"] and is_shown("".join(row.given)):
                 yield row.place, "".join(row.given), row
     for path in sorted(glob.glob(f"{TOP}/examples/*.script")):
         with open(path, encoding="ascii") as it:
-            yield os.path.basename(path), it.read(), None
+            script = it.read()
+        if is_shown(script):
+            yield os.path.basename(path), script, None
+
+
+def is_shown(script):
+    """Whether the page's world has all that a script asks for."""
+    return not any_order.is_of_any_order(script)
 
 
 def same_mistakes(program):
@@ -222,9 +230,10 @@ def head_mistakes(it):
     if re.search(r"innerHTML|outerHTML|insertAdjacentHTML|document\.write|eval\(", page):
         yield "the page makes markup of texts"
     for path in glob.glob(f"{TOP}/examples/*.script"):
-        with open(path, encoding="ascii") as script:
-            if script.read().replace("`", "\\`") not in page:
-                yield f"the page hasn't {os.path.basename(path)} as it is"
+        with open(path, encoding="ascii") as it:
+            script = it.read()
+        if is_shown(script) and script.replace("`", "\\`") not in page:
+            yield f"the page hasn't {os.path.basename(path)} as it is"
 
 
 def crowd_mistakes(it):

@@ -10,5 +10,6 @@ mod Numbers
 pub mod Coming
 mod Happening
 pub mod Leading
+mod Onward
 mod Sources
 mod Beginning

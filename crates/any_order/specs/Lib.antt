@@ -3,3 +3,4 @@ pub mod Promise
 pub mod Kept
 pub mod Refusing
 pub mod World
+pub mod Onward

@@ -1,11 +1,12 @@
 //! The law, the contract of a function that does nothing.
-ghost use Rattle.std.specs.Prelude.{◌≡◌, ℕ, List, []};
+ghost use Rattle.std.specs.Prelude.{◌≡◌, ◌∷◌, ℕ, List, []};
 ghost use Rattle.cfdp_header.specs.Files.{FileMap};
 ghost use Rattle.any_order.specs.Calls.{AreJoined, Event, Happen, IsNew, Pair, Setup, Side, at};
 ghost use Rattle.any_order.specs.Calls.{setup_of};
-ghost use Rattle.any_order.specs.Calls.{Call};
+ghost use Rattle.any_order.specs.Calls.{Call, Restarts, other};
+ghost use Rattle.any_order.specs.Onward.{AreNoStarts, BeginsAnew, GoesOn};
 ghost use Rattle.any_order.specs.Promise.{HoldsAt};
-ghost use Rattle.any_order.specs.World.{Happened, KeepsPromise, WorldKept, sources_at};
+ghost use Rattle.any_order.specs.World.{Happened, KeepsPromise, WorldKept, kept_at, sources_at};
 
 use cfdp_entity::{an_entity_goes_on, an_entity_keeps_the_truth, an_entity_sends_the_truth};
 use link_stack::what_comes_up_was_put_in_once;
@@ -42,6 +43,22 @@ pub fn the_promise_holds_in_any_order()
 pub fn the_files_to_send_stay()
     ensures { (side : Side) (calls : List Call) (old new : WorldKept) → KeepsPromise old →
         Happened side calls old new → (s : Side) → sources_at s new ≡ sources_at s old }
+{
+    an_entity_keeps_the_truth();
+    an_entity_goes_on();
+    an_entity_sends_the_truth();
+}
+
+/// What was told and sent in the lives before stays, and no indication is let go, whatever is called:
+/// a start makes the life that a station had the last of those before.
+pub fn lives_stay()
+    ensures calls { (side : Side) (calls : List Call) (old new : WorldKept) → KeepsPromise old →
+        Happened side calls old new → AreNoStarts calls →
+        (s : Side) → GoesOn (kept_at s old) (kept_at s new) }
+    ensures start { (side : Side) (first number : ℕ) (old new : WorldKept) → KeepsPromise old →
+        Happened side (Restarts first number ∷ []) old new →
+        BeginsAnew (kept_at side old) (kept_at side new)
+        × GoesOn (kept_at (other side) old) (kept_at (other side) new) }
 {
     an_entity_keeps_the_truth();
     an_entity_goes_on();

@@ -3,7 +3,7 @@
 //!
 //! Clean completion and recovery are promises of `link_sim`, whose worlds keep the order.
 //!
-//! Tested by nothing yet: what it promises is proved.
+//! Tested by `tests/rows/any_order.rows` and `tests/any_order.py`, through the program above.
 #![tactic(auto)]
 
 mod answers;
@@ -14,6 +14,6 @@ mod unordered;
 mod world;
 
 pub use answers::{Delivered, Restarted, SentFrame};
-pub use laws::{the_files_to_send_stay, the_promise_holds_in_any_order};
+pub use laws::{lives_stay, the_files_to_send_stay, the_promise_holds_in_any_order};
 pub use life::LifeFrames;
 pub use unordered::UnorderedWorld;

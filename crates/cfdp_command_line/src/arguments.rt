@@ -111,6 +111,10 @@ Then, what happens:
   settle                both poll and flush and all arrives, until nothing is due
   recover               settle, then tick the station whose timer is next, again
                         and again, until no timer but for inactivity is left
+With one of these the link keeps no order, and nothing can be shown:
+  overtake S [LANE] N   a frame arrives before the N that S sent before it
+  repeat S [LANE] N     the frame of S that arrived N ago (1: the last) comes again
+  restart S             S starts anew: it keeps its files, and no transaction
 
 Settings, with their defaults:
 ";
@@ -126,6 +130,7 @@ puts were completed. A command that could not do its work is told as
   line N NotDamaged     the other station would not see that it is damaged
   line N NoMemory       or StoreFailed, TableFull: it ended early
   line N StillArmed     after 24576 ticks of recover a timer is left
+  line N NoSuchFrame    no such frame waits, or has arrived
 Conditions, as in 'fault ID 7': 0 none, 1 no ACK came, 4 the store failed,
 5 checksum, 6 size, 7 NAKs were of no use, 8 silence, 11 unknown checksum type,
 14 suspended, 15 cancelled. --explain tells them in words.
@@ -151,8 +156,10 @@ Example:
 const DUMP_HELP: &str = "\
 Input, from FILE or standard input: a PDU or a frame a line, as pairs of
 hexadecimal digits of either case, with spaces between or not, and with 0x in
-front of a word or not; or a capture, pcap or pcapng, in which each UDP datagram
-has one, or with link types 147 to 162 each packet; at most 67,108,864 octets.
+front of a word or not; or one in several lines with offsets, as xxd, hexdump -C
+and Wireshark write them, with an empty line between two; or a capture, pcap or
+pcapng, in which each UDP datagram has one, or with link types 147 to 162 each
+packet; at most 67,108,864 octets.
 Output: a line for each; ID is the source and the number of the transaction.
   data ID OFFSET LENGTH
   metadata ID CHECKSUM-TYPE SIZE SRC DST
@@ -201,6 +208,11 @@ Exit status: 0 whatever the lines say, 2 bad arguments, 3 a failed read or
 write, or no memory (told on standard error).
 
 Example, which prints 'eof 1:1 0 D7656C6C 5':
+  echo 20000A1300010000000100020400D7656C6C00000005 | cfdp_node dump pdus";
+
+// What is said where KIND is none.
+const NO_KIND: &str = "\
+KIND says what each line of the input is: pdus or frames. An example:
   echo 20000A1300010000000100020400D7656C6C00000005 | cfdp_node dump pdus";
 
 const ASK_HELP: &str = "\
@@ -319,19 +331,50 @@ fn parse_by<'a>(
 {
     match matched(alloc, command, words)? {
         Some(request) => Ok(request),
-        None => Err(command.error(ErrorKind::InvalidValue, misfit(words))?),
+        None => Err(misfit(alloc, words)?),
     }
 }
 
-/// What the words have to say in the place of one that says nothing. The first is the program's
-/// name, the second that of a command.
-fn misfit(words: &[String]) -> &'static str {
+/// What is wrong with words that fit the grammar but for KIND, a carrier or a unit, with the usage
+/// of their command. The first is the program's name, the second that of a command.
+///
+/// # Errors
+///
+/// `AllocError` where there is no memory.
+fn misfit(alloc: Global, words: &[String]) -> Result<Error, AllocError>
+    ensures { IfOk result (λ e. kind_of e ≡ ErrorKind.InvalidValue) }
+{
     match words {
-        [_, command, ..] if command.as_str() == "station" => {
-            "--carrier is frames, packets or pdus, and --unit is s or ms"
-        }
-        _ => "KIND is pdus or frames: cfdp_node dump KIND [FILE]",
+        [_, command, ..] if command.as_str() == "station" => station_misfit(alloc),
+        _ => dump_misfit(alloc),
     }
+}
+
+/// What is wrong with words of `station` whose carrier or unit is none.
+///
+/// # Errors
+///
+/// `AllocError` where there is no memory.
+fn station_misfit(alloc: Global) -> Result<Error, AllocError>
+    ensures { IfOk result (λ e. kind_of e ≡ ErrorKind.InvalidValue) }
+{
+    let mut station = station_command(alloc)?.bin_name("cfdp_node station")?;
+    station.error(
+        ErrorKind::InvalidValue,
+        "--carrier is frames, packets or pdus, and --unit is s or ms",
+    )
+}
+
+/// What is wrong with words of `dump` whose KIND is none.
+///
+/// # Errors
+///
+/// `AllocError` where there is no memory.
+fn dump_misfit(alloc: Global) -> Result<Error, AllocError>
+    ensures { IfOk result (λ e. kind_of e ≡ ErrorKind.InvalidValue) }
+{
+    let mut dump = dump_command(alloc)?.bin_name("cfdp_node dump")?;
+    dump.error(ErrorKind::InvalidValue, NO_KIND)
 }
 
 /// What these words ask for by the program's grammar, `None` where KIND, a carrier or a unit is

@@ -4,7 +4,8 @@ ghost use Rattle.std.specs.Result.{result_ok};
 ghost use Rattle.cfdp_command_line.specs.Sets.{CannotBeSet, IsSetBy, loop_settings, set_all, set_by};
 
 use cfdp_report::{
-    Hint, LineError, Nearest, Quote, Setting, Settings, consider_keys, parse_number, parse_setting,
+    Hint, LineError, Nearest, NumberRange, Quote, Setting, Settings, consider_keys, parse_number,
+    parse_setting,
 };
 use link_sim::WorldConfig;
 use std::alloc::{AllocError, Global};
@@ -19,6 +20,8 @@ pub enum SetError<'a> {
     Number { key: &'a str, value: &'a str },
     /// The value of this setting is out of its range.
     OutOfRange(Setting),
+    /// The number of a first put is none of these, which its octets can have.
+    WideNumber(NumberRange),
     /// The stations can't be set up so.
     Misfit,
 }
@@ -37,6 +40,10 @@ impl SetError<'_> {
             }
             SetError::OutOfRange(setting) => {
                 let (key, range) = (setting.key(), setting.range());
+                eprintln!(rt; "error: {key} is out of its range, {range}")
+            }
+            SetError::WideNumber(range) => {
+                let key = Setting::FirstNumber.key();
                 eprintln!(rt; "error: {key} is out of its range, {range}")
             }
             SetError::Misfit => eprintln!(rt; "error: the stations can't be set up so"),
@@ -96,8 +103,11 @@ pub fn configuration(words: &[String]) -> Result<Valid<WorldConfig>, SetError<'_
 
 /// Why no stations can be set up by these settings.
 fn misfit<'a>(settings: &Settings) -> SetError<'a> {
-    match settings.out_of_range() {
-        Some(setting) => SetError::OutOfRange(setting),
+    if let Some(setting) = settings.out_of_range() {
+        return SetError::OutOfRange(setting);
+    }
+    match settings.wide_number() {
+        Some(range) => SetError::WideNumber(range),
         None => SetError::Misfit,
     }
 }

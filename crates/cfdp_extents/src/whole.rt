@@ -20,6 +20,8 @@ pub(crate) fn first_at(
 {
     match last {
         Some(range) if range.0 <= offset => { if offset <= range.1 { Some(range) } else { None } }
+        // A set of one range at most is mostly asked, and this is then the faster answer.
+        _ if ranges.is_empty() => last,
         _ => match range_from(ranges, offset) {
             Some(range) => Some(range),
             None => last,

@@ -1,12 +1,14 @@
 -- How lines of a log are made up and written.
-use Rattle.std.proofs.Common.{◌≡◌, ◌+◌, ◌-◌, ℕ, List, [], ◌∷◌, ◌++◌, Option, Result, Ok, Err, ap, append-nil, append_assoc, arith, length, length-append, take, sym, subst, ◌∙◌}
+use Rattle.std.proofs.Common.{◌≡◌, ◌+◌, ◌-◌, ℕ, List, [], ◌∷◌, ◌++◌, Option, None, Some, false, Result, Ok, Err, ap, append-nil, append_assoc, arith, length, length-append, take, sym, subst, ◌∙◌}
 use Rattle.std.proofs.lemmas.List.{take_at}
-use Rattle.std.specs.Io.KnownBytes.{Appends}
+use Rattle.std.specs.Io.KnownBytes.{Appends, Keeps}
+use Rattle.std.proofs.KnownBytes.{Appends-kept}
 use Rattle.std.specs.Result.{OnOk}
 use Rattle.cfdp_report.specs.Report.Lines.{count_line}
 use Rattle.cfdp_host.specs.declared.journal.style.Style.{Style}
-use Rattle.cfdp_host.specs.declared.journal.style.Style.TheVariants.{Text}
-use Rattle.cfdp_host.specs.Journal.Lines.{Completes, IsDressed, WritesAs, WritesDressed, count_body}
+use Rattle.cfdp_host.specs.declared.journal.style.Style.TheVariants.{Plain, Text, Json}
+use Rattle.cfdp_host.specs.Journal.Lines.{Entry, Answers, Tells, Completes, Notes, IsDressed, WritesAs, WritesDressed, count_body}
+use Rattle.cfdp_host.specs.Journal.Written.{JournalState, Logs}
 
 -- ---- results
 pub ok-map : {A E : Type 0} (r : Result A E) (P Q : Type 0) → (P → Q) → OnOk r P → OnOk r Q
@@ -49,3 +51,22 @@ end_told r style own complete asked front line old new is made written =
     (ok-map r (Appends old new line) (WritesDressed (count_body complete asked) old new)
     (λ w. record { line = line; dressed = line_ends front (count_body complete asked) line made; written = w })
     written)
+
+-- ---- what is written out
+-- what was written stays so
+pub written_kept : (own : ℕ) (style : Style) (entry : Entry) (old mid new : Option (List ℕ)) → WritesAs own style entry old mid → Keeps mid new → WritesAs own style entry old new
+written_kept own Plain entry old mid new written kept = Appends-kept _ _ _ _ written kept
+written_kept own Text (Answers number None) old mid new written kept = tt
+written_kept own Text (Answers number (Some answer)) old mid new written kept = record { line = written.line; dressed = written.dressed; written = Appends-kept _ _ _ _ written.written kept }
+written_kept own Text (Tells indication) old mid new written kept = record { line = written.line; dressed = written.dressed; written = Appends-kept _ _ _ _ written.written kept }
+written_kept own Text (Completes complete asked) old mid new written kept = record { line = written.line; dressed = written.dressed; written = Appends-kept _ _ _ _ written.written kept }
+written_kept own Text Notes old mid new written kept = tt
+written_kept own (Json has_time) entry old mid new written kept = tt
+
+pub logs_kept : (entry : Entry) (old mid new : JournalState) → Logs entry old mid → new.own ≡ mid.own → new.style ≡ mid.style → Keeps mid.written new.written → (new.has_failed ≡ false → mid.has_failed ≡ false) → Logs entry old new
+logs_kept entry old mid new logs own style kept before = record {
+  own = own ∙ logs.own;
+  style = style ∙ logs.style;
+  before = λ no. logs.before (before no);
+  written = λ no. written_kept old.own old.style entry old.written mid.written new.written (logs.written (before no)) kept;
+}

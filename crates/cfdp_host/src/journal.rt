@@ -43,8 +43,9 @@ pub struct JournalSetup<'a> {
     pub gaps: &'a FrameGaps,
 }
 
-/// The log of a station, and what is known of its transactions. What a call writes has left the
-/// buffer of the writer when it returns. Once the writer has failed, nothing more is written.
+/// The log of a station, and what is known of its transactions. What calls write may lie in the
+/// buffer of the writer until [`looks_at`](Self::looks_at) or [`ends`](Self::ends): so the lines of
+/// a turn leave it by few calls of the system. Once the writer has failed, nothing more is written.
 #[derive(Drop)]
 pub struct Journal<'a, V: Write + Drop> {
     setup: JournalSetup<'a>,
@@ -80,7 +81,8 @@ struct RefusedPut {
 }
 
 impl<'a, V: Write + Drop> Journal<'a, V> {
-    ghost use Rattle.std.specs.Prelude.{◌≡◌, ◌||◌, IfOk, Some};
+    ghost use Rattle.std.specs.Io.KnownBytes.{Keeps};
+    ghost use Rattle.std.specs.Prelude.{◌≡◌, ◌||◌, IfOk, Some, false};
     ghost use Rattle.cfdp_report.specs.Exit.{run_exit};
     ghost use Rattle.cfdp_host.specs.Journal.Lines.{Answers, Completes, Notes, Tells};
     ghost use Rattle.cfdp_host.specs.Journal.Lines.{refusal_answer};
@@ -212,6 +214,15 @@ impl<'a, V: Write + Drop> Journal<'a, V> {
             self.new }
         ensures totals { self.new.totals ≡ self.old.totals }
     {
+        self.tells_end(station);
+        self.write_out();
+    }
+
+    fn tells_end<O: Outbox, I: Inbox>(&mut self, station: &Station<O, I>)
+        ensures logs { Logs (Completes self.old.totals.complete self.old.totals.asked) self.old
+            self.new }
+        ensures totals { self.new.totals ≡ self.old.totals }
+    {
         if self.has_failed {
             return;
         }
@@ -227,12 +238,28 @@ impl<'a, V: Write + Drop> Journal<'a, V> {
         self.has_failed = told.is_err();
     }
 
-    /// Lets go of what is known of transactions that are over and closed, once that is much. Who
-    /// calls it now and then has a log whose memory follows what is open.
+    /// Writes out what was told. Lets go of what is known of transactions that are over and closed,
+    /// once that is much. Who calls it between turns has a log that is at hand, and whose memory
+    /// follows what is open.
     pub fn looks_at<O: Outbox, I: Inbox>(&mut self, station: &Station<O, I>)
-        ensures { self.new ≡ self.old }
+        ensures logs { Logs Notes self.old self.new }
+        ensures totals { self.new.totals ≡ self.old.totals }
     {
+        self.write_out();
         self.register.lets_go(station);
+    }
+
+    /// Has what was told leave the buffer of the writer.
+    fn write_out(&mut self)
+        ensures own { self.new.own ≡ self.old.own }
+        ensures style { self.new.style ≡ self.old.style }
+        ensures totals { self.new.totals ≡ self.old.totals }
+        ensures kept { Keeps self.old.written self.new.written }
+        ensures before { self.new.has_failed ≡ false → self.old.has_failed ≡ false }
+    {
+        if !self.has_failed {
+            self.has_failed = self.out.flush().is_err();
+        }
     }
 
     /// Whether the writer has failed.

@@ -4,7 +4,7 @@
 /// checksums (SHA-256 of what stands between their tags), and it asks nobody but this program.
 pub const POLICY: &str = "default-src 'none'; connect-src 'self'; img-src data:; \
     style-src 'sha256-+3fUDDRyN+MFSZaeEB4jEf//+SIuqJR2s5wu4SJMySs='; \
-    script-src 'sha256-i8xUCKQwXZvos+/BuPxSmLdUv8jA6y+PZJ3kqyAdStM='; \
+    script-src 'sha256-mE4zGVZGzcW+59O0wRO2SOOd0nkoKtYGkOCnLvwNmy8='; \
     base-uri 'none'; form-action 'none'; frame-ancestors 'none'";
 
 /// The page, in HTML.
@@ -436,7 +436,16 @@ function reasonOf(status, words) {
   return words || "the script has more than 65,536 octets; `cfdp_node sim` runs it";
 }
 
+// What no station and no frame does in the world that this page shows.
+const disorder = /^(overtake|repeat|restart) /m;
+
 async function runOf(text) {
+  const verb = disorder.exec(text)?.[1];
+  if (verb) {
+    const error = `${verb}: here frames keep their order, and no station starts anew; `
+      + "`cfdp_node sim` runs this script";
+    return {error, status: 2, report: "", seen: null};
+  }
   const answer = await fetch("/run", {method: "POST", body: text});
   if (answer.ok) return answer.json();
   const error = reasonOf(answer.status, await answer.text());

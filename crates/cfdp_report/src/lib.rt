@@ -30,7 +30,9 @@ pub use report::answer::{Answer, Answered};
 pub use report::name::Name;
 pub use report::{own_completions, write_answer, write_answers, write_indications};
 pub use settings::Settings;
-pub use settings::table::{Keys, Range, Setting, SettingsHelp, consider_keys, parse_setting};
+pub use settings::table::{
+    Keys, NumberRange, Range, Setting, SettingsHelp, consider_keys, parse_setting,
+};
 pub use watch::kept::Kept;
 pub use watch::onlooker::{Onlooker, Summary};
 pub use watch::progress::{Progress, Reception};

@@ -2,7 +2,7 @@
 ghost use Rattle.std.specs.Prelude.{◌≡◌};
 
 use crate::report::name::Name;
-use crate::settings::table::{Keys, Setting};
+use crate::settings::table::{Keys, NumberRange, Setting};
 use link_sim::Side;
 use std::fmt;
 
@@ -161,8 +161,14 @@ pub enum LineError {
     GivenAgain { at: Side, line: usize },
     /// The last `set` leaves a setting out of its range. This is the line that set that one.
     OutOfRange { setting: Setting, line: usize },
+    /// The last `set` leaves a number of a first put that its octets can't have. These are the
+    /// numbers that they can have, and the line that set that one.
+    WideNumber { range: NumberRange, line: usize },
     /// The last `set` leaves a configuration that isn't valid.
     BadConfiguration,
+    /// Something is to be shown of the run, and the command is none of a link that keeps the order
+    /// of its frames: nobody can look on there.
+    Unshown,
 }
 
 impl fmt::Display for LineError {
@@ -204,9 +210,16 @@ impl fmt::Display for LineError {
                 let (key, range) = (setting.key(), setting.range());
                 write!(f, "{key}, set in line {line}, is out of its range, {range}")
             }
+            LineError::WideNumber { range, line } => {
+                let key = Setting::FirstNumber.key();
+                write!(f, "{key}, set in line {line}, is out of its range, {range}")
+            }
             LineError::BadConfiguration => {
                 f.write_str("after the last set a setting is out of its range")
             }
+            LineError::Unshown => f.write_str(
+                "--explain, --trace, --pcap and --chart show no script that has such a command",
+            ),
         }
     }
 }

@@ -43,7 +43,7 @@ use Rattle.cfdp_report.specs.declared.report.answer.Answer.{Answer}
 use Rattle.cfdp_report.specs.declared.report.answer.Answer.TheVariants.{Nothing, Refused, Ended}
 use Rattle.cfdp_report.specs.declared.report.answer.Answered.{Answered}
 use Rattle.cfdp_script.specs.declared.script.command.Command.{Command}
-use Rattle.cfdp_script.specs.declared.script.command.Command.TheVariants.{Once, Repeat, First, Damage as DamageOne, Spread, Burst, Settle as SettleAll, Recover}
+use Rattle.cfdp_script.specs.declared.script.command.Command.TheVariants.{Once, Repeat, First, Damage as DamageOne, Spread, Burst, Settle as SettleAll, Recover, Disorder}
 use Rattle.cfdp_script.specs.Script.Lines.{befalls}
 use Rattle.aos_frame.specs.declared.config.Lane.{Lane}
 use Rattle.cfdp_script.specs.declared.script.command.Damage.{Damage}
@@ -470,6 +470,7 @@ performs-puts SettleAll answer a b h is =
     done-puts answer a b (GoesWell a b × IsSettled b) _ h (λ all. row-well IsNoPut no-put-settles no-tick _ _ a b all.0) (λ error ends. settling-row a b error ends)
 performs-puts Recover answer a b h is =
     done-puts answer a b (Recovers a b × IsRecovered b) _ h (λ all. row-recovers IsNoPut no-put-settles no-tick a b all.0) (λ error ends. row-ended IsNoPut no-put-settles no-tick error a b ends)
+performs-puts (Disorder what) answer a b h is = same-puts a b (ap (λ (w : WorldState). w.puts) h.1)
 
 runs-puts : (steps : List Step) (answered : List Answered) (a b : WorldState) → Runs steps answered a b → AreAccepted steps answered → length b.puts ≡ length a.puts + puts_asked steps
 unfolding puts_in

@@ -20,7 +20,7 @@ use Rattle.cfdp_report.specs.declared.report.answer.Answer.{Answer}
 use Rattle.cfdp_report.specs.declared.report.answer.Answer.TheVariants.{Nothing, Refused, Ended}
 use Rattle.cfdp_report.specs.declared.report.answer.Answered.{Answered}
 use Rattle.cfdp_script.specs.declared.script.command.Command.{Command}
-use Rattle.cfdp_script.specs.declared.script.command.Command.TheVariants.{Once, Repeat, First, Damage as DamageOne, Spread, Burst, Settle as SettleAll, Recover}
+use Rattle.cfdp_script.specs.declared.script.command.Command.TheVariants.{Once, Repeat, First, Damage as DamageOne, Spread, Burst, Settle as SettleAll, Recover, Disorder}
 use Rattle.link_sim.specs.declared.side.Side.{Side}
 use Rattle.cfdp_script.specs.Script.Lines.{befalls}
 use Rattle.cfdp_script.specs.declared.script.command.Damage.{Damage}
@@ -96,6 +96,7 @@ performs_leads SettleAll answer a b h =
     done_leads answer a b (GoesWell a b × IsSettled b) _ h (λ all. inr (inr (inr (inl (inl all.0))))) (λ error ends. settling_called a b error ends)
 performs_leads Recover answer a b h =
     done_leads answer a b (Recovers a b × IsRecovered b) _ h (λ all. inr (inr (inr (inr (inl all.0))))) (λ error ends. inr (inr (inr (inr (inr (error, ends))))))
+performs_leads (Disorder what) answer a b h = many-none Called a b h.1
 
 pub runs_lead : (steps : List Step) (answered : List Answered) (a b : WorldState) → Runs steps answered a b → Led a b
 runs_lead [] [] a b same = many-none Called a b same

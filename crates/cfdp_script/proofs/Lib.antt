@@ -5,6 +5,7 @@ pub mod Leads
 pub mod Counting
 pub mod Endings
 pub mod Parts
+pub mod Gaps
 pub mod Gathers
 pub mod ScriptRows
 pub mod Flushing

@@ -3,6 +3,7 @@ use Rattle.std.proofs.Common.{◌≡◌, ◌∙◌, ℕ, ◌<◌, ◌+◌, ◌-�
 use Rattle.std.proofs.lemmas.Bool.{cases_Bool, eqb-false, eqb-true}
 use Rattle.std.proofs.lemmas.List.{append_assoc}
 use Rattle.std.specs.List.{flat_map}
+use Rattle.std.specs.Option.{option_map}
 use Rattle.std.specs.Result.{OnOk}
 use Rattle.std.specs.declared.alloc.Global.{Global}
 use Rattle.mpdu.specs.Feeding.{octets_of_each}
@@ -21,7 +22,9 @@ use Rattle.vc_packets.specs.Carrying.{CarriedText, FrameCarries, IsUnfollowed}
 use Rattle.vc_packets.specs.declared.channel.Channel.{Channel}
 use Rattle.cfdp_report.specs.Dump.Lines.{WritesLine, WritesLines, as_line}
 use Rattle.cfdp_report.proofs.TextLines.{lines-none, lines-more, lines_joined, lines_kept}
-use Rattle.cfdp_script.specs.Dump.{TellsLine, hex_octets, lines}
+use Rattle.cfdp_script.specs.Dump.{TellsPiece, WritesPieces, WritesText, lines}
+use Rattle.cfdp_script.specs.Dump.Rows.{Bad, Octets, Piece, Step, ended, pieces, step}
+use Rattle.cfdp_script.specs.Dump.Stepping.{ended_pieces}
 use Rattle.cfdp_script.specs.Script.Words.{without_return}
 use Rattle.cfdp_report.specs.Dump.Shape.{channel_in}
 use Rattle.cfdp_report.specs.Dump.Refusal.{refusal_text}
@@ -32,7 +35,7 @@ use Rattle.cfdp_script.specs.declared.dump.DumpKind.{DumpKind}
 use Rattle.cfdp_script.specs.declared.dump.DumpKind.TheVariants.{Pdus, Frames}
 use Rattle.cfdp_script.specs.declared.dump.remark.Remark.{Remark}
 use Rattle.cfdp_script.specs.declared.dump.remark.Remark.TheVariants.{BadCapture, PassedBy, Unfollowed}
-use Rattle.cfdp_script.specs.Dump.Units.{TellsAs, TellsCarried, TellsDeep, TellsItem, TellsRun, TellsUnfollowed, TellsUnit, WritesRun, WritesUnit}
+use Rattle.cfdp_script.specs.Dump.Units.{TellsAs, TellsCarried, TellsDeep, TellsItem, TellsRun, TellsUnfollowed, TellsUnit, WritesMore, WritesRun, WritesUnit}
 use Rattle.cfdp_script.specs.declared.dump.DumpRequest.{DumpRequest}
 
 -- ---- one thing is told
@@ -84,22 +87,107 @@ module _ {A : Type 0} (P : List Channel → A → List Told → List Channel →
     written = lines_joined (TellsTold request) before.tolds one.tolds old between new before.written one.written;
   }
 
+-- ---- units behind others
+module _ {A : Type 0} (P : List Channel → A → List Told → List Channel → Type 0) where
+  run_joined : (before : List Channel) (xs ys : List A) (tolds : List Told) (mid : List Channel) (more : List Told) (after : List Channel)
+      → TellsRun P before xs tolds mid → TellsRun P mid ys more after → TellsRun P before (xs ++ ys) (tolds ++ more) after
+  run_joined before [] ys tolds mid more after ran behind =
+      subst (λ l. TellsRun P before ys (l ++ more) after) (sym ran.0) (subst (λ s. TellsRun P s ys more after) ran.1 behind)
+  run_joined before (x ∷ xs) ys tolds mid more after ran behind =
+      (ran.0, ran.1, ran.2 ++ more, ran.3, run_joined ran.1 xs ys ran.2 mid more after ran.4 behind, ap (λ l. l ++ more) ran.5 ∙ append_assoc ran.0 ran.2 more)
+
+  pub more-none : (request : DumpRequest) (channels : List Channel) (out : Option (List ℕ)) → WritesMore P request channels [] channels out out
+  more-none request channels out = record { tolds = []; told = (refl, refl); written = lines-none (TellsTold request) out }
+
+  pub more-one : (request : DumpRequest) (before : List Channel) (unit : A) (after : List Channel) (old new : Option (List ℕ))
+      → WritesUnit (P before unit) request after old new → WritesMore P request before (unit ∷ []) after old new
+  more-one request before unit after old new one = record {
+    tolds = one.tolds;
+    told = (one.tolds, after, [], one.told, (refl, refl), sym (append-nil one.tolds));
+    written = one.written;
+  }
+
+  pub more-joined : (request : DumpRequest) (before : List Channel) (xs : List A) (mid : List Channel) (ys : List A) (after : List Channel) (old between new : Option (List ℕ))
+      → WritesMore P request before xs mid old between → WritesMore P request mid ys after between new → WritesMore P request before (xs ++ ys) after old new
+  more-joined request before xs mid ys after old between new first behind = record {
+    tolds = first.tolds ++ behind.tolds;
+    told = run_joined before xs ys first.tolds mid behind.tolds after first.told behind.told;
+    written = lines_joined (TellsTold request) first.tolds behind.tolds old between new first.written behind.written;
+  }
+
+  pub run-more : (request : DumpRequest) (xs : List A) (mid : List Channel) (ys : List A) (after : List Channel) (old between new : Option (List ℕ))
+      → WritesRun P request xs mid old between → WritesMore P request mid ys after between new → WritesRun P request (xs ++ ys) after old new
+  run-more request xs mid ys after old between new first behind = record {
+    tolds = first.tolds ++ behind.tolds;
+    told = run_joined [] xs ys first.tolds mid behind.tolds after first.told behind.told;
+    written = lines_joined (TellsTold request) first.tolds behind.tolds old between new first.written behind.written;
+  }
+
+-- ---- pieces
+pub piece_unit : {E : Type 0} (request : DumpRequest) (channels : List Channel) (octets : List ℕ) (after : List Channel) (r : Result (Unit {0}) E) (old new : Option (List ℕ))
+    → OnOk r (WritesUnit (TellsUnit request channels octets) request after old new) → OnOk r (WritesPieces request (Octets octets ∷ []) channels after old new)
+piece_unit request channels octets after (Err e) old new wrote = tt
+piece_unit request channels octets after (Ok x) old new wrote =
+    more-one (TellsPiece request) request channels (Octets octets) after old new (record { tolds = wrote.tolds; told = wrote.told; written = wrote.written })
+
+pub piece_bad : {E : Type 0} (request : DumpRequest) (channels : List Channel) (before : ℕ) (digits : List ℕ) (r : Result (Unit {0}) E) (old new : Option (List ℕ))
+    → OnOk r (WritesLine (TellsTold request (BadHex before digits)) old new) → OnOk r (WritesPieces request (Bad before digits ∷ []) channels channels old new)
+piece_bad request channels before digits (Err e) old new wrote = tt
+piece_bad request channels before digits (Ok x) old new wrote =
+    more-one (TellsPiece request) request channels (Bad before digits) channels old new (record {
+      tolds = BadHex before digits ∷ [];
+      told = (refl, refl);
+      written = one_told request (BadHex before digits) old new wrote;
+    })
+
 -- ---- lines, front first
-pub record LinesFront (request : DumpRequest) (text rest : List ℕ) (after : List Channel) (old new : Option (List ℕ)) : Type 0 where
-  pub front : List (List ℕ)
-  pub cut : lines text ≡ front ++ lines rest
-  pub told : WritesRun (TellsLine request) request front after old new
+-- of the lines in front of what is left all pieces are told that are whole
+pub record LinesFront (request : DumpRequest) (text rest : List ℕ) (begun : Option (List ℕ)) (after : List Channel) (old new : Option (List ℕ)) : Type 0 where
+  pub front : List Piece
+  pub cut : pieces None (lines text) ≡ front ++ pieces begun (lines rest)
+  pub told : WritesRun (TellsPiece request) request front after old new
 
-pub lines-front : (request : DumpRequest) (text : List ℕ) (out : Option (List ℕ)) → LinesFront request text text [] out out
-lines-front request text out = record { front = []; cut = refl; told = writes-none (TellsLine request) request out }
+pub lines-front : (request : DumpRequest) (text : List ℕ) (out : Option (List ℕ)) → LinesFront request text text None [] out out
+lines-front request text out = record { front = []; cut = refl; told = writes-none (TellsPiece request) request out }
 
-pub lines-behind : (request : DumpRequest) (text old_rest line rest : List ℕ) (mid after : List Channel) (old between new : Option (List ℕ)) → lines old_rest ≡ line ∷ lines rest
-    → LinesFront request text old_rest mid old between → WritesUnit (TellsLine request mid line) request after between new → LinesFront request text rest after old new
-lines-behind request text old_rest line rest mid after old between new cut before one = record {
-  front = before.front ++ line ∷ [];
-  cut = before.cut ∙ ap (λ l. before.front ++ l) cut ∙ sym (append_assoc before.front (line ∷ []) (lines rest));
-  told = writes-more (TellsLine request) request before.front mid line after old between new before.told one;
+-- one line more
+pieces-more : (begun : Option (List ℕ)) (all : List (List ℕ)) (line bare : List ℕ) (others : List (List ℕ)) (s : Step) → all ≡ line ∷ others → bare ≡ without_return line
+    → s ≡ step begun bare → pieces begun all ≡ s.whole ++ pieces s.begun others
+unfolding pieces
+pieces-more begun all line bare others s cut same is = rw (cut, is, same) refl
+
+pub lines-behind : (request : DumpRequest) (text old_rest line bare rest : List ℕ) (begun : Option (List ℕ)) (s : Step) (mid after : List Channel) (old between new : Option (List ℕ))
+    → lines old_rest ≡ line ∷ lines rest → bare ≡ without_return line → s ≡ step begun bare → LinesFront request text old_rest begun mid old between
+    → WritesPieces request s.whole mid after between new → LinesFront request text rest s.begun after old new
+lines-behind request text old_rest line bare rest begun s mid after old between new cut same is before more = record {
+  front = before.front ++ s.whole;
+  cut = before.cut ∙ ap (λ l. before.front ++ l) (pieces-more begun (lines old_rest) line bare (lines rest) s cut same is)
+      ∙ sym (append_assoc before.front s.whole (pieces s.begun (lines rest)));
+  told = run-more (TellsPiece request) request before.front mid s.whole after old between new before.told more;
 }
+
+-- the last one
+pieces-end : (begun : Option (List ℕ)) → pieces begun [] ≡ ended begun
+unfolding pieces
+pieces-end begun = refl
+
+-- a unit that is begun and ends
+pub ended_told : {E : Type 0} (request : DumpRequest) (begun : Option (Vec ℕ Global)) (mid after : List Channel) (r : Result (Unit {0}) E) (old new : Option (List ℕ))
+    → OnOk r (WritesPieces request (ended_pieces begun) mid after old new) → OnOk r (WritesPieces request (ended (option_map (λ octets. octets.items) begun)) mid after old new)
+ended_told request None mid after r old new wrote = wrote
+ended_told request (Some octets) mid after r old new wrote = wrote
+
+pub lines-end : {E : Type 0} (request : DumpRequest) (text rest : List ℕ) (begun : Option (List ℕ)) (mid after : List Channel) (r : Result (Unit {0}) E) (old between new : Option (List ℕ))
+    → lines rest ≡ [] → LinesFront request text rest begun mid old between → OnOk r (WritesPieces request (ended begun) mid after between new)
+    → OnOk r (WritesText request text old new)
+lines-end request text rest begun mid after (Err e) old between new none before more = tt
+lines-end request text rest begun mid after (Ok x) old between new none before more =
+    let whole = before.cut ∙ ap (λ l. before.front ++ l) (ap (pieces begun) none ∙ pieces-end begun) in
+    record {
+      after = after;
+      written = subst (λ l. WritesRun (TellsPiece request) request l after old new) (sym whole)
+          (run-more (TellsPiece request) request before.front mid (ended begun) after old between new before.told more);
+    }
 
 -- ---- the items of a capture, front first
 pub record ItemsFront (request : DumpRequest) (start : CaptureState) (file : List ℕ) (last : CaptureState) (rest : List ℕ) (after : List Channel) (old new : Option (List ℕ)) : Type 0 where
@@ -219,23 +307,6 @@ pub item_passed : {E : Type 0} (whole : ℕ) (request : DumpRequest) (channels :
 item_passed whole request channels p passed (Err e) old new fault wrote = tt
 item_passed whole request channels p passed (Ok x) old new fault wrote = record { tolds = Says (PassedBy passed) ∷ []; told = rw fault (refl, refl); written = wrote }
 
--- ---- one line
-pub line_unit : {E : Type 0} (request : DumpRequest) (channels : List Channel) (line octets : List ℕ) (after : List Channel) (r : Result (Unit {0}) E) (old new : Option (List ℕ))
-    → Some octets ≡ hex_octets line → OnOk r (WritesUnit (TellsUnit request channels octets) request after old new)
-    → OnOk r (WritesUnit (TellsLine request channels line) request after old new)
-line_unit request channels line octets after (Err e) old new has wrote = tt
-line_unit request channels line octets after (Ok x) old new has wrote = record { tolds = wrote.tolds; told = rw (← has) wrote.told; written = wrote.written }
-
-pub line_bad : {E : Type 0} (request : DumpRequest) (channels : List Channel) (line bare : List ℕ) (r : Result (Unit {0}) E) (old new : Option (List ℕ))
-    → bare ≡ without_return line → None ≡ hex_octets line → OnOk r (WritesLine (TellsTold request (BadHex bare)) old new)
-    → OnOk r (WritesUnit (TellsLine request channels line) request channels old new)
-line_bad request channels line bare (Err e) old new same has wrote = tt
-line_bad request channels line bare (Ok x) old new same has wrote = record {
-  tolds = BadHex bare ∷ [];
-  told = rw (← has) (ap (λ l. BadHex l ∷ []) same, refl);
-  written = one_told request (BadHex bare) old new wrote;
-}
-
 -- ---- what is wrong with a line
 -- all octets up to a place may stand, and so may the one there
 pub places_more : (P : ℕ → Bool) (n : ℕ) → ((k : ℕ) → k < n → P k ≡ true) → P n ≡ true → (k : ℕ) → k < n + 1 → P k ≡ true
@@ -244,10 +315,10 @@ places_more P n before now k below = elim (cases_Bool (k == n)) [
   | inr other ↦ (let apart = eqb-false k n other in before k (omega (arith, below, apart)))
 ]
 
-pub bad_line : {E : Type 0} (request : DumpRequest) (line : List ℕ) (column : Option ℕ) (end : List ℕ) (r : Result (Unit {0}) E) (old new : Option (List ℕ)) → IsSaidOf line column
-    → end ≡ end_of request.form → OnOk r (Appends old new (refusal_text Hex ++ (place_text column ++ (end ++ 10 ∷ [])))) → OnOk r (WritesLine (TellsTold request (BadHex line)) old new)
-bad_line request line column end (Err e) old new said same written = tt
-bad_line request line column end (Ok x) old new said same written = record {
+pub bad_line : {E : Type 0} (request : DumpRequest) (before : ℕ) (line : List ℕ) (column : Option ℕ) (end : List ℕ) (r : Result (Unit {0}) E) (old new : Option (List ℕ)) → IsSaidOf before line column
+    → end ≡ end_of request.form → OnOk r (Appends old new (refusal_text Hex ++ (place_text column ++ (end ++ 10 ∷ [])))) → OnOk r (WritesLine (TellsTold request (BadHex before line)) old new)
+bad_line request before line column end (Err e) old new said same written = tt
+bad_line request before line column end (Ok x) old new said same written = record {
   text = refusal_text Hex ++ (place_text column ++ end);
   such = record { column = column; said = said; words = ap (λ l. refusal_text Hex ++ (place_text column ++ l)) same };
   written = subst (λ l. Appends old new l)

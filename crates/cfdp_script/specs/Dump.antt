@@ -1,11 +1,10 @@
 -- What the program's `dump` prints.
+pub mod Rows
+pub mod Stepping
 pub mod Told
 pub mod Units
-use Rattle.std.specs.List.{flat_map}
-use Rattle.std.specs.Prelude.{◌≡◌, ℕ, ◌<◌, ◌≤◌, ◌==◌, ◌&&◌, nat_le, slice_index, drop, List, [], ◌∷◌, ◌++◌, length, if◌then◌else◌, Option, IfSome, MatchOption}
-use Rattle.std.specs.Result.{result_ok}
+use Rattle.std.specs.Prelude.{ℕ, ◌<◌, ◌≤◌, ◌==◌, List, [], ◌∷◌, length, if◌then◌else◌, Option, None, IfSome, MatchOption}
 use Rattle.std.specs.Io.KnownBytes.{Keeps}
-use Rattle.hex.specs.Hex.{decode_of}
 use Rattle.captures.specs.Captures.{SpellsTo, start_of}
 use Rattle.captures.specs.Packets.{CaptureState, ItemText}
 use Rattle.vc_packets.specs.declared.channel.Channel.{Channel}
@@ -15,32 +14,27 @@ use Rattle.cfdp_report.specs.declared.exit.Fault.TheVariants.{NoMemory, TooLong,
 use Rattle.cfdp_script.specs.declared.dump.DumpRequest.{DumpRequest}
 use Rattle.cfdp_script.specs.Dump.Told as told
 use Rattle.cfdp_script.specs.Dump.Told.{BadHex}
-use Rattle.cfdp_script.specs.Dump.Units.{TellsItem, TellsOne, TellsUnit, WritesRun}
-use Rattle.cfdp_script.specs.Script.Words.{onto_first, parts, without_return}
+use Rattle.cfdp_script.specs.Dump.Rows.{Bad, Octets, Piece, pieces}
+use Rattle.cfdp_script.specs.Dump.Units.{TellsItem, TellsOne, TellsUnit, WritesMore, WritesRun}
+use Rattle.cfdp_script.specs.Script.Words.{onto_first}
 
 -- the lines of a text: each ends with a line feed, which the last needs not
 unfoldable pub lines : List ℕ → List (List ℕ)
 lines [] = []
 lines (octet ∷ rest) = if octet == 10 then [] ∷ lines rest else onto_first octet (lines rest)
 
--- a word without `0x` in front
-abbrev pub bare : List ℕ → List ℕ
-bare word = if nat_le 2 (length word) && ((slice_index word 0 == 48) && (slice_index word 1 == 120))
-    then drop 2 word else word
+-- This is told of a piece.
+abbrev pub TellsPiece : DumpRequest → List Channel → Piece → List told.Told → List Channel → Type 0
+TellsPiece request channels (Octets octets) tolds after =
+    TellsUnit request channels octets tolds after
+TellsPiece request channels (Bad before digits) tolds after =
+    TellsOne (BadHex before digits) channels tolds after
 
--- the digits of a line: its words without the spaces between
-abbrev pub digits_of : List ℕ → List ℕ
-digits_of line = flat_map bare (parts 32 line)
-
--- the octets that the hexadecimal digits of a line spell, in either case
-abbrev pub hex_octets : List ℕ → Option (List ℕ)
-hex_octets line = result_ok (decode_of (digits_of (without_return line)))
-
--- This is told of a line.
-abbrev pub TellsLine : DumpRequest → List Channel → List ℕ → List told.Told → List Channel → Type 0
-TellsLine request channels line tolds after =
-    MatchOption (hex_octets line) (TellsOne (BadHex (without_return line)) channels tolds after)
-    (λ octets. TellsUnit request channels octets tolds after)
+-- All of these pieces was told, behind frames of these channels.
+abbrev pub WritesPieces : DumpRequest → List Piece → (before after : List Channel)
+    → (old new : Option (List ℕ)) → Type 0
+WritesPieces request ps before after old new =
+    WritesMore (TellsPiece request) request before ps after old new
 
 -- All of a capture was told: what it spells to its end, or to what can't be read.
 pub record WritesCapture (request : DumpRequest) (start : CaptureState) (file : List ℕ)
@@ -51,11 +45,11 @@ pub record WritesCapture (request : DumpRequest) (start : CaptureState) (file : 
   pub after : List Channel
   pub written : WritesRun (TellsItem (length file) request) request items after old new
 
--- All of the lines of a text were told.
+-- All was told that the lines of a text spell.
 pub record WritesText (request : DumpRequest) (text : List ℕ) (old new : Option (List ℕ))
     : Type 0 where
   pub after : List Channel
-  pub written : WritesRun (TellsLine request) request (lines text) after old new
+  pub written : WritesRun (TellsPiece request) request (pieces None (lines text)) after old new
 
 -- A file is read as a capture where it begins as one, else as lines.
 abbrev pub WritesFile : DumpRequest → (file : List ℕ) → (old new : Option (List ℕ)) → Type 0

@@ -6,19 +6,24 @@ ghost use Rattle.std.specs.Result.{result_ok};
 ghost use Rattle.hex.specs.Hex.{decode_of};
 ghost use Rattle.cfdp_report.specs.Dump.Shape.{IsShape};
 ghost use Rattle.cfdp_report.specs.Exit.{IsFlushedAt};
-ghost use Rattle.cfdp_script.specs.Dump.{EndsDump, TellsLine, WritesFile, WritesText, hex_octets};
+ghost use Rattle.cfdp_script.specs.Dump.{EndsDump, WritesFile, WritesPieces, WritesText};
+ghost use Rattle.cfdp_script.specs.Dump.Rows.{hex_octets};
+ghost use Rattle.cfdp_script.specs.Dump.Rows as rows;
+ghost use Rattle.cfdp_script.specs.Dump.Stepping.{ended_pieces, piece_texts};
 ghost use Rattle.cfdp_report.specs.Dump.Lines.{WritesLine};
 ghost use Rattle.cfdp_script.specs.Dump.Told.{BadHex, TellsTold};
-ghost use Rattle.cfdp_script.specs.Dump.Units.{WritesUnit};
 ghost use Rattle.cfdp_script.specs.Dump as dumps;
 
 mod bad_hex;
 mod capture;
 mod remark;
+mod rows;
+mod step;
 mod unit;
 
 use crate::dump::bad_hex::BadPlace;
 use crate::dump::capture::write_capture;
+use crate::dump::step::{Piece, take_line};
 use crate::dump::unit::write_unit;
 use crate::input::{MAX_FILE, read_up_to, write_fault};
 use crate::script::without_return;
@@ -60,7 +65,8 @@ pub struct DumpRequest {
 /// Of a line it writes one that says what it spells, or with fields a line for each and an empty
 /// one. Lines end with a line feed, which the last needs not and which may have a carriage return
 /// in front; an empty line is no octets. Spaces may stand anywhere between the digits, and `0x`
-/// behind a space or at the line's beginning.
+/// behind a space or at the line's beginning. Lines that begin with an offset, as `xxd`,
+/// `hexdump -C` and Wireshark write them, are read as one.
 ///
 /// Of a capture it does the same for the payload of each UDP datagram, or for what was captured
 /// as it is, and names what it can't read.
@@ -128,7 +134,7 @@ fn write_dump<W: Write>(
     }
 }
 
-/// Writes what each line of a text spells.
+/// Writes what the lines of a text spell.
 ///
 /// # Errors
 ///
@@ -144,13 +150,17 @@ fn write_lines<W: Write>(
         (W.contents out.old) (W.contents out.new)) }
 {
     let mut channels = Channels::new(alloc);
+    let mut begun = None;
     let mut rest = text;
     while !rest.is_empty() {
         let (line, behind) = cut_line(rest);
-        write_line(alloc, request, line, &mut channels, out)?;
+        let step = take_line(alloc, begun, without_return(line))?;
+        write_ended(request, step.ended, &mut channels, out)?;
+        write_piece(request, step.piece, &mut channels, out)?;
+        begun = step.begun;
         rest = behind;
     }
-    Ok(())
+    write_ended(request, begun, &mut channels, out)
 }
 
 /// The first line of a text, without its line feed, and the text behind it.
@@ -166,53 +176,80 @@ fn cut_line(text: &[u8]) -> (&[u8], &[u8])
     }
 }
 
-/// Writes what one line spells.
+/// Writes what a unit of several lines spells that has ended, if one has.
 ///
 /// # Errors
 ///
 /// That of the writer, or `OutOfMemory`.
-fn write_line<W: Write>(
-    alloc: Global,
+fn write_ended<W: Write>(
     request: DumpRequest,
-    line: &[u8],
+    ended: Option<Vec<u8>>,
     channels: &mut Channels,
     out: &mut W,
 ) -> io::Result<()>
     requires { IsShape request.shape }
-    ensures { OnOk result (WritesUnit (TellsLine request channels.old line.now) request
-        channels.new (W.contents out.old) (W.contents out.new)) }
+    ensures { OnOk result (WritesPieces request (ended_pieces ended) channels.old channels.new
+        (W.contents out.old) (W.contents out.new)) }
 {
-    match parse_hex_line(alloc, line)? {
+    match ended {
         Some(octets) => write_unit(request, octets.as_slice(), channels, out),
-        None => write_bad_hex(request, without_return(line), out),
+        None => Ok(()),
     }
 }
 
-/// Writes that a line isn't pairs of hexadecimal digits, and where.
+/// Writes what a piece is, if there is one.
+///
+/// # Errors
+///
+/// That of the writer, or `OutOfMemory`.
+fn write_piece<W: Write>(
+    request: DumpRequest,
+    piece: Option<Piece<'_>>,
+    channels: &mut Channels,
+    out: &mut W,
+) -> io::Result<()>
+    requires { IsShape request.shape }
+    ensures { OnOk result (WritesPieces request (piece_texts piece.entry) channels.old channels.new
+        (W.contents out.old) (W.contents out.new)) }
+{
+    match piece {
+        Some(Piece::Octets(octets)) => write_unit(request, octets.as_slice(), channels, out),
+        Some(Piece::Bad { before, digits }) => write_bad_hex(request, before, digits, out),
+        None => Ok(()),
+    }
+}
+
+/// Writes that what stands behind so many octets of a line isn't pairs of hexadecimal digits, and
+/// where.
 ///
 /// # Errors
 ///
 /// That of the writer.
-fn write_bad_hex<W: Write>(request: DumpRequest, line: &[u8], out: &mut W) -> io::Result<()>
-    ensures { OnOk result (WritesLine (TellsTold request (BadHex line.now))
+fn write_bad_hex<W: Write>(
+    request: DumpRequest,
+    before: u8,
+    digits: &[u8],
+    out: &mut W,
+) -> io::Result<()>
+    ensures { OnOk result (WritesLine (TellsTold request (BadHex before digits.now))
         (W.contents out.old) (W.contents out.new)) }
 {
-    let place = BadPlace::of(line);
+    let place = BadPlace::of(before, digits);
     writeln!(out, "{}{place}{}", Refusal::Hex, request.form.end())
 }
 
-/// The octets that the line's hexadecimal digits spell, in either case, with spaces between words
-/// that may begin with `0x`. `None` where it has anything else.
-fn parse_hex_line(alloc: Global, line: &[u8]) -> Result<Option<Vec<u8>>, AllocError>
-    ensures { IfOk result (λ octets. option_map (λ v. v.items) octets ≡ hex_octets line.now) }
+/// The octets that the hexadecimal digits of a text spell, in either case, with spaces between
+/// words that may begin with `0x`. `None` where it has anything else.
+fn parse_hex(alloc: Global, text: &[u8]) -> Result<Option<Vec<u8>>, AllocError>
+    ensures { IfOk result (λ octets. option_map (λ v. v.items) octets ≡ hex_octets text.now) }
 {
-    let digits = digits_of(alloc, without_return(line))?;
+    let digits = digits_of(alloc, text)?;
     parse_digits(alloc, digits.as_slice())
 }
 
-/// The words of a line without the spaces between, and without `0x` where one begins so.
+/// The words of a text without the spaces between, and without `0x` where one begins so.
 fn digits_of(alloc: Global, line: &[u8]) -> Result<Vec<u8>, AllocError>
-    ensures { IfOk result (λ digits. digits.items ≡ dumps.digits_of line.now) }
+    ensures { IfOk result (λ digits. digits.items ≡ rows.digits_of line.now) }
 {
     let mut digits = Vec::new(alloc);
     let mut rest = Some(line);
@@ -226,7 +263,7 @@ fn digits_of(alloc: Global, line: &[u8]) -> Result<Vec<u8>, AllocError>
 
 /// A word without `0x` in front.
 fn bare(word: &[u8]) -> &[u8]
-    ensures { result.now ≡ dumps.bare word.now }
+    ensures { result.now ≡ rows.bare word.now }
 {
     if word.len() >= 2 && word[0] == b'0' && word[1] == b'x' {
         &word[2..]

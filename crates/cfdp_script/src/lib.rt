@@ -8,6 +8,13 @@ mod input;
 mod script;
 
 pub use dump::{DumpKind, DumpRequest, run_dump};
-pub use script::command::{Unread, parse_asked, parse_id};
-pub use script::sim::run_sim;
+pub use input::{MAX_SCRIPT, read_script};
+pub use script::command::{
+    Command, Contents, Damage, Disorder, Fate, FileLine, Pick, Unread, parse_asked, parse_id,
+};
+pub use script::outboxes::outboxes;
+pub use script::perform::damaged;
+pub use script::report::{asked_puts, write_inbox};
+pub use script::sim::{run_sim, run_text};
 pub use script::words::{Words, cut_at_first};
+pub use script::{GivenFile, Script, Step};

@@ -218,12 +218,18 @@ impl Script {
     }
 
     /// Why the configuration isn't valid: the first setting that is out of its range, and the line
-    /// that set it.
+    /// that set it; where none is, the first number, which its octets can't have.
     fn out_of_range(&self) -> LineError {
-        match self.settings.out_of_range() {
-            Some(setting) => LineError::OutOfRange {
+        if let Some(setting) = self.settings.out_of_range() {
+            return LineError::OutOfRange {
                 setting,
                 line: set_line(&self.set_lines, setting),
+            };
+        }
+        match self.settings.wide_number() {
+            Some(range) => LineError::WideNumber {
+                range,
+                line: set_line(&self.set_lines, Setting::FirstNumber),
             },
             None => LineError::BadConfiguration,
         }

@@ -1,3 +1,4 @@
 pub mod RoundTrip
 mod Intact
 mod Bare
+mod Placed

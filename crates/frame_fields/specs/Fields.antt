@@ -71,6 +71,10 @@ mpdu_len fields frame = length frame - 6 - extra fields
 abbrev pub mpdu_in : FrameFields → List ℕ → List ℕ
 mpdu_in fields frame = take (mpdu_len fields frame) (behind_insert fields frame)
 
+-- the header and the M_PDU as a bare frame has them, one behind the other
+abbrev pub bare_in : FrameFields → List ℕ → List ℕ
+bare_in fields frame = take 6 frame ++ mpdu_in fields frame
+
 -- the operational control field, at the front of what stands behind the M_PDU
 abbrev pub control_of : FrameFields → List ℕ → Option ℕ
 control_of fields behind = if fields.control_field then Some (field behind 0 32) else None

@@ -1,7 +1,7 @@
 //! Bare frames to the frames of a link.
 ghost use Rattle.std.specs.Prelude.{◌≡◌, ◌+◌, ◌^◌, ◌<◌, ◌≤◌, ◌++◌, length, take, replicate};
 ghost use Rattle.frame_fields.specs.Fields.{check_len, control_len, control_octets, extra, guarded};
-ghost use Rattle.frame_fields.specs.Fields.{sealed};
+ghost use Rattle.frame_fields.specs.Fields.{bare_in, sealed};
 
 use crate::config::{CHECK_LEN, CONTROL_LEN, FrameFields};
 use cfd_bits::{put_bytes, put_uint};
@@ -15,19 +15,17 @@ pub const HEADER_LEN: usize = 6;
 /// The octets of the longest insert zone, as they are sent.
 const ZEROS: [u8; 64] = [0; 64];
 
-/// Makes the frame of the link from a bare one, with this operational control field, if the link
-/// has one. It has [`extra`](FrameFields::extra) octets more.
-pub fn seal(fields: Valid<FrameFields>, bare: &[u8], control: u32, out: &mut [u8])
-    requires header { 6 ≤ length bare.now }
-    requires room { length out.old ≡ length bare.now + extra fields }
-    ensures { out.new ≡ sealed fields bare.now control }
+/// Makes the frame of the link from a bare one whose octets stand where they do in it already: the
+/// header in front, and the M_PDU behind the insert zone. It gets this operational control field,
+/// if the link has one, and all else that stands around these.
+pub fn seal(fields: Valid<FrameFields>, control: u32, out: &mut [u8])
+    requires room { 6 + extra fields ≤ length out.old }
+    ensures { out.new ≡ sealed fields (bare_in fields out.old) control }
 {
     let fields = fields.get();
-    let (header, mpdu) = bare.split_at(HEADER_LEN);
-    let at = put_bytes(out, 0, header);
-    let at = put_bytes(out, at, zeros(fields.insert_zone));
-    let at = put_bytes(out, at, mpdu);
-    let at = put_control(fields, control, out, at);
+    let end = out.len() - (fields.extra() - usize::from(fields.insert_zone));
+    put_bytes(out, HEADER_LEN, zeros(fields.insert_zone));
+    let at = put_control(fields, control, out, end);
     put_check(fields, out, at);
 }
 

@@ -1,12 +1,13 @@
 -- What the sending end of a link adds to its stream.
 use Rattle.std.proofs.Common.{◌≡◌, ℕ, ◌+◌, ◌*◌, ◌%◌, ◌^◌, ◌<◌, ◌≤◌, true, false, None, Result, Ok, Err, OnOk, IsErr, List, [], ◌∷◌, ◌++◌, ◌⊎◌, length, take, drop, refl, sym, ap, subst, ◌∙◌, inl, inr, arith}
 use Rattle.std.proofs.lemmas.Bool.{cases_Bool, eq-eqb}
-use Rattle.std.proofs.lemmas.List.{append_assoc, drop-drop}
+use Rattle.std.proofs.lemmas.List.{append_assoc, drop-drop, take_at, drop_at}
 use Rattle.cfd_bits.specs.Field.{flag}
 use Rattle.mpdu.specs.MpduHeader.{pointer_octets}
 use Rattle.space_packet.specs.Packet.{Parts, SpellsPacket, flag_bits}
 use Rattle.space_packet.specs.declared.packet.SequenceFlags.TheVariants.{Unsegmented}
-use Rattle.frame_fields.specs.Fields.{sealed}
+use Rattle.frame_fields.specs.declared.config.FrameFields.{FrameFields}
+use Rattle.frame_fields.specs.Fields.{bare_in, behind_insert, extra, mpdu_in, mpdu_len, sealed}
 use Rattle.frame_fields.proofs.RoundTrip.{opens_sealed}
 use Rattle.aos_frame.specs.Counts.{frame_counts}
 use Rattle.aos_frame.specs.Frame.{header_octets, frame_octets}
@@ -47,6 +48,18 @@ written_frame link ps made count pointer headers body counted written zo =
     let same : pointer_octets pointer ++ body ≡ mpdu_of link ps made =
     ap (λ n. pointer_octets n ++ body) zo.pointed ∙ ap (λ l. pointer_octets (first_header_pointer link.zone (made * link.zone) 0 ps) ++ l) zo.cut_out in
     ap (λ l. l ++ body) written ∙ append_assoc (h count) (pointer_octets pointer) body ∙ ap (λ n. h n ++ (pointer_octets pointer ++ body)) counted ∙ ap (λ l. h (made % frame_counts) ++ l) same
+
+-- a bare frame that stands in a frame of the channel, its M_PDU behind the insert zone
+pub bare_at : (fields : FrameFields) (h a m b : List ℕ) → length h ≡ 6 → length a ≡ fields.insert_zone → length m + 6 + extra fields ≡ length (h ++ (a ++ (m ++ b))) →
+    bare_in fields (h ++ (a ++ (m ++ b))) ≡ h ++ m
+bare_at fields h a m b lh la lm =
+    let f : List ℕ = h ++ (a ++ (m ++ b)) in
+    let six : take 6 f ≡ h = take_at h (a ++ (m ++ b)) 6 lh in
+    let rest : drop 6 f ≡ a ++ (m ++ b) = drop_at h (a ++ (m ++ b)) 6 lh in
+    let after : behind_insert fields f ≡ m ++ b = ap (drop fields.insert_zone) rest ∙ drop_at a (m ++ b) fields.insert_zone la in
+    let mid : length m ≡ mpdu_len fields f = omega (arith, lm) in
+    let mpdu : mpdu_in fields f ≡ m = ap (take (mpdu_len fields f)) after ∙ take_at m b (mpdu_len fields f) mid in
+    ap (λ l. l ++ mpdu_in fields f) six ∙ ap (λ l. h ++ l) mpdu
 
 -- what it is once it is sealed
 pub makes_sealed : (old new : LinkSenderState) (bare frame : List ℕ) → length bare ≡ 8 + old.link.zone → old.control < 256 ^ 4 → frame ≡ sealed old.link.fields bare old.control →

@@ -79,6 +79,17 @@ pub record Flushes (old new : LinkSenderState) : Type 0 where
 abbrev pub sealed_frame : LinkSenderState → List (List ℕ) → ℕ → List ℕ
 sealed_frame d ps n = sealed d.link.fields (frame_of d.link ps n) d.control
 
+-- The oldest whole zone became a bare frame: of a stream, its next one behind those made.
+pub record MakesBare (bare : List ℕ) (old new : LinkSenderState) : Type 0 where
+  pub long : length bare ≡ 8 + old.link.zone
+  pub stream : (ps : List (List ℕ)) (made : ℕ) → IsDown old ps made →
+      (bare ≡ frame_of old.link ps made)
+      × (made * old.link.zone + old.link.zone ≤ length (stream ps)) × IsDown new ps (made + 1)
+  pub zone : drop 8 bare ≡ take old.link.zone old.waiting
+  pub waiting : new.waiting ≡ drop old.link.zone old.waiting
+  pub fixed : (new.link ≡ old.link) × (new.capacity ≡ old.capacity)
+      × (new.flushed ≡ old.flushed) × (new.control ≡ old.control)
+
 -- The oldest whole zone became a frame: of a stream, its next one behind those made, with the
 -- fields of the channel.
 pub record MakesFrame (frame : List ℕ) (old new : LinkSenderState) : Type 0 where

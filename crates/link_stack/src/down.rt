@@ -8,35 +8,24 @@ ghost use Rattle.link_stack.specs.Downward.{first_down, frame_lane, idle_zones, 
 ghost use Rattle.link_stack.specs.Downward as downward;
 
 use crate::down_lane::DownLane;
-use aos_frame::{ChannelConfig, HEADER_LEN as FRAME_HEADER_LEN, Lane, LinkConfig};
-use mpdu::{Full, MPDU_HEADER_LEN};
+use aos_frame::{ChannelConfig, Lane, LinkConfig};
+use mpdu::Full;
 use space_packet::Counter;
 use std::alloc::{AllocError, Global};
 use std::marker::Model;
 use valid_config::Valid;
 
-/// The octets of a frame of the link without other fields.
-fn bare_len(link: Valid<LinkConfig>) -> usize
-    ensures { result ≡ 8 + link.zone }
-{
-    FRAME_HEADER_LEN + MPDU_HEADER_LEN + usize::from(link.get().zone)
-}
-
 /// The sending end of one direction of a link: each PDU in a packet of its own, the packets of each
 /// lane end to end over the frames of its virtual channel.
 ///
 /// Each lane has the capacity, and its own frame count and flush. The packets of both are counted
-/// together. All that waits, and the packet that is written, lie in buffers that were made with it.
-/// So no call takes memory.
+/// together. All that waits lies in buffers that were made with it, and a frame is written where it
+/// is wanted. So no call takes memory.
 #[derive(Debug, Drop)]
 pub struct Down {
     directives: DownLane,
     file_data: DownLane,
     packets: Counter,
-    // room for one packet of the capacity
-    packet: Vec<u8>,
-    // room for one frame without other fields
-    bare: Vec<u8>,
 }
 
 impl Model for Down {
@@ -54,8 +43,6 @@ impl Model for Down {
 
     ghost invariant = { λ d. AreLanes d.directives.link d.file_data.link
         × (d.file_data.capacity ≡ d.directives.capacity)
-        × (length d.packet.items ≡ d.directives.capacity)
-        × (length d.bare.items ≡ 8 + d.directives.link.zone)
         × (d.packets < 16384)
         × (length d.directives.waiting ≤ d.directives.capacity + 2047)
         × (length d.file_data.waiting ≤ d.file_data.capacity + 2047) };
@@ -75,8 +62,6 @@ impl Down {
             directives: DownLane::new(alloc, ChannelConfig::of(link, Lane::Directives), capacity)?,
             file_data: DownLane::new(alloc, ChannelConfig::of(link, Lane::Data), capacity)?,
             packets: Counter::new(),
-            packet: vec![in alloc; 0u8; capacity]?,
-            bare: vec![in alloc; 0u8; bare_len(link)]?,
         })
     }
 
@@ -153,7 +138,7 @@ impl Down {
         ensures no_more { result * (lane_down lane self.now).link.zone
             ≤ (lane_down lane self.now).capacity + 2047 }
     {
-        (self.packet.len() + 2047) / usize::from(self.lane(lane).link().zone)
+        (self.lane(lane).capacity() + 2047) / usize::from(self.lane(lane).link().zone)
     }
 
     /// Puts a PDU of at least one octet behind the others of its lane, in a packet of its own.
@@ -199,8 +184,8 @@ impl Down {
     {
         let count = self.packets.next();
         match lane {
-            Lane::Directives => self.directives.send(pdu, count, &mut self.packet),
-            Lane::Data => self.file_data.send(pdu, count, &mut self.packet),
+            Lane::Directives => self.directives.send(pdu, count),
+            Lane::Data => self.file_data.send(pdu, count),
         }
     }
 
@@ -256,9 +241,9 @@ impl Down {
         ensures packet_count { self.new.packet_count ≡ self.old.packet_count }
         ensures fixed { KeepsLanes self.old self.new }
     {
-        if self.directives.next_frame(&mut self.bare, out) {
+        if self.directives.next_frame(out) {
             Some(Lane::Directives)
-        } else if self.file_data.next_frame(&mut self.bare, out) {
+        } else if self.file_data.next_frame(out) {
             Some(Lane::Data)
         } else {
             None

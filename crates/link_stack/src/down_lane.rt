@@ -1,36 +1,24 @@
 //! One lane of the way down: PDUs to the frames of one virtual channel.
 ghost use Rattle.std.specs.Prelude.{◌≡◌, ℕ, ◌+◌, ◌*◌, ◌<◌, ◌≤◌, ◌++◌, List, [], ◌∷◌, true, false};
 ghost use Rattle.std.specs.Prelude.{length, take, drop, IfOk};
-ghost use Rattle.aos_frame.specs.Frame.{FitsHeader, IsChannel, frame_len, frame_octets};
-ghost use Rattle.mpdu.specs.MpduHeader.{pointer_octets};
+ghost use Rattle.frame_fields.specs.Fields.{bare_in};
+ghost use Rattle.aos_frame.specs.Frame.{IsChannel, frame_len};
 ghost use Rattle.mpdu.specs.Stream.{stream};
 ghost use Rattle.mpdu.specs.Packing.{flush_of};
 ghost use Rattle.mpdu.specs.Packets.{busy};
-ghost use Rattle.link_stack.specs.Frames.{packet_of, frame_of, pdus_in};
-ghost use Rattle.link_stack.specs.Downward.{packing, IsDown, IsFixed, MakesFrame, controlled};
-ghost use Rattle.link_stack.specs.Downward.{counted_from, first_lane_down, idle_zones};
+ghost use Rattle.link_stack.specs.Frames.{packet_of, pdus_in};
+ghost use Rattle.link_stack.specs.Downward.{packing, IsDown, IsFixed, MakesBare, MakesFrame};
+ghost use Rattle.link_stack.specs.Downward.{controlled, counted_from, first_lane_down, idle_zones};
 ghost use Rattle.link_stack.specs.Downward as downward;
 
 use aos_frame::{ChannelConfig, FrameHeader, HEADER_LEN as FRAME_HEADER_LEN, VcCounter};
 use frame_fields::seal;
 use mpdu::{MPDU_HEADER_LEN, Packer, put_pointer};
 use space_packet::header::HEADER_LEN as PACKET_HEADER_LEN;
-use space_packet::{Packet, PacketType, SequenceFlags};
+use space_packet::{Packet, PacketType, SequenceFlags, header_of};
 use std::alloc::{AllocError, Global};
 use std::marker::Model;
 use valid_config::Valid;
-
-/// Writes the headers of a frame with a packet zone, in front of the zone.
-fn put_headers(frame: &FrameHeader, pointer: u16, out: &mut [u8])
-    requires fits { FitsHeader frame.now }
-    requires pointer { pointer < 2048 }
-    requires room { length out.old ≡ 8 }
-    ensures { out.new ≡ frame_octets frame.now (pointer_octets pointer) }
-{
-    let (header, behind) = out.split_at_mut(FRAME_HEADER_LEN);
-    aos_frame::encode(frame, header);
-    put_pointer(behind, pointer);
-}
 
 /// A lane of the sending end: each PDU in a packet of its own, the packets end to end over the
 /// frames of one virtual channel.
@@ -118,6 +106,14 @@ impl DownLane {
         self.packer.room().saturating_sub(PACKET_HEADER_LEN)
     }
 
+    /// How many octets of packets may wait.
+    pub(crate) fn capacity(&self) -> usize
+        ensures is { result ≡ self.now.capacity }
+        ensures most { result ≤ 65536 }
+    {
+        self.packer.capacity()
+    }
+
     /// The octets of packets that wait to be made frames.
     pub(crate) fn waiting_len(&self) -> usize
         ensures len { result ≡ length self.now.waiting }
@@ -134,12 +130,11 @@ impl DownLane {
     }
 
     /// Puts a PDU of at least one octet, for which there is room, behind the others: in a packet
-    /// with this count, which is written into a buffer of the capacity.
-    pub(crate) fn send(&mut self, pdu: &[u8], count: u16, buffer: &mut [u8])
+    /// with this count.
+    pub(crate) fn send(&mut self, pdu: &[u8], count: u16)
         requires some { 1 ≤ length pdu.now }
         requires room { length pdu.now ≤ downward.room self.old }
         requires count { count < 16384 }
-        requires buffer { length buffer.old ≡ self.old.capacity }
         // The stream is then longer by one packet: the PDU's, with this count.
         ensures stream { (ps : List (List ℕ)) (made : ℕ) → IsDown self.old ps made →
             IsDown self.new (ps ++ packet_of self.old.link count pdu.now ∷ []) made }
@@ -159,8 +154,8 @@ impl DownLane {
             count,
             body: pdu,
         };
-        let len = space_packet::encode(&packet, buffer);
-        let _ = self.packer.push(&buffer[..len]);
+        let header = header_of(&packet);
+        let _ = self.packer.push_pieces(&header, pdu);
     }
 
     /// Fills the begun zone by an idle packet, where one is begun.
@@ -181,11 +176,9 @@ impl DownLane {
     }
 
     /// Writes the oldest whole zone as a frame with the next count and the fields of the channel,
-    /// and takes it off. False where no whole zone waits: nothing changed then. The first buffer is
-    /// written, too.
-    pub(crate) fn next_frame(&mut self, bare: &mut [u8], out: &mut [u8]) -> bool
-        requires bare { length bare.old ≡ 8 + self.old.link.zone }
-        requires room { length out.old ≡ frame_len self.old.link }
+    /// and takes it off. False where no whole zone waits: nothing changed then.
+    pub(crate) fn next_frame(&mut self, out: &mut [u8]) -> bool
+        requires { length out.old ≡ frame_len self.old.link }
         ensures whole { result ≡ downward.has_whole self.old }
         ensures kept { result ≡ false → (self.new ≡ self.old) × (out.new ≡ out.old) }
         ensures made { result ≡ true → MakesFrame out.new self.old self.new }
@@ -193,40 +186,52 @@ impl DownLane {
         ensures fixed { (self.new.capacity ≡ self.old.capacity)
             × (length self.new.waiting ≤ length self.old.waiting) }
     {
-        if !self.next_bare(bare) {
+        if !self.put_bare(out) {
             return false;
         }
-        seal(Valid::known(self.link.fields), bare, self.control, out);
+        seal(Valid::known(self.link.fields), self.control, out);
         true
     }
 
-    /// Writes the oldest whole zone as a bare frame with the next count, and takes it off. False
-    /// where no whole zone waits: nothing changed then.
-    fn next_bare(&mut self, out: &mut [u8]) -> bool
-        requires { length out.old ≡ 8 + self.old.link.zone }
+    /// Writes the oldest whole zone as a bare frame with the next count where that stands in a
+    /// frame of the channel, and takes it off. False where no whole zone waits: nothing changed
+    /// then.
+    fn put_bare(&mut self, out: &mut [u8]) -> bool
+        requires { length out.old ≡ frame_len self.old.link }
         ensures whole { result ≡ downward.has_whole self.old }
         ensures kept { result ≡ false → (self.new ≡ self.old) × (out.new ≡ out.old) }
-        // It is the stream's frame behind those made, and one more is made then.
-        ensures stream { (ps : List (List ℕ)) (made : ℕ) → IsDown self.old ps made → result ≡ true →
-            (out.new ≡ frame_of self.old.link ps made)
-            × (made * self.old.link.zone + self.old.link.zone ≤ length (stream ps))
-            × IsDown self.new ps (made + 1) }
-        ensures zone { result ≡ true → drop 8 out.new ≡ take self.old.link.zone self.old.waiting }
-        ensures rest { result ≡ true → self.new.waiting ≡ drop self.old.link.zone self.old.waiting }
-        ensures fixed { (self.new.link ≡ self.old.link) × (self.new.capacity ≡ self.old.capacity)
-            × (self.new.flushed ≡ self.old.flushed) × (self.new.control ≡ self.old.control) }
+        ensures made { result ≡ true →
+            MakesBare (bare_in self.old.link.fields out.new) self.old self.new }
+        ensures len { length out.new ≡ length out.old }
     {
-        let (header, zone) = out.split_at_mut(FRAME_HEADER_LEN + MPDU_HEADER_LEN);
+        let (header, behind) = out.split_at_mut(FRAME_HEADER_LEN);
+        let (_insert, behind) = behind.split_at_mut(usize::from(self.link.fields.insert_zone));
+        let (mpdu, _fields) = behind.split_at_mut(MPDU_HEADER_LEN + usize::from(self.link.zone));
+        self.next_bare(header, mpdu)
+    }
+
+    /// Writes the oldest whole zone as a bare frame with the next count, its header and its M_PDU
+    /// apart, and takes it off. False where no whole zone waits: nothing changed then.
+    fn next_bare(&mut self, header: &mut [u8], mpdu: &mut [u8]) -> bool
+        requires header { length header.old ≡ 6 }
+        requires mpdu { length mpdu.old ≡ 2 + self.old.link.zone }
+        ensures whole { result ≡ downward.has_whole self.old }
+        ensures kept { result ≡ false → (self.new ≡ self.old) × (header.new ≡ header.old)
+            × (mpdu.new ≡ mpdu.old) }
+        ensures made { result ≡ true → MakesBare (header.new ++ mpdu.new) self.old self.new }
+    {
+        let (pointer_octets, zone) = mpdu.split_at_mut(MPDU_HEADER_LEN);
         let Some(pointer) = self.packer.zone(zone) else {
             return false;
         };
+        put_pointer(pointer_octets, pointer);
         let frame = FrameHeader {
             spacecraft: self.link.spacecraft,
             virtual_channel: self.link.virtual_channel,
             count: self.frames.next(),
             cycle: true,
         };
-        put_headers(&frame, pointer, header);
+        aos_frame::encode(&frame, header);
         true
     }
 }

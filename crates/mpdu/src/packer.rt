@@ -193,6 +193,13 @@ impl Packer {
         })
     }
 
+    /// How many octets of packets may wait in it.
+    pub fn capacity(&self) -> usize
+        ensures { result ≡ self.now.capacity }
+    {
+        self.capacity
+    }
+
     /// How many octets wait in it: those of packets and flushes that no zone has taken yet.
     pub fn waiting_len(&self) -> usize
         ensures len { result ≡ length self.now.waiting }
@@ -229,21 +236,47 @@ impl Packer {
         ensures stream { (ps : List (List ℕ)) (taken : ℕ) → IsAt self.old ps taken →
             OnOk result (IsAt self.new (ps ++ packet.now ∷ []) taken) }
     {
-        self.append(packet)
+        let (header, body) = packet.split_at(HEADER_LEN);
+        self.push_pieces(header, body)
     }
 
-    fn append(&mut self, packet: &[u8]) -> Result<(), Full>
-        requires { 1 ≤ length packet.now }
-        ensures full { IsErr result
-            ↔ (self.old.capacity < length self.old.waiting + length packet.now) }
+    /// Puts a packet behind the others that lies in two pieces, as its header and its body do, or
+    /// tells that there is no room for it.
+    ///
+    /// Both are a whole packet, which [`is_packet`](crate::is_packet) tests. The answer is `Full`
+    /// where the waiting octets with its own pass the capacity, and then nothing changed.
+    pub fn push_pieces(&mut self, front: &[u8], behind: &[u8]) -> Result<(), Full>
+        requires { IsPacket (front.now ++ behind.now) }
+        ensures full { IsErr result ↔ (self.old.capacity
+            < length self.old.waiting + (length front.now + length behind.now)) }
         ensures err { OnErr result (self.new ≡ self.old) }
-        ensures ok { OnOk result (self.new
-            ≡ record self.old { waiting = self.old.waiting ++ packet.now; flushed = false }) }
+        ensures fixed { (self.new.size ≡ self.old.size) × (self.new.capacity ≡ self.old.capacity) }
+        ensures unflushed { OnOk result (self.new.flushed ≡ false) }
+        ensures waiting { OnOk result (self.new.waiting
+            ≡ self.old.waiting ++ (front.now ++ behind.now)) }
+
+        // Its stream is then longer by the packet.
+        ensures stream { (ps : List (List ℕ)) (taken : ℕ) → IsAt self.old ps taken →
+            OnOk result (IsAt self.new (ps ++ (front.now ++ behind.now) ∷ []) taken) }
     {
-        if packet.len() > self.room() {
+        self.append_pieces(front, behind)
+    }
+
+    fn append_pieces(&mut self, front: &[u8], behind: &[u8]) -> Result<(), Full>
+        requires { 1 ≤ length front.now + length behind.now }
+        ensures full { IsErr result ↔ (self.old.capacity
+            < length self.old.waiting + (length front.now + length behind.now)) }
+        ensures err { OnErr result (self.new ≡ self.old) }
+        ensures ok { OnOk result (self.new ≡ record self.old {
+          waiting = self.old.waiting ++ (front.now ++ behind.now);
+          flushed = false;
+        }) }
+    {
+        if front.len() > self.room() || behind.len() > self.room() - front.len() {
             return Err(Full);
         }
-        let _ = self.waiting.fill_from_slice(packet);
+        let _ = self.waiting.fill_from_slice(front);
+        let _ = self.waiting.fill_from_slice(behind);
         self.flushed = false;
         Ok(())
     }

@@ -97,6 +97,19 @@ pub fn encode(packet: &Packet<'_>, out: &mut [u8]) -> usize
     put_bytes(front, at, packet.body)
 }
 
+/// The primary header of the packet, which [`Packet::is_writable`] tests. The packet is these octets
+/// and its body behind them: so a body needn't be copied to be written.
+pub fn header_of(packet: &Packet<'_>) -> [u8; HEADER_LEN]
+    requires writable { IsWritable (view packet.now) }
+    ensures len { length result ≡ 6 }
+    ensures written { result ++ packet.now.body.now ≡ packet_octets (view packet.now) }
+    ensures spelled { SpellsPacket (view packet.now) (result ++ packet.now.body.now) }
+{
+    let mut header = [0; HEADER_LEN];
+    put_header(packet, packet.body.len(), &mut header);
+    header
+}
+
 /// Writes an idle packet of `len` octets (7 to 65,542, which [`is_packet_len`] tests) into the
 /// first octets: sequence flags `11`, count 0, data octets 0. The octets behind stay.
 pub fn encode_idle(len: usize, out: &mut [u8])

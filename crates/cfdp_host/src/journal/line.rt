@@ -54,7 +54,7 @@ fn write_names(line: &mut Vec<u8>, names: Option<&PutNames>) -> io::Result<()>
     write!(line, " {} {}", Name(source), Name(destination))
 }
 
-/// Writes a line that is made, which has left the buffer then.
+/// Writes a line that is made.
 ///
 /// # Errors
 ///
@@ -62,6 +62,5 @@ fn write_names(line: &mut Vec<u8>, names: Option<&PutNames>) -> io::Result<()>
 pub fn write_line<V: Write>(out: &mut V, line: &[u8]) -> io::Result<()>
     ensures { OnOk result (Appends (V.contents out.old) (V.contents out.new) line.now) }
 {
-    out.write_all(line)?;
-    out.flush()
+    out.write_all(line)
 }

@@ -1,5 +1,4 @@
-//! How the log of a station tells each thing, by its style. What a call writes has left the buffer
-//! of the writer when it returns.
+//! How the log of a station tells each thing, by its style. The writer isn't flushed.
 ghost use Rattle.std.specs.Io.KnownBytes.{Appends};
 ghost use Rattle.std.specs.Prelude.{◌≡◌, OnOk, Some};
 ghost use Rattle.cfdp_host.specs.Journal.Lines as lines;
@@ -79,18 +78,12 @@ pub fn tell_refusal<V: Write>(
 {
     let answer = refusal_answer(error);
     match log.style {
-        Style::Plain => {
-            write_refusal(out, made, answer)?;
-            out.flush()
-        }
+        Style::Plain => write_refusal(out, made, answer),
         Style::Text => {
             make_answer(line, log, made, answer, names)?;
             write_line(out, line.as_slice())
         }
-        Style::Json { .. } => {
-            write_put_object(out, log, made, names, error)?;
-            out.flush()
-        }
+        Style::Json { .. } => write_put_object(out, log, made, names, error),
     }
 }
 
@@ -140,18 +133,12 @@ pub fn tell_indication<V: Write>(
         (V.contents out.old) (V.contents out.new)) }
 {
     match log.style {
-        Style::Plain => {
-            write_indication(out, log.own, indication)?;
-            out.flush()
-        }
+        Style::Plain => write_indication(out, log.own, indication),
         Style::Text => {
             make_indication(line, log, indication, names)?;
             write_line(out, line.as_slice())
         }
-        Style::Json { .. } => {
-            write_indication_object(out, log, indication, names)?;
-            out.flush()
-        }
+        Style::Json { .. } => write_indication_object(out, log, indication, names),
     }
 }
 
@@ -209,10 +196,7 @@ pub fn tell_change<V: Write>(
             writeln!(line, "change {}: {error}", error.name())?;
             write_line(out, line.as_slice())
         }
-        Style::Json { .. } => {
-            write_change_object(out, log, error)?;
-            out.flush()
-        }
+        Style::Json { .. } => write_change_object(out, log, error),
     }
 }
 
@@ -239,10 +223,7 @@ pub fn tell_file<V: Write>(
             make_file(line, log, name, word, why)?;
             write_line(out, line.as_slice())
         }
-        Style::Json { .. } => {
-            write_file_object(out, log, name, word, why)?;
-            out.flush()
-        }
+        Style::Json { .. } => write_file_object(out, log, name, word, why),
     }
 }
 
@@ -291,10 +272,7 @@ pub fn tell_end<O: Outbox, I: Inbox, V: Write>(
 {
     let (complete, asked) = (totals.complete, totals.asked);
     match log.style {
-        Style::Plain => {
-            write_count(out, complete, asked)?;
-            out.flush()
-        }
+        Style::Plain => write_count(out, complete, asked),
         Style::Text => {
             line.clear();
             add_counters(line, log, totals, gaps, station)?;
@@ -304,8 +282,7 @@ pub fn tell_end<O: Outbox, I: Inbox, V: Write>(
         }
         Style::Json { .. } => {
             write_counters_object(out, log, totals, gaps, station)?;
-            write_count_object(out, log, complete, asked)?;
-            out.flush()
+            write_count_object(out, log, complete, asked)
         }
     }
 }

@@ -237,6 +237,12 @@ impl<'a, V: Write + Drop> OperatorConsole<'a, V> {
         }
     }
 
+    /// Something is told to the log, which is written out when commands are looked for next: so the
+    /// turn until then doesn't wait.
+    fn is_told(&self) {
+        self.exchange.is_stirred.set(true);
+    }
+
     /// Notes on the board that a put was accepted.
     fn notes_put(&mut self, id: TransactionId, names: &PutNames) {
         let size = self.post.journal.size(id);
@@ -290,7 +296,7 @@ impl<V: Write + Drop> Console for OperatorConsole<'_, V> {
             }
             Reply::Put(Err(_)) | Reply::Change(_) => self.progress.yields(),
         }
-        self.exchange.is_stirred.set(true);
+        self.is_told();
         self.post.journal.put_answered(names, reply, is_again);
         if let Reply::Put(Ok(id)) = reply {
             self.notes_put(id, names);
@@ -298,7 +304,7 @@ impl<V: Write + Drop> Console for OperatorConsole<'_, V> {
     }
 
     fn change_answered(&mut self, reply: Reply) {
-        self.exchange.is_stirred.set(true);
+        self.is_told();
         self.post.journal.change_answered(reply);
         if let Some(speaker) = self.asker.take() {
             match reply {
@@ -309,6 +315,7 @@ impl<V: Write + Drop> Console for OperatorConsole<'_, V> {
     }
 
     fn hears(&mut self, indication: &Indication) {
+        self.is_told();
         if let Some(board) = &mut self.post.board {
             board.hears(indication);
         }
@@ -317,6 +324,7 @@ impl<V: Write + Drop> Console for OperatorConsole<'_, V> {
 
     fn ends_file(&mut self, name: &[u8], outcome: Outcome) {
         self.progress.yields();
+        self.is_told();
         self.post.journal.ends_file(name, outcome);
     }
 

@@ -14,8 +14,8 @@ use Rattle.cfdp_script.specs.declared.dump.remark.Remark.{Remark}
 use Rattle.cfdp_script.specs.declared.dump.remark.Remark.TheVariants.{Missing, OnlyIdle, CutOff, BadHeaders, Unfollowed, Packet, PassedBy, BadCapture}
 
 pub data Told : Type 0 where
-  -- a line that isn't pairs of hexadecimal digits
-  BadHex : (line : List ℕ) → Told
+  -- what isn't pairs of hexadecimal digits: a line, or what stands behind so many octets of one
+  BadHex : (before : ℕ) → (digits : List ℕ) → Told
   -- what octets are, as a PDU, and as a frame
   AsPdu : (octets : List ℕ) → Told
   AsFrame : (octets : List ℕ) → Told
@@ -34,8 +34,8 @@ remark_text (PassedBy passed) = passed_text passed
 remark_text (BadCapture cause place) =
     fault_text cause ++ (codes " at octet " ++ decimal place)
 
--- Whether the octet at a place of a line may stand there: it is a hexadecimal digit, a space, or the
--- x of 0x where a word begins.
+-- Whether the octet at a place of a text may stand there: it is a hexadecimal digit, a space, or
+-- the x of 0x where a word begins.
 abbrev pub is_digit : ℕ → Bool
 is_digit octet = is_in_range 48 57 octet || (is_in_range 65 70 octet || is_in_range 97 102 octet)
 
@@ -48,25 +48,26 @@ may_stand line place =
     || (slice_index line place == 120 && (nat_le 1 place
     && (slice_index line (place - 1) == 48 && begins_word line (place - 1))))
 
--- what is said of it: the column of the first octet that may not, from 1; if all may, the digits are
--- odd in number
+-- what is said of it: the column of the first octet that may not, from 1, in a line where so many
+-- octets stand before the text; if all may, the digits are odd in number
 pub record IsBadPlace (line : List ℕ) (place : ℕ) : Type 0 where
   pub inside : place < length line
   pub bad : may_stand line place ≡ false
   pub first : (k : ℕ) → k < place → may_stand line k ≡ true
 
-abbrev pub IsSaidOf : List ℕ → Option ℕ → Type 0
-IsSaidOf line None = (k : ℕ) → k < length line → may_stand line k ≡ true
-IsSaidOf line (Some column) = (place : ℕ) × IsBadPlace line place × (column ≡ place + 1)
+abbrev pub IsSaidOf : (before : ℕ) → List ℕ → Option ℕ → Type 0
+IsSaidOf before line None = (k : ℕ) → k < length line → may_stand line k ≡ true
+IsSaidOf before line (Some column) =
+    (place : ℕ) × IsBadPlace line place × (column ≡ before + place + 1)
 
 abbrev pub place_text : Option ℕ → List ℕ
 place_text None = codes " odd digits"
 place_text (Some column) = codes " column " ++ decimal column
 
 -- The text tells it.
-pub record TellsBadHex (form : DumpForm) (line text : List ℕ) : Type 0 where
+pub record TellsBadHex (form : DumpForm) (before : ℕ) (digits text : List ℕ) : Type 0 where
   pub column : Option ℕ
-  pub said : IsSaidOf line column
+  pub said : IsSaidOf before digits column
   pub words : text ≡ refusal_text Hex ++ (place_text column ++ end_of form)
 
 -- the PDU of a packet: it has one if it is no segment and has no secondary header (CCSDS 133.0-B-2,
@@ -84,7 +85,7 @@ packet_remark packet = if nat_lt (length packet) 6 then Packet 0 0 (length packe
 
 -- This text is written for it.
 abbrev pub TellsTold : DumpRequest → Told → List ℕ → Type 0
-TellsTold request (BadHex line) text = TellsBadHex request.form line text
+TellsTold request (BadHex before digits) text = TellsBadHex request.form before digits text
 TellsTold request (AsPdu octets) text = TellsAsPdu request.form octets text
 TellsTold request (AsFrame octets) text = TellsAsFrame request.form request.shape octets text
 TellsTold request (Says remark) text = text ≡ remark_text remark

@@ -94,6 +94,14 @@ pub record WritesRun {A : Type 0} (P : List Channel → A → List Told → List
   pub told : TellsRun P [] units tolds after
   pub written : WritesLines (TellsTold request) tolds old new
 
+-- Of these units all was written, behind frames of these channels.
+pub record WritesMore {A : Type 0} (P : List Channel → A → List Told → List Channel → Type 0)
+    (request : DumpRequest) (before : List Channel) (units : List A) (after : List Channel)
+    (old new : Option (List ℕ)) : Type 0 where
+  pub tolds : List Told
+  pub told : TellsRun P before units tolds after
+  pub written : WritesLines (TellsTold request) tolds old new
+
 -- Of one all was written.
 pub record WritesUnit (P : List Told → List Channel → Type 0) (request : DumpRequest)
     (after : List Channel) (old new : Option (List ℕ)) : Type 0 where

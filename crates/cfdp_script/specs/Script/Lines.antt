@@ -14,8 +14,11 @@ use Rattle.cfdp_script.specs.declared.script.command.Line.TheVariants as line
 use Rattle.cfdp_script.specs.declared.script.command.Contents.{Contents}
 use Rattle.cfdp_script.specs.declared.script.command.Contents.TheVariants.{Text, Fill}
 use Rattle.cfdp_script.specs.declared.script.command.Command.{Command}
-use Rattle.cfdp_script.specs.declared.script.command.Command.TheVariants.{Once, Repeat, First, Damage as DamageOne, Spread, Burst, Settle, Recover}
+use Rattle.cfdp_script.specs.declared.script.command.Command.TheVariants.{Once, Repeat, First, Damage as DamageOne, Spread, Burst, Settle, Recover, Disorder as Does}
 use Rattle.cfdp_script.specs.declared.script.command.Damage.{Damage}
+use Rattle.cfdp_script.specs.declared.script.command.Disorder.{Disorder}
+use Rattle.cfdp_script.specs.declared.script.command.Disorder.TheVariants.{Overtake, Again, Restart}
+use Rattle.cfdp_script.specs.declared.script.command.Pick.{Pick}
 use Rattle.cfdp_script.specs.declared.script.command.Fate.{Fate}
 use Rattle.cfdp_script.specs.declared.script.command.Fate.TheVariants.{Arrives, IsLost}
 use Rattle.cfdp_script.specs.declared.script.command.Unread.{Unread}
@@ -145,18 +148,45 @@ prompt_of words =
     option_and_then (λ w. both (λ of keep_alive. Once (event.Prompt of.0 of.1 keep_alive))
     (transaction_at w.0 w.1) (asked_of w.2)) (three_of words)
 
+-- one frame of a station, where this word, which is the name of a lane or of none, stands there: of
+-- the lane, or of both
+abbrev pub pick_by : Side → List ℕ → Option Lane → List (List ℕ) → Option Pick
+pick_by from word (Some lane) words =
+    option_and_then (λ w. option_map (λ n. record { from = from; lane = Some lane; number = n })
+    (frame_count w)) (one_of words)
+pick_by from word None words =
+    both (λ _ n. record { from = from; lane = None; number = n }) (nothing_of words)
+    (frame_count word)
+
+abbrev pub pick_at : Side → List (List ℕ) → Option Pick
+pick_at from words = option_and_then (λ w. pick_by from w.0 (lane_of w.0) w.1) (next_word words)
+
+-- `S N`, `S LANE N`
+abbrev pub pick_of : List (List ℕ) → Option Pick
+pick_of words = option_and_then (λ w. option_and_then (λ from. pick_at from w.1)
+    (station_of w.0)) (next_word words)
+
+-- what no link that keeps its order does: `overtake S [LANE] N`, `repeat S [LANE] N`; and
+-- `restart S`
+abbrev pub disorder_of : List ℕ → List (List ℕ) → Option Disorder
+disorder_of verb words =
+    if is verb (codes "overtake") then option_map Overtake (pick_of words)
+    else if is verb (codes "repeat") then option_map Again (pick_of words)
+    else if is verb (codes "restart") then option_map Restart (station_words words)
+    else None
+
 -- a command without words behind it
 abbrev pub alone : Command → List (List ℕ) → Option Command
 alone command words = option_map (λ _. command) (nothing_of words)
 
--- the commands that go on until nothing is left to do
+-- these, and the commands that go on until nothing is left to do
 abbrev pub round_of : List ℕ → List (List ℕ) → Option Command
 round_of verb words =
     if is verb (codes "spread") then option_map Spread (station_words words)
     else if is verb (codes "burst") then option_map Burst (station_words words)
     else if is verb (codes "settle") then alone Settle words
     else if is verb (codes "recover") then alone Recover words
-    else None
+    else option_map Does (disorder_of verb words)
 
 -- these, and what happens at a station or on the link
 abbrev pub motion_of : List ℕ → List (List ℕ) → Option Command

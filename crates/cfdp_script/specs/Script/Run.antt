@@ -20,7 +20,7 @@ use Rattle.cfdp_report.specs.declared.report.answer.Answer.{Answer}
 use Rattle.cfdp_report.specs.declared.report.answer.Answered.{Answered}
 use Rattle.cfdp_report.specs.declared.report.answer.Answer.TheVariants.{Nothing, Refused, Ended}
 use Rattle.cfdp_script.specs.declared.script.command.Command.{Command}
-use Rattle.cfdp_script.specs.declared.script.command.Command.TheVariants.{Once, Repeat, First, Damage as DamageOne, Spread, Burst, Settle as SettleAll, Recover}
+use Rattle.cfdp_script.specs.declared.script.command.Command.TheVariants.{Once, Repeat, First, Damage as DamageOne, Spread, Burst, Settle as SettleAll, Recover, Disorder}
 use Rattle.cfdp_script.specs.declared.script.command.Damage.{Damage}
 use Rattle.cfdp_script.specs.declared.script.command.Fate.{Fate}
 use Rattle.cfdp_script.specs.Script.Lines.{befalls}
@@ -131,6 +131,8 @@ Performs SettleAll answer old new =
     IsDone answer (GoesWell old new × IsSettled new) (λ error. SettlingEnds error old new)
 Performs Recover answer old new =
     IsDone answer (Recovers old new × IsRecovered new) (λ error. EndsBy error old new)
+-- where frames keep their order, this is no command
+Performs (Disorder what) answer old new = (answer ≡ Some (Nothing 0)) × (new ≡ old)
 
 -- ---- all commands
 -- Each command in turn, from the world that the one before left, with its line and its answer.

@@ -5,8 +5,8 @@ ghost use Rattle.cfdp_script.specs.Dump.Told.{IsSaidOf, place_text};
 
 use std::fmt;
 
-/// The column, from 1, of the first octet of a line that may not stand there, if there is one; else
-/// the digits are odd in number.
+/// The column in its line, from 1, of the first octet that may not stand there, if there is one;
+/// else the digits are odd in number.
 #[derive(Clone, Copy)]
 pub(crate) struct BadPlace(Option<usize>);
 
@@ -22,20 +22,20 @@ impl fmt::Display for BadPlace {
 }
 
 impl BadPlace {
-    /// That of a line.
-    pub(crate) fn of(line: &[u8]) -> BadPlace
-        ensures { IsSaidOf line.now result.0 }
+    /// That of digits, which stand behind so many octets of a line.
+    pub(crate) fn of(before: u8, digits: &[u8]) -> BadPlace
+        ensures { IsSaidOf before digits.now result.0 }
     {
-        for place in 0..line.len() {
-            if !may_stand(line, place) {
-                return BadPlace(Some(place + 1));
+        for place in 0..digits.len() {
+            if !may_stand(digits, place) {
+                return BadPlace(Some(usize::from(before) + place + 1));
             }
         }
         BadPlace(None)
     }
 }
 
-/// Whether the octet at a place of a line may stand there.
+/// Whether the octet at a place of a text may stand there.
 fn may_stand(line: &[u8], place: usize) -> bool
     requires { place < length line.now }
     ensures { result ≡ told.may_stand line.now place }
@@ -47,7 +47,7 @@ fn may_stand(line: &[u8], place: usize) -> bool
     }
 }
 
-/// Whether a word begins at a place of a line.
+/// Whether a word begins at a place of a text.
 fn begins_word(line: &[u8], place: usize) -> bool
     requires { place < length line.now }
     ensures { result ≡ told.begins_word line.now place }

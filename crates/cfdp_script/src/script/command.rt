@@ -9,6 +9,7 @@ ghost use Rattle.cfdp_script.specs.Script.Lines.{transaction_words, number_words
 ghost use Rattle.cfdp_script.specs.Script.Lines.{which_of, count_of, frame_count, lane_of};
 ghost use Rattle.cfdp_script.specs.Script.Lines.{prompt_of, asked_of};
 ghost use Rattle.cfdp_script.specs.Script.Lines.{damage_at, damage_of, damaged_of, id_of};
+ghost use Rattle.cfdp_script.specs.Script.Lines.{disorder_of, pick_at, pick_of};
 ghost use Rattle.cfdp_script.specs.Script.Lines.{station_of};
 
 use crate::script::words::{Words, cut_at_first};
@@ -94,6 +95,33 @@ pub enum Command {
     /// `recover`: settles, and tells stations the time and settles again, until no timer is armed
     /// but those of Inactivity.
     Recover,
+    /// What no link that keeps its order does, or a station that starts anew.
+    Disorder(Disorder),
+}
+
+/// What befalls frames on a link that keeps no order, and a station that starts anew. A world that
+/// keeps the order of its frames does none of it.
+#[derive(Clone, Copy)]
+pub enum Disorder {
+    /// `overtake S N`, `overtake S LANE N`: the frame that has N waiting ones in front of it, of
+    /// its lane or of both, arrives before these.
+    Overtake(Pick),
+    /// `repeat S N`, `repeat S LANE N`: a frame that arrived before arrives again: the Nth, counted
+    /// back from the one that arrived last, of a lane or of both.
+    Again(Pick),
+    /// `restart S`: the station starts anew.
+    Restart(Side),
+}
+
+/// One of the frames that a station sent, in one lane or in both, by a number.
+#[derive(Clone, Copy)]
+pub struct Pick {
+    /// The station that sent it.
+    pub from: Side,
+    /// The lane whose frames are counted; `None` where those of both are.
+    pub lane: Option<Lane>,
+    /// Which one: 1 at least.
+    pub number: u64,
 }
 
 /// What is damaged of a frame: one octet comes as another one.
@@ -163,7 +191,7 @@ impl From<AllocError> for Unread {
 ///
 /// # Errors
 ///
-/// `Bad` with any `LineError` but the last four; `NoMemory` where there is no memory for the names
+/// `Bad` with any `LineError` before `TooLate`; `NoMemory` where there is no memory for the names
 /// and the text in it.
 pub fn parse_line(alloc: Global, line: &[u8]) -> Result<Line, Unread>
     ensures { Reads result (line_of line.now) }
@@ -322,7 +350,49 @@ fn parse_round(verb: &[u8], words: Words<'_>) -> Result<Command, LineError>
         words.end()?;
         Ok(Command::Recover)
     } else {
+        Ok(Command::Disorder(parse_disorder(verb, words)?))
+    }
+}
+
+/// What a link that keeps its order doesn't do, or a start.
+fn parse_disorder(verb: &[u8], words: Words<'_>) -> Result<Disorder, LineError>
+    ensures { result_ok result ≡ disorder_of verb.now (left words.entry) }
+{
+    if verb == b"overtake".as_slice() {
+        Ok(Disorder::Overtake(parse_pick(words)?))
+    } else if verb == b"repeat".as_slice() {
+        Ok(Disorder::Again(parse_pick(words)?))
+    } else if verb == b"restart".as_slice() {
+        Ok(Disorder::Restart(parse_alone(words)?))
+    } else {
         Err(LineError::UnknownCommand)
+    }
+}
+
+/// One frame of a station.
+fn parse_pick(mut words: Words<'_>) -> Result<Pick, LineError>
+    ensures { result_ok result ≡ pick_of (left words.entry) }
+{
+    let from = parse_station(words.next_word()?)?;
+    parse_pick_at(from, words)
+}
+
+/// One frame of this station: of a lane where one stands there, or of both.
+fn parse_pick_at(from: Side, mut words: Words<'_>) -> Result<Pick, LineError>
+    ensures { result_ok result ≡ pick_at from (left words.entry) }
+{
+    let word = words.next_word()?;
+    match parse_lane(word) {
+        Some(lane) => {
+            let word = words.one()?;
+            let (lane, number) = (Some(lane), parse_frame_count(word, LineError::BadNumber)?);
+            Ok(Pick { from, lane, number })
+        }
+        None => {
+            words.end()?;
+            let (lane, number) = (None, parse_frame_count(word, LineError::UnknownLane)?);
+            Ok(Pick { from, lane, number })
+        }
     }
 }
 

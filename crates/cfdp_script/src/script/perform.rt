@@ -38,6 +38,8 @@ pub fn perform<S: Stations>(alloc: Global, stations: &mut S, command: &Command) 
             Ok(()) => None,
             Err(error) => Some(Answer::Ended(error)),
         },
+        // A world that keeps the order of its frames does none of it.
+        Command::Disorder(_) => Some(Answer::Nothing { after: 0 }),
     }
 }
 
@@ -141,7 +143,7 @@ fn oldest_damaged<S: Stations>(
 /// # Errors
 ///
 /// `AllocError` where there is no memory for it.
-fn damaged(alloc: Global, frame: &[u8], damage: Damage) -> Result<Octets, AllocError>
+pub fn damaged(alloc: Global, frame: &[u8], damage: Damage) -> Result<Octets, AllocError>
     ensures { IfOk result (λ octets. octets ≡ damaged damage frame.now) }
 {
     if damage.at >= frame.len() as u64 {

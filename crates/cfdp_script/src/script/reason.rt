@@ -15,7 +15,7 @@ struct Form {
     form: &'static str,
 }
 
-const FORMS: [Form; 18] = [
+const FORMS: [Form; 21] = [
     Form {
         verb: "set",
         form: "set KEY N",
@@ -87,6 +87,18 @@ const FORMS: [Form; 18] = [
     Form {
         verb: "recover",
         form: "recover",
+    },
+    Form {
+        verb: "overtake",
+        form: "overtake S [dir|data] N",
+    },
+    Form {
+        verb: "repeat",
+        form: "repeat S [dir|data] N",
+    },
+    Form {
+        verb: "restart",
+        form: "restart S",
     },
 ];
 

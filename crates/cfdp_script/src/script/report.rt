@@ -121,7 +121,7 @@ fn completed_puts<S: Stations>(stations: &S) -> u128
 }
 
 /// How many of the commands are puts.
-fn asked_puts(steps: &[Step]) -> usize
+pub fn asked_puts(steps: &[Step]) -> usize
     ensures { result ≡ puts_asked steps.now }
 {
     let mut count = 0;

@@ -67,7 +67,7 @@ fn run_script<R: Read + Drop, W: Write>(
 }
 
 /// Runs the script that this text is, and writes its report.
-fn run_text<W: Write>(rt: &HostRuntime, shown: &Shown, text: &[u8], out: &mut W) -> Ran
+pub fn run_text<W: Write>(rt: &HostRuntime, shown: &Shown, text: &[u8], out: &mut W) -> Ran
     requires { length text.now ≤ MAX_SCRIPT }
     ensures script { EndsText result.exit text.now (W.contents out.old) (W.contents out.new) }
     ensures silent { IsSilentAt result.exit (W.contents out.old) (W.contents out.new) }

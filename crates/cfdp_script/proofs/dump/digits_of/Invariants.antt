@@ -1,7 +1,7 @@
-use Rattle.std.proofs.Common.{◌≡◌, ◌+◌, ◌++◌, ℕ, [], length}
+use Rattle.std.proofs.Common.{◌≡◌, ◌+◌, ◌++◌, [], length}
 use Rattle.std.specs.List.{flat_map}
 use Rattle.std.specs.Option.{option_map_or}
-use Rattle.cfdp_script.specs.Dump.{bare}
+use Rattle.cfdp_script.specs.Dump.Rows.{bare}
 use Rattle.cfdp_script.specs.Script.Words.{parts}
 use Rattle.cfdp_script.proofs.dump.digits_of.Given as goal
 

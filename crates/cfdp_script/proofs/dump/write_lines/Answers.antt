@@ -1,8 +1,9 @@
-use Rattle.std.proofs.Common.{◌∙◌, ap, append-nil, rules, arith, subst, ◌++◌, sym}
-use Rattle.cfdp_script.specs.Dump.{TellsLine, lines}
-use Rattle.cfdp_script.specs.Dump.Units.{WritesRun}
+use Rattle.std.proofs.Common.{rules, arith}
+use Rattle.std.specs.Option.{option_map}
+use Rattle.cfdp_script.specs.Dump.{TellsPiece}
+use Rattle.cfdp_script.specs.Dump.Stepping.{ended_pieces, piece_texts, step_text}
 use Rattle.cfdp_script.proofs.DumpedLines.{lines-empty}
-use Rattle.cfdp_script.proofs.Runs.{lines-behind, lines-front}
+use Rattle.cfdp_script.proofs.Runs.{ended_told, lines-behind, lines-end, lines-front, more-joined}
 use Rattle.cfdp_script.proofs.dump.write_lines.Goals as goal
 
 pub loop-rest-init : goal.loop-rest-init
@@ -10,13 +11,12 @@ loop-rest-init g c = rw c.new-channels.ensures (lines-front _ _ _)
 
 pub loop-rest-preserved : goal.loop-rest-preserved
 loop-rest-preserved g c =
-    lines-behind _ _ _ _ _ _ _ _ _ _ c.cut_line.ensures.lines c.loop-rest.invariant c.in_ok-write_line.ensures
+    let r = c.args.request in
+    lines-behind r c.args.text.now c.loop-rest.rest.now c.cut_line.result.0.now c.without_return.result.now c.cut_line.result.1.now _ (step_text c.in_ok-step.step) _ _ _ _ _
+    c.cut_line.ensures.lines c.without_return.ensures c.in_ok-step.ensures c.loop-rest.invariant
+    (more-joined (TellsPiece r) r _ (ended_pieces c.in_ok-step.step.ended) _ (piece_texts c.in_ok-step.step.piece) _ _ _ _ c.in_ok-write_ended.ensures c.in_ok-write_piece.ensures)
 
 pub returns : goal.returns
 returns g c =
-    let all = c.loop-rest.invariant in
-    let whole = all.cut ∙ ap (λ l. all.front ++ l) (lines-empty _ (search (rules, arith))) ∙ append-nil all.front in
-    record {
-      after = c.loop-rest.channels;
-      written = subst (λ l. WritesRun (TellsLine c.args.request) c.args.request l c.loop-rest.channels (g.W.Write.contents c.args.out.now) (g.W.Write.contents c.loop-rest.out)) (sym whole) all.told;
-    }
+    lines-end c.args.request c.args.text.now c.loop-rest.rest.now (option_map (λ octets. octets.items) c.loop-rest.begun) _ _ _ _ _ _
+    (lines-empty _ (search (rules, arith))) c.loop-rest.invariant (ended_told c.args.request c.loop-rest.begun _ _ _ _ _ c.write_ended-2.ensures)

@@ -5,4 +5,4 @@ use Rattle.cfdp_script.proofs.dump.bad_hex.BadPlace.of.Goals as goal
 
 pub loop-place-preserved : goal.loop-place-preserved
 loop-place-preserved c =
-    places_more (may_stand c.args.line.now) c.loop-place.place c.loop-place.invariant (sym c.may_stand.ensures ∙ c.if-not-may_stand.false)
+    places_more (may_stand c.args.digits.now) c.loop-place.place c.loop-place.invariant (sym c.may_stand.ensures ∙ c.if-not-may_stand.false)

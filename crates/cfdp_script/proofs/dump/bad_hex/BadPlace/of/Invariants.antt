@@ -4,4 +4,4 @@ use Rattle.cfdp_script.proofs.dump.bad_hex.BadPlace.of.Given as goal
 
 -- all octets before this place may stand there
 abbrev pub invariant-loop-place : goal.invariant-loop-place
-invariant-loop-place l = (k : ℕ) → k < l.place → may_stand l.line k ≡ true
+invariant-loop-place l = (k : ℕ) → k < l.place → may_stand l.digits k ≡ true

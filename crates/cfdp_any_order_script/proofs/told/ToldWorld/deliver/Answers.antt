@@ -1,0 +1,5 @@
+use Rattle.cfdp_any_order_script.proofs.Noted.{all_on, deliver_no}
+use Rattle.cfdp_any_order_script.proofs.told.ToldWorld.deliver.Goals as goal
+
+pub invariant_of-self : goal.invariant_of-self
+invariant_of-self c = all_on c.self.inside.files.now _ _ _ _ _ _ _ _ (c.show_onward.ensures _ _ _ c.deliver.ensures.happened (deliver_no _ _)) c.self.invariant

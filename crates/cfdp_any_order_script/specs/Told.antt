@@ -1,0 +1,66 @@
+-- What two stations told their users, in all their lives, and what is kept of that.
+use Rattle.std.specs.Prelude.{◌≡◌, ℕ, List, [], ◌++◌, Some, length, count_by, slice_get, slice_index_or}
+use Rattle.std.specs.List.{flat_map}
+use Rattle.cfdp_header.specs.Files.{FileMap}
+use Rattle.cfdp_directives.specs.declared.user.indication.Indication.{Indication}
+use Rattle.link_sim.specs.declared.side.Side.{Side}
+use Rattle.link_sim.specs.declared.side.Side.TheVariants.{One, Two}
+use Rattle.any_order.specs.declared.answers.SentFrame.{SentFrame}
+use Rattle.any_order.specs.Calls as sides
+use Rattle.any_order.specs.Kept.{EndKept, LifeKept, all_kept, frames_in}
+use Rattle.any_order.specs.Onward.{BeginsAnew, GoesOn}
+use Rattle.any_order.specs.World.{WorldKept, kept_at, side_of, sources_at}
+use Rattle.cfdp_report.specs.Report.Lines.{indication_line, is_own_completion}
+use Rattle.cfdp_script.specs.Script.Outboxes.{outbox_of}
+use Rattle.cfdp_script.specs.declared.script.GivenFile.{GivenFile}
+
+-- the other station
+abbrev pub opposite : Side → Side
+opposite One = Two
+opposite Two = One
+
+-- its entity
+abbrev pub station_of : Side → ℕ
+station_of One = 1
+station_of Two = 2
+
+abbrev pub kept_of : Side → WorldKept → EndKept
+kept_of s w = kept_at (side_of s) w
+
+-- all that a station told its user, in all its lives, in order
+abbrev pub told_ever : Side → WorldKept → List Indication
+told_ever s w = (kept_of s w).told_before ++ (kept_of s w).station.entity.state.table.told
+
+-- the files that it published, in all its lives
+abbrev pub received : Side → WorldKept → FileMap
+received s w = (kept_of s w).station.entity.state.table.files
+
+-- These are the octets of a frame that a station made.
+abbrev pub IsFrame : SentFrame → List ℕ → EndKept → Type 0
+IsFrame f octets k = (l : LifeKept) × (slice_get (all_kept k) f.life ≡ Some l)
+    × (octets ≡ slice_index_or (frames_in f.lane l) f.place [])
+
+-- Of the lives that a station had before, their number, the lines of all that it told in them, and
+-- how many of its puts were complete by these are kept; and all that it told in this life is there.
+-- (Only proofs need it.)
+pub record IsNoted (station number : ℕ) (lines : List ℕ) (complete : ℕ) (k : EndKept) : Type 0 where
+  pub lives : number ≡ length k.before
+  pub told : lines ≡ flat_map (indication_line station) k.told_before
+  pub completed : complete ≡ count_by (is_own_completion station) k.told_before
+  pub none_gone : k.station.entity.state.table.gone ≡ 0
+
+-- The files that both stations can send are those of a script. (Only proofs need it.)
+abbrev pub HasSources : List GivenFile → WorldKept → Type 0
+HasSources files w = (s : Side) → sources_at (side_of s) w ≡ outbox_of s files
+
+-- Whatever was called, both stations went on in their lives, and the files that they can send stay.
+-- (Only proofs need it, and the next one.)
+abbrev pub GoesOnward : (old new : WorldKept) → Type 0
+GoesOnward old new = ((s : sides.Side) → GoesOn (kept_at s old) (kept_at s new))
+    × ((s : sides.Side) → sources_at s new ≡ sources_at s old)
+
+-- A station started anew, and the other one went on.
+abbrev pub Starts : sides.Side → (old new : WorldKept) → Type 0
+Starts side old new = BeginsAnew (kept_at side old) (kept_at side new)
+    × GoesOn (kept_at (sides.other side) old) (kept_at (sides.other side) new)
+    × ((s : sides.Side) → sources_at s new ≡ sources_at s old)
