@@ -4,7 +4,7 @@
 /// checksums (SHA-256 of what stands between their tags), and it asks nobody but the console.
 pub const POLICY: &str = "default-src 'none'; connect-src 'self'; img-src data:; \
     style-src 'sha256-ciEet665SB6eacwrvNPd1VaughUFKYuos5DUVB1DfVI='; \
-    script-src 'sha256-Ik/ybTS4O9twO1yiiiZpEbKtqAT6rJ2CTVegRQYdMgA='; \
+    script-src 'sha256-RnPRxOWhVH59B1YuQ4sjp7oC7gjAefDh7d4Y1azdASY='; \
     base-uri 'none'; form-action 'none'; frame-ancestors 'none'";
 
 /// The page, in HTML.
@@ -280,7 +280,7 @@ const SPAN = 600, CLOSED = 200, LINES = 1000;
 const BAD = new RegExp("(^| )(fault|abandoned|incomplete|failed:|change|line [0-9]+) "
   + '|"event":"(fault|abandoned|put|change)"|:"(failed|incomplete)"');
 let token = null, status = null, before = null, samples = [], shownClosed = 0, shownLine = 0;
-let isAsking = false, isRenewing = false, isWanted = false, quiet = 0;
+let isAsking = false, isRenewing = false, isWanted = false, isAnew = false, quiet = 0;
 
 function made(tag, text, className) {
   const it = document.createElement(tag);
@@ -317,7 +317,9 @@ async function asks(path, method, body) {
 async function takes_token() {
   const answer = await fetch("/token", { cache: "no-store" });
   if (!answer.ok) return false;
-  token = (await answer.json()).token;
+  const told = (await answer.json()).token;
+  isAnew = token !== null && token !== told;
+  token = told;
   return true;
 }
 async function does(path, what, body) {
@@ -404,14 +406,16 @@ function notes_sample() {
   }
   if (!before || now !== before.seconds) before = status;
 }
-// Whether another run of the station answers than before: it began at another time.
+// Whether another run of the station answers than before: it told another token, has counted less,
+// or began at another time.
 function is_anew() {
   const began = (it) => it.time - it.seconds * 1000;
-  return before !== null && (status.seconds < before.seconds
+  return before !== null && (isAnew || status.seconds < before.seconds
+    || status.closed < shownClosed || status.lines < shownLine
     || Math.abs(began(status) - began(before)) > 5000);
 }
 async function starts_anew() {
-  shownClosed = 0; shownLine = 0; before = null;
+  shownClosed = 0; shownLine = 0; before = null; isAnew = false;
   at("closed").replaceChildren(); at("lines").replaceChildren();
   await takes_history();
 }

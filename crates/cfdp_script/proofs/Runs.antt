@@ -1,12 +1,11 @@
 -- What was written of units, one after the other.
 use Rattle.std.proofs.Common.{◌≡◌, ◌∙◌, ℕ, ◌<◌, ◌+◌, ◌-◌, ◌==◌, arith, List, [], ◌∷◌, ◌++◌, length, Option, Some, None, Bool, true, false, Result, Ok, Err, Vec, refl, sym, ap, subst, append-nil, inl, inr}
 use Rattle.std.proofs.lemmas.Bool.{cases_Bool, eqb-false, eqb-true}
-use Rattle.std.proofs.lemmas.List.{append_assoc}
+use Rattle.std.proofs.lemmas.List.{append_assoc, flat_map_more}
 use Rattle.std.specs.List.{flat_map}
 use Rattle.std.specs.Option.{option_map}
 use Rattle.std.specs.Result.{OnOk}
 use Rattle.std.specs.declared.alloc.Global.{Global}
-use Rattle.mpdu.specs.Feeding.{octets_of_each}
 use Rattle.std.specs.Io.KnownBytes.{Appends}
 use Rattle.captures.specs.Captures.{HasTaken, SpellsTo}
 use Rattle.captures.specs.Packets.{CaptureState, Captured, Faulty, ItemText, PacketText}
@@ -209,15 +208,10 @@ items-behind request start file last old_rest item next rest mid after old betwe
 
 -- ---- packets
 -- one packet more
-pub packets_more : (xs : List (Vec ℕ Global)) (x : Vec ℕ Global) → flat_map packet_told (octets_of_each (xs ++ x ∷ [])) ≡ flat_map packet_told (octets_of_each xs) ++ packet_told x.items
-packets_more [] x = append-nil (packet_told x.items)
-packets_more (y ∷ ys) x =
-    ap (λ l. packet_told y.items ++ l) (packets_more ys x) ∙ sym (append_assoc (packet_told y.items) (flat_map packet_told (octets_of_each ys)) (packet_told x.items))
-
-pub packets_told : (request : DumpRequest) (xs : List (Vec ℕ Global)) (x : Vec ℕ Global) (old mid new : Option (List ℕ)) → WritesLines (TellsTold request) (flat_map packet_told (octets_of_each xs)) old mid
-    → WritesLines (TellsTold request) (packet_told x.items) mid new → WritesLines (TellsTold request) (flat_map packet_told (octets_of_each (xs ++ x ∷ []))) old new
+pub packets_told : (request : DumpRequest) (xs : List (List ℕ)) (x : List ℕ) (old mid new : Option (List ℕ)) → WritesLines (TellsTold request) (flat_map packet_told xs) old mid
+    → WritesLines (TellsTold request) (packet_told x) mid new → WritesLines (TellsTold request) (flat_map packet_told (xs ++ x ∷ [])) old new
 packets_told request xs x old mid new before one =
-    subst (λ l. WritesLines (TellsTold request) l old new) (sym (packets_more xs x)) (lines_joined (TellsTold request) (flat_map packet_told (octets_of_each xs)) (packet_told x.items) old mid new before one)
+    subst (λ l. WritesLines (TellsTold request) l old new) (flat_map_more packet_told [] xs x) (lines_joined (TellsTold request) (flat_map packet_told xs) (packet_told x) old mid new before one)
 
 -- ---- one packet, with its PDU or without one
 pub packet_with : {E : Type 0} (request : DumpRequest) (packet pdu : List ℕ) (remark : Remark) (r : Result (Unit {0}) E) (old mid new : Option (List ℕ)) → Some pdu ≡ pdu_in packet

@@ -1,6 +1,5 @@
 // What a station does to several of its parts at once.
 ghost use Rattle.std.specs.Prelude.{◌≡◌, ◌+◌, ◌%◌, ◌<◌, ◌≤◌, length, take, IfOk, OnErr};
-ghost use Rattle.mpdu.specs.Feeding.{octets_of_each};
 ghost use Rattle.aos_frame.specs.Frame.{other_lane};
 ghost use Rattle.link_stack.specs.Downward.{IsBounded, KeepsLanes, SendsPdu, lane_down};
 ghost use Rattle.link_stack.specs.Downward as downward;
@@ -17,6 +16,7 @@ use crate::polled::Polled;
 use cfdp_entity::{Entity, EntityPolled, Rooms};
 use cfdp_store::{Inbox, Outbox};
 use link_stack::{Down, Lane};
+use octet_strings::OctetStrings;
 use std::alloc::AllocError;
 
 /// The lane of a PDU: file data go on their own, directives on the other.
@@ -102,10 +102,10 @@ fn hear_one<O: Outbox, I: Inbox>(entity: &mut Entity<O, I>, pdu: &[u8])
 }
 
 /// The entity hears these PDUs, in order. What it drops it counts, and hears the next.
-pub(crate) fn hear_all<O: Outbox, I: Inbox>(entity: &mut Entity<O, I>, pdus: &[Vec<u8>])
-    ensures { HearsAll (octets_of_each pdus.now) entity.old entity.new }
+pub(crate) fn hear_all<O: Outbox, I: Inbox>(entity: &mut Entity<O, I>, pdus: &OctetStrings)
+    ensures { HearsAll pdus.now entity.old entity.new }
 {
-    for pdu in pdus {
-        hear_one(entity, pdu);
+    for place in 0..pdus.len() {
+        hear_one(entity, pdus.get(place));
     }
 }

@@ -44,6 +44,7 @@ use cfdp_entity::{AddError, Entity, EntityDrop, PutError, Request, RequestError}
 use cfdp_header::TransactionId;
 use cfdp_store::{Inbox, MemoryOutbox, Outbox, SeekingOutbox, StoreError};
 use link_stack::{Down, Lane, LinkDrop, Up};
+use octet_strings::OctetStrings;
 use std::alloc::{AllocError, Global};
 use std::marker::Model;
 use valid_config::Valid;
@@ -66,7 +67,7 @@ pub struct Station<O: Outbox, I: Inbox> {
     // room for one PDU of a lane's capacity
     buffer: Vec<u8>,
     // The PDUs that a frame gives, while they are heard: kept for its room.
-    given: Vec<Vec<u8>>,
+    given: OctetStrings,
 }
 
 impl<O: Outbox, I: Inbox> Model for Station<O, I> {
@@ -120,7 +121,7 @@ impl<O: Outbox, I: Inbox> Station<O, I> {
             down,
             up,
             buffer,
-            given: Vec::new(alloc),
+            given: OctetStrings::new(alloc),
         })
     }
 

@@ -1,13 +1,12 @@
 -- Packets made PDUs, one after another.
-use Rattle.std.proofs.Common.{◌≡◌, ℕ, zero, suc, ◌+◌, ◌-◌, ◌<◌, ◌≤◌, Option, Some, None, List, [], ◌∷◌, ◌++◌, length, take, drop, slice_set, slice_index_or, replicate, Vec, Global, refl, sym, ap, subst, ◌∙◌, arith}
-use Rattle.std.proofs.lemmas.List.{append_assoc, append-nil, map-append, map-set, take-map, drop-map, get_or-map}
+use Rattle.std.proofs.Common.{◌≡◌, ℕ, zero, suc, ◌+◌, ◌-◌, ◌<◌, ◌≤◌, Option, Some, None, List, [], ◌∷◌, ◌++◌, length, take, drop, slice_set, slice_index_or, replicate, refl, sym, ap, subst, ◌∙◌, arith}
+use Rattle.std.proofs.lemmas.List.{append_assoc, append-nil}
 use Rattle.std.specs.List.{remove}
 use Rattle.aos_frame.specs.declared.config.ChannelConfig.{ChannelConfig}
 use Rattle.link_stack.specs.declared.drops.LinkDrop.{LinkDrop}
 use Rattle.link_stack.specs.declared.drops.LinkDrop.TheVariants.{BadPacket}
 use Rattle.link_stack.specs.Frames.{packet_drop}
 use Rattle.link_stack.specs.Drops.{counted, all_counted}
-use Rattle.mpdu.specs.Feeding.{octets_of_each}
 use Rattle.link_stack.specs.Upward.{AreLong, with_pdu, with_drop, pdus_of, drops_of}
 
 -- what is done and what is left makes what there was to do
@@ -74,57 +73,38 @@ replaced [] left (suc place) q b e = absurd cc
 replaced (x ∷ xs) left zero q b e = (cc, refl)
 replaced (x ∷ xs) left (suc place) q b e = let r = replaced xs left place q b e in (r.0, ap (λ l. x ∷ l) r.1)
 
-long_at : (items : List (Vec ℕ Global)) (place : ℕ) (d : Vec ℕ Global) → place < length items → AreLong (drop place (octets_of_each items)) → 6 ≤ length (slice_index_or items place d).items
-long_at items place d h long =
-    let here : drop place (octets_of_each items) ≡ octets_of_each (slice_index_or items place d ∷ drop (suc place) items) =
-    drop-map (λ v. v.items) place items ∙ ap octets_of_each (at_place items place d h) in
-    let all : AreLong (octets_of_each (slice_index_or items place d ∷ drop (suc place) items)) = subst AreLong here long in
-    all.0
-
 -- what stands at a place has a header
-pub long_there : (items : List (Vec ℕ Global)) (place : ℕ) (d : Vec ℕ Global) → place < length items → AreLong (drop place (octets_of_each items)) → d ≡ slice_index_or items place d → 6
-    ≤ length d.items
-long_there items place d h long same = subst (λ (v : Vec ℕ Global). 6 ≤ length v.items) (sym same) (long_at items place d h long)
+pub long_there : (packets : List (List ℕ)) (place : ℕ) (p : List ℕ) → place < length packets → AreLong (drop place packets) → p ≡ slice_index_or packets place [] → 6 ≤ length p
+long_there packets place p h long same =
+    let all : AreLong (slice_index_or packets place [] ∷ drop (suc place) packets) = subst AreLong (at_place packets place [] h) long in
+    subst (λ (l : List ℕ). 6 ≤ length l) (sym same) all.0
 
 -- it is the next of those left
-pub head_is : (items : List (Vec ℕ Global)) (left : List (List ℕ)) (place : ℕ) (d : Vec ℕ Global) (q : List ℕ) → place < length items → drop place (octets_of_each items) ≡ q ∷ left →
-    d ≡ slice_index_or items place d → d.items ≡ q
-head_is items left place d q h here same =
-    ap (λ v. v.items) same ∙ sym (get_or-map (λ v. v.items) items place d q h) ∙ found_at (octets_of_each items) left place q q here
-
-removed_octets : (items : List (Vec ℕ Global)) (place : ℕ) → octets_of_each (remove items place) ≡ remove (octets_of_each items) place
-removed_octets items place =
-    map-append (λ v. v.items) (take place items) (drop (suc place) items)
-    ∙ ap (λ l. l ++ octets_of_each (drop (suc place) items)) (sym (take-map (λ v. v.items) place items))
-    ∙ ap (λ l. take place (octets_of_each items) ++ l) (sym (drop-map (λ v. v.items) (suc place) items))
+pub head_is : (packets left : List (List ℕ)) (place : ℕ) (p q : List ℕ) → drop place packets ≡ q ∷ left → p ≡ slice_index_or packets place [] → p ≡ q
+head_is packets left place p q here same = same ∙ found_at packets left place [] q here
 
 -- what carries no PDU is taken out
-pub taken_out : (link : ChannelConfig) (items new : List (Vec ℕ Global)) (place : ℕ) (d : LinkDrop) (text q : List ℕ) (left : List (List ℕ)) (now after : List ℕ) → drop place (octets_of_each items)
-    ≡ q ∷ left →
-    text ≡ q → Some d ≡ packet_drop link text → new ≡ remove items place → after ≡ counted now d →
-    (drop place (octets_of_each new) ≡ left) × (take place (octets_of_each new) ≡ take place (octets_of_each items) ++ pdus_of link (q ∷ [])) × (after ≡ all_counted now (drops_of link (q ∷ [])))
-taken_out link items new place d text q left now after here same told out more =
+pub taken_out : (link : ChannelConfig) (packets new : List (List ℕ)) (place : ℕ) (d : LinkDrop) (text q : List ℕ) (left : List (List ℕ)) (now after : List ℕ) → drop place packets ≡ q ∷ left →
+    text ≡ q → Some d ≡ packet_drop link text → new ≡ remove packets place → after ≡ counted now d →
+    (drop place new ≡ left) × (take place new ≡ take place packets ++ pdus_of link (q ∷ [])) × (after ≡ all_counted now (drops_of link (q ∷ [])))
+taken_out link packets new place d text q left now after here same told out more =
     let because : packet_drop link q ≡ Some d = sym (told ∙ ap (λ l. packet_drop link l) same) in
-    let octets : octets_of_each new ≡ remove (octets_of_each items) place = ap octets_of_each out ∙ removed_octets items place in
-    let r = removed (octets_of_each items) left place q here in (
-      ap (λ l. drop place l) octets ∙ r.0,
-      ap (λ l. take place l) octets ∙ r.1 ∙ sym (append-nil (take place (octets_of_each items))) ∙ ap (λ o. take place (octets_of_each items) ++ with_pdu o q []) (sym because),
+    let r = removed packets left place q here in (
+      ap (λ l. drop place l) out ∙ r.0,
+      ap (λ l. take place l) out ∙ r.1 ∙ sym (append-nil (take place packets)) ∙ ap (λ o. take place packets ++ with_pdu o q []) (sym because),
       more ∙ ap (λ o. all_counted now (with_drop o [])) (sym because),
     )
 
 -- what carries one is made that PDU
-pub made_pdu : (link : ChannelConfig) (items : List (Vec ℕ Global)) (place then : ℕ) (v : Vec ℕ Global) (text q : List ℕ) (left : List (List ℕ)) (now : List ℕ) → drop place (octets_of_each items)
-    ≡ q ∷ left →
-    text ≡ q → None ≡ packet_drop link text → v.items ≡ drop 6 text → then ≡ suc place →
-    (drop then (octets_of_each (slice_set items place v)) ≡ left) × (take then (octets_of_each (slice_set items place v)) ≡ take place (octets_of_each items) ++ pdus_of link (q ∷ []))
-    × (now ≡ all_counted now (drops_of link (q ∷ [])))
-made_pdu link items place then v text q left now here same told made next =
+pub made_pdu : (link : ChannelConfig) (packets new : List (List ℕ)) (place then : ℕ) (text q : List ℕ) (left : List (List ℕ)) (now : List ℕ) → drop place packets ≡ q ∷ left →
+    text ≡ q → None ≡ packet_drop link text → new ≡ slice_set packets place (drop 6 (slice_index_or packets place [])) → then ≡ suc place →
+    (drop then new ≡ left) × (take then new ≡ take place packets ++ pdus_of link (q ∷ [])) × (now ≡ all_counted now (drops_of link (q ∷ [])))
+made_pdu link packets new place then text q left now here same told made next =
     let because : packet_drop link q ≡ None = sym (told ∙ ap (λ l. packet_drop link l) same) in
-    let octets : octets_of_each (slice_set items place v) ≡ slice_set (octets_of_each items) place (drop 6 q) = map-set (λ v. v.items) items place v
-    ∙ ap (λ l. slice_set (octets_of_each items) place l) (made ∙ ap (λ l. drop 6 l) same) in
-    let r = replaced (octets_of_each items) left place q (drop 6 q) here in (
-      ap (λ l. drop then l) octets ∙ ap (λ n. drop n (slice_set (octets_of_each items) place (drop 6 q))) next ∙ r.0,
-      ap (λ l. take then l) octets ∙ ap (λ n. take n (slice_set (octets_of_each items) place (drop 6 q))) next ∙ r.1 ∙ ap (λ o. take place (octets_of_each items) ++ with_pdu o q []) (sym because),
+    let is : new ≡ slice_set packets place (drop 6 q) = made ∙ ap (λ l. slice_set packets place (drop 6 l)) (found_at packets left place [] q here) in
+    let r = replaced packets left place q (drop 6 q) here in (
+      ap (λ l. drop then l) is ∙ ap (λ n. drop n (slice_set packets place (drop 6 q))) next ∙ r.0,
+      ap (λ l. take then l) is ∙ ap (λ n. take n (slice_set packets place (drop 6 q))) next ∙ r.1 ∙ ap (λ o. take place packets ++ with_pdu o q []) (sym because),
       ap (λ o. all_counted now (with_drop o [])) (sym because),
     )
 

@@ -15,7 +15,7 @@
 //!
 //! let mut up = Up::new(alloc, link)?;
 //! let mut frame = vec![in alloc; 0u8; down.frame_len()]?;
-//! let mut pdus = Vec::new(alloc);
+//! let mut pdus = OctetStrings::new(alloc);
 //! while down.next_frame(&mut frame).is_some() {
 //!     up.receive(&frame, &mut pdus);
 //! }

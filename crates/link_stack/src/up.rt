@@ -2,7 +2,6 @@
 ghost use Rattle.std.specs.Prelude.{◌≡◌, ℕ, ◌≤◌, Bool, List, [], length, IfOk};
 ghost use Rattle.cfd_bits.specs.Field.{field};
 ghost use Rattle.aos_frame.specs.Frame.{lane_channel, other_lane};
-ghost use Rattle.mpdu.specs.Feeding.{octets_of_each};
 ghost use Rattle.mpdu.specs.Stream.{ArePackets};
 ghost use Rattle.link_stack.specs.Frames.{AreOfLink};
 ghost use Rattle.link_stack.specs.Upward.{IsUpOf, LaneTakes, drop_count, first_up, lane_of};
@@ -11,6 +10,7 @@ ghost use Rattle.link_stack.specs.Upward.{lane_up};
 use crate::up_lane::UpLane;
 use aos_frame::{ChannelConfig, Lane, LinkConfig};
 use cfd_bits::get;
+use octet_strings::OctetStrings;
 use std::alloc::{AllocError, Global};
 use std::marker::Model;
 use valid_config::Valid;
@@ -101,11 +101,10 @@ impl Up {
     /// place of what the zone tells: a front of its PDUs was appended, the lane's begun packet and
     /// the rest of the zone are discarded, and its next zone is read from its pointer, as if this
     /// frame had been lost.
-    pub fn receive(&mut self, frame: &[u8], out: &mut Vec<Vec<u8>>)
+    pub fn receive(&mut self, frame: &[u8], out: &mut OctetStrings)
         // The end of its lane takes it, and the other one stays as it was.
         ensures taken { LaneTakes frame.now (lane_up (lane_of self.old frame.now) self.old)
-            (lane_up (lane_of self.old frame.now) self.new) (octets_of_each out.old.items)
-            (octets_of_each out.new.items) }
+            (lane_up (lane_of self.old frame.now) self.new) out.old out.new }
         ensures other { lane_up (other_lane (lane_of self.old frame.now)) self.new
             ≡ lane_up (other_lane (lane_of self.old frame.now)) self.old }
         // A lane's frames have its channel, and so come to it.

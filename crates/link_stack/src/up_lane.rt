@@ -1,8 +1,7 @@
 //! One lane of the way up: the frames of one virtual channel to PDUs.
-ghost use Rattle.std.specs.Prelude.{◌≡◌, ℕ, ◌+◌, ◌-◌, ◌==◌, ◌<◌, ◌≤◌, ◌⊎◌, ◌++◌, List, Bool, []};
+ghost use Rattle.std.specs.Prelude.{◌≡◌, ℕ, ◌+◌, ◌-◌, ◌^◌, ◌==◌, ◌<◌, ◌≤◌, ◌⊎◌, ◌++◌, List, Bool, []};
 ghost use Rattle.std.specs.Prelude.{◌∷◌, true, false, length, take, drop, replicate, Some, None};
 ghost use Rattle.std.specs.Prelude.{IfOk, OnErr};
-ghost use Rattle.mpdu.specs.Feeding.{octets_of_each};
 ghost use Rattle.mpdu.specs.MpduHeader.{pointer_of};
 ghost use Rattle.mpdu.specs.Stream.{ArePackets, survivors};
 ghost use Rattle.link_stack.specs.Frames.{packet_drop, AreOfLink, pdus_in};
@@ -17,6 +16,7 @@ use crate::drops::LinkDrop;
 use aos_frame::{ChannelConfig, FrameError, VcMonitor, decode};
 use frame_fields::control_field;
 use mpdu::{MPDU_HEADER_LEN, Notes, ONLY_IDLE, Reassembler, read_pointer};
+use octet_strings::OctetStrings;
 use space_packet::{SequenceFlags, header};
 use std::alloc::{AllocError, Global};
 use std::marker::Model;
@@ -114,51 +114,41 @@ fn packet_drop_of(link: &ChannelConfig, packet: &[u8]) -> Option<LinkDrop>
     None
 }
 
-/// Leaves what stands behind a packet's header.
-fn drop_header(packet: &mut Vec<u8>)
-    requires { 6 ≤ length packet.old.items }
-    ensures { packet.new.items ≡ drop 6 packet.old.items }
-{
-    packet.copy_within(header::HEADER_LEN.., 0);
-    packet.truncate(packet.len() - header::HEADER_LEN);
-}
-
 /// Makes the packet at a place its PDU, or takes it out and counts why it carries none. Answers the
 /// place of the next.
 fn unpack_one(
     link: &ChannelConfig,
-    packets: &mut Vec<Vec<u8>>,
+    packets: &mut OctetStrings,
     place: usize,
     drops: &mut Drops,
 ) -> usize
-    requires there { place < length packets.old.items }
-    requires long { AreLong (drop place (octets_of_each packets.old.items)) }
-    ensures nearer { length packets.new.items + place < length packets.old.items + result }
-    ensures within { result ≤ length packets.new.items }
-    ensures one { (q : List ℕ) (left : List (List ℕ)) →
-        drop place (octets_of_each packets.old.items) ≡ q ∷ left →
-        (drop result (octets_of_each packets.new.items) ≡ left)
-        × (take result (octets_of_each packets.new.items)
-        ≡ take place (octets_of_each packets.old.items) ++ pdus_of link.now (q ∷ []))
+    requires there { place < length packets.old }
+    requires fits { place + 1 < 2 ^ 64 }
+    requires long { AreLong (drop place packets.old) }
+    ensures nearer { length packets.new + place < length packets.old + result }
+    ensures within { result ≤ length packets.new }
+    ensures one { (q : List ℕ) (left : List (List ℕ)) → drop place packets.old ≡ q ∷ left →
+        (drop result packets.new ≡ left)
+        × (take result packets.new ≡ take place packets.old ++ pdus_of link.now (q ∷ []))
         × (drops.new ≡ all_counted drops.old (drops_of link.now (q ∷ []))) }
 {
-    if let Some(drop) = packet_drop_of(link, &packets[place]) {
+    if let Some(drop) = packet_drop_of(link, packets.get(place)) {
         drops.count(drop);
         packets.remove(place);
         return place;
     }
-    drop_header(&mut packets[place]);
+    packets.drop_front(place, header::HEADER_LEN);
     place + 1
 }
 
 /// Makes the packets from a place on their PDUs, and takes out and counts those that carry none.
-fn unpack(link: &ChannelConfig, packets: &mut Vec<Vec<u8>>, first: usize, drops: &mut Drops)
-    requires there { first ≤ length packets.old.items }
-    requires long { AreLong (drop first (octets_of_each packets.old.items)) }
-    ensures pdus { octets_of_each packets.new.items ≡ take first (octets_of_each packets.old.items)
-        ++ pdus_of link.now (drop first (octets_of_each packets.old.items)) }
+fn unpack(link: &ChannelConfig, packets: &mut OctetStrings, first: usize, drops: &mut Drops)
+    requires there { first ≤ length packets.old }
+    requires long { AreLong (drop first packets.old) }
+    ensures pdus { packets.new
+        ≡ take first packets.old ++ pdus_of link.now (drop first packets.old) }
     ensures drops { drops.new
-        ≡ all_counted drops.old (drops_of link.now (drop first (octets_of_each packets.old.items))) }
+        ≡ all_counted drops.old (drops_of link.now (drop first packets.old)) }
 {
     let mut place = first;
     while place < packets.len() {
@@ -241,18 +231,16 @@ impl UpLane {
         pointer: u16,
         zone: &[u8],
         follows: bool,
-        out: &mut Vec<Vec<u8>>,
+        out: &mut OctetStrings,
     ) -> bool
         requires least { 16 ≤ length zone.now }
         requires most { length zone.now ≤ 2040 }
         ensures all { result ≡ true →
             Takes (packets_read self.old.last self.old.begun follows pointer zone.now) self.old
-            self.new
-            (octets_of_each out.old.items) (octets_of_each out.new.items) }
+            self.new out.old out.new }
         ensures front { result ≡ false →
             TakesFront (packets_read self.old.last self.old.begun follows pointer zone.now) self.old
-            self.new
-            (octets_of_each out.old.items) (octets_of_each out.new.items) }
+            self.new out.old out.new }
         ensures control { self.new.control ≡ self.old.control }
     {
         let first = out.len();
@@ -264,14 +252,14 @@ impl UpLane {
 
     /// Reads the M_PDU of a frame of the link with this count, and this usage flag of the count
     /// cycle. False where its zone found no memory.
-    fn read_mpdu(&mut self, count: u32, cycle: bool, mpdu: &[u8], out: &mut Vec<Vec<u8>>) -> bool
+    fn read_mpdu(&mut self, count: u32, cycle: bool, mpdu: &[u8], out: &mut OctetStrings) -> bool
         requires len { length mpdu.now ≡ 2 + self.old.link.zone }
         ensures all { result ≡ true →
             Takes (mpdu_read self.old (record { count = count; cycle = cycle }) mpdu.now) self.old
-            self.new (octets_of_each out.old.items) (octets_of_each out.new.items) }
+            self.new out.old out.new }
         ensures front { result ≡ false → ((pointer_of mpdu.now == 2046) ≡ false)
             × TakesFront (mpdu_read self.old (record { count = count; cycle = cycle }) mpdu.now)
-            self.old self.new (octets_of_each out.old.items) (octets_of_each out.new.items) }
+            self.old self.new out.old out.new }
         ensures control { self.new.control ≡ self.old.control }
     {
         let in_order = self.monitor.follows(count, cycle);
@@ -285,13 +273,11 @@ impl UpLane {
     }
 
     /// Reads a frame. False where its zone found no memory.
-    fn read_frame(&mut self, frame: &[u8], out: &mut Vec<Vec<u8>>) -> bool
+    fn read_frame(&mut self, frame: &[u8], out: &mut OctetStrings) -> bool
         ensures all { result ≡ true →
-            Takes (frame_read self.old frame.now) self.old self.new (octets_of_each out.old.items)
-            (octets_of_each out.new.items) }
+            Takes (frame_read self.old frame.now) self.old self.new out.old out.new }
         ensures front { result ≡ false → HasZone self.old.link frame.now
-            × TakesFront (frame_read self.old frame.now) self.old self.new
-            (octets_of_each out.old.items) (octets_of_each out.new.items) }
+            × TakesFront (frame_read self.old frame.now) self.old self.new out.old out.new }
         ensures control { self.new.control ≡ control_after self.old frame.now }
     {
         match decode(frame, &self.link) {
@@ -308,9 +294,8 @@ impl UpLane {
 
     /// Takes a frame, whatever its octets are, appends the PDUs that it completes, and counts what
     /// is dropped of it.
-    pub(crate) fn take(&mut self, frame: &[u8], out: &mut Vec<Vec<u8>>)
-        ensures { LaneTakes frame.now self.old self.new (octets_of_each out.old.items)
-            (octets_of_each out.new.items) }
+    pub(crate) fn take(&mut self, frame: &[u8], out: &mut OctetStrings)
+        ensures { LaneTakes frame.now self.old self.new out.old out.new }
     {
         // For the prover: the invariant.
         let _ = &self.link;

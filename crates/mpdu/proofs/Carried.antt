@@ -1,5 +1,5 @@
 -- Exported: packets cut into zones and carried past lost ones.
-use Rattle.std.proofs.Common.{◌≡◌, ℕ, zero, suc, ◌+◌, ◌-◌, ◌*◌, ◌%◌, ◌==◌, ◌||◌, ◌<◌, ◌≤◌, Bool, true, false, not, min, List, [], ◌∷◌, ◌++◌, length, get_or, take, drop, refl, sym, ap, subst, ◌∙◌, inl, inr, arith, length-drop, Vec, Global, Result, Ok, Err, OnOk, IsErr}
+use Rattle.std.proofs.Common.{◌≡◌, ℕ, zero, suc, ◌+◌, ◌-◌, ◌*◌, ◌%◌, ◌==◌, ◌||◌, ◌<◌, ◌≤◌, Bool, true, false, not, min, List, [], ◌∷◌, ◌++◌, length, get_or, take, refl, sym, ap, subst, ◌∙◌, inl, inr, arith, length-drop, Vec, Global, Result, Ok, Err, OnOk, IsErr}
 use Rattle.std.proofs.lemmas.List.{map_more, append-nil}
 use Rattle.std.proofs.lemmas.Nat.{mod-mul-add}
 use Rattle.std.proofs.Math.Nat.{mod-eq_of_lt}
@@ -10,8 +10,8 @@ use Rattle.mpdu.specs.Feeding.{IsNext, IsTaken, octets_of_each}
 use Rattle.aos_frame.specs.Counts.{frame_counts, with_cycle}
 use Rattle.aos_frame.specs.declared.count.SeenCount.{SeenCount}
 use Rattle.mpdu.specs.Reading.{held_at}
-use Rattle.mpdu.proofs.Counted.{counts_none, counts_struck, counts_read, never}
-use Rattle.std.proofs.Common.{Option, Some, None}
+use Rattle.mpdu.proofs.Counted.{counts_struck, counts_read, never}
+use Rattle.std.proofs.Common.{Option, Some}
 use Rattle.mpdu.specs.Carrying.{marks_of, AreSurvivors, fill_of}
 use Rattle.mpdu.specs.Draining.{IsCarried}
 use Rattle.mpdu.proofs.Scan.{packet_size, header_len-short}

@@ -9,6 +9,7 @@ ghost use Rattle.mpdu.specs.Draining.{IsCarried};
 use crate::packer::Packer;
 use crate::reassembler::Reassembler;
 use aos_frame::{FRAME_COUNTS, VcCounter, VcMonitor};
+use octet_strings::OctetStrings;
 use std::alloc::{AllocError, Global};
 
 /// The capacity of the packer that [`carry`] uses: each packet fits, behind a zone that isn't
@@ -67,7 +68,7 @@ fn drain(
     buffer: &mut [u8],
     struck: &[bool],
     sent: &mut usize,
-    out: &mut Vec<Vec<u8>>,
+    out: &mut OctetStrings,
 ) -> Result<(), AllocError>
     requires size { length buffer.old ≡ packer.old.size }
     requires least { 16 ≤ length buffer.old }
@@ -76,10 +77,10 @@ fn drain(
     requires few { AreFewInARow struck.now }
     ensures stream { (ps : List (List ℕ)) →
         IsCarried ps struck.now (length buffer.old) packer.old reassembler.old counts.old.counter
-        counts.old.monitor sent.old (octets_of_each out.old.items) →
+        counts.old.monitor sent.old out.old →
         OnOk result (IsCarried ps struck.now
         (length buffer.old) packer.new reassembler.new counts.new.counter counts.new.monitor
-        sent.new (octets_of_each out.new.items)) }
+        sent.new out.new) }
     ensures flag { packer.new.flushed ≡ packer.old.flushed }
     ensures emptied { OnOk result (length packer.new.waiting < packer.new.size) }
     ensures fixed { (packer.new.size ≡ packer.old.size)
@@ -114,18 +115,18 @@ pub fn carry(
     packets: &[Vec<u8>],
     zone: usize,
     struck: &[bool],
-) -> Result<Vec<Vec<u8>>, AllocError>
+) -> Result<OctetStrings, AllocError>
     requires whole { ArePackets (octets_of_each packets.now) }
     requires few { AreFewInARow struck.now }
     requires least { 16 ≤ zone }
     requires most { zone ≤ 2040 }
     ensures { IfOk result (λ v. AreSurvivors (octets_of_each packets.now
-        ++ fill_of zone (octets_of_each packets.now)) struck.now zone (octets_of_each v.items)) }
+        ++ fill_of zone (octets_of_each packets.now)) struck.now zone v) }
 {
     let mut packer = Packer::new(alloc, zone, CARRY_CAPACITY)?;
     let mut reassembler = Reassembler::new(alloc)?;
     let mut buffer = vec![in alloc; 0u8; zone]?;
-    let mut out = Vec::new(alloc);
+    let mut out = OctetStrings::new(alloc);
     let mut sent = 0;
     let mut counts = Counts {
         counter: VcCounter::new(),

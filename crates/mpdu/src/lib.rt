@@ -15,7 +15,7 @@
 //!
 //! let mut reassembler = Reassembler::new(alloc)?;
 //! let mut zone = [0u8; 16];
-//! let mut packets = Vec::new(alloc);
+//! let mut packets = OctetStrings::new(alloc);
 //! while let Some(pointer) = packer.zone(&mut zone) {
 //!     reassembler.feed(pointer, &zone, true, &mut packets)?;
 //! }

@@ -6,22 +6,17 @@ ghost use Rattle.mpdu.specs.Stream.{keep, is_idle, header_ok, header_len};
 ghost use Rattle.mpdu.specs.Reading.{scan, step, reading, to_read, goes_on, turns_bad};
 ghost use Rattle.mpdu.specs.Reading.{pointer_after, held_at, is_some, resync, bad_count};
 ghost use Rattle.mpdu.specs.Joining.{IsBegun, Heads, IsSplit};
-ghost use Rattle.mpdu.specs.Feeding.{octets_of_each, IsNext, IsTaken, IsFrontTaken};
+ghost use Rattle.mpdu.specs.Feeding.{IsNext, IsTaken, IsFrontTaken};
 
 use crate::header::{has_good_version, has_idle_apid, packet_len};
 use crate::{NO_START, ONLY_IDLE};
+use octet_strings::OctetStrings;
 use space_packet::header::HEADER_LEN;
 use std::alloc::{AllocError, Global};
 use std::marker::Model;
 
 /// Octets of the longest packet.
 const MAX_PACKET: usize = 65_542;
-
-/// Octets of the longest packet that is copied at once.
-const AT_ONCE: usize = 4_096;
-
-/// Octets of a piece in which a longer one is copied.
-const PIECE: usize = 2_048;
 
 /// What was out of order in a zone: a packet that was cut off, or headers that are none.
 #[derive(Clone, Copy, Debug, PartialEq, Eq)]
@@ -53,60 +48,28 @@ struct Front {
     bad: bool,
 }
 
-/// A copy of a long packet, made piece by piece: one copy of all of it takes longer.
-fn copied(alloc: Global, packet: &[u8]) -> Result<Vec<u8>, AllocError>
-    ensures { IfOk result (λ v. v.items ≡ packet.now) }
-{
-    let mut copy = Vec::with_capacity(alloc, packet.len())?;
-    let mut rest = packet;
-    while !rest.is_empty() {
-        let (piece, behind) = rest.split_at(rest.len().min(PIECE));
-        copy.extend_from_slice(piece)?;
-        rest = behind;
-    }
-    Ok(copy)
-}
-
-/// Appends a long packet. It stands apart, so that the short ones pay nothing for it.
-#[inline(never)]
-fn append_long(alloc: Global, packet: &[u8], out: &mut Vec<Vec<u8>>) -> Result<(), AllocError>
-    ensures ok { OnOk result (octets_of_each out.new.items ≡ octets_of_each out.old.items
-        ++ packet.now ∷ []) }
-    ensures err { OnErr result (octets_of_each out.new.items ≡ octets_of_each out.old.items) }
-{
-    out.push(copied(alloc, packet)?)?;
-    Ok(())
-}
-
 /// Appends a packet that isn't idle.
-fn emit(alloc: Global, packet: &[u8], out: &mut Vec<Vec<u8>>) -> Result<(), AllocError>
+fn emit(packet: &[u8], out: &mut OctetStrings) -> Result<(), AllocError>
     requires { 6 ≤ length packet.now }
-    ensures ok { OnOk result (octets_of_each out.new.items ≡ octets_of_each out.old.items
-        ++ keep (not (is_idle packet.now)) packet.now []) }
-    ensures err { OnErr result (octets_of_each out.new.items ≡ octets_of_each out.old.items) }
+    ensures ok { OnOk result (out.new ≡ out.old ++ keep (not (is_idle packet.now)) packet.now []) }
+    ensures err { OnErr result (out.new ≡ out.old) }
     ensures hands { OnErr result (is_idle packet.now ≡ false) }
 {
     if has_idle_apid(packet) {
         return Ok(());
     }
-    if packet.len() > AT_ONCE {
-        return append_long(alloc, packet, out);
-    }
-    out.push(Vec::from_slice(alloc, packet)?)?;
-    Ok(())
+    out.push(packet)
 }
 
 /// Takes the whole packets off the front, and tells where the begun one starts.
-fn cut(alloc: Global, bytes: &[u8], out: &mut Vec<Vec<u8>>) -> Result<Front, AllocError>
+fn cut(bytes: &[u8], out: &mut OctetStrings) -> Result<Front, AllocError>
     ensures end { IfOk result (λ c. c.end ≤ length bytes.now) }
     ensures held { IfOk result (λ c. drop c.end bytes.now
         ≡ (scan (length bytes.now) bytes.now).begun) }
     ensures bad { IfOk result (λ c. c.bad ≡ (scan (length bytes.now) bytes.now).bad) }
-    ensures ok { OnOk result (octets_of_each out.new.items ≡ octets_of_each out.old.items
-        ++ (scan (length bytes.now) bytes.now).out) }
+    ensures ok { OnOk result (out.new ≡ out.old ++ (scan (length bytes.now) bytes.now).out) }
     ensures err { OnErr result ((n : ℕ)
-        × (octets_of_each out.new.items ≡ octets_of_each out.old.items
-        ++ take n (scan (length bytes.now) bytes.now).out)) }
+        × (out.new ≡ out.old ++ take n (scan (length bytes.now) bytes.now).out)) }
     ensures hands { OnErr result (1 ≤ length (scan (length bytes.now) bytes.now).out) }
 {
     let mut rest = bytes;
@@ -125,7 +88,7 @@ fn cut(alloc: Global, bytes: &[u8], out: &mut Vec<Vec<u8>>) -> Result<Front, All
             });
         }
         let (packet, behind) = rest.split_at(len);
-        emit(alloc, packet, out)?;
+        emit(packet, out)?;
         rest = behind;
     }
     Ok(Front {
@@ -208,25 +171,19 @@ fn join(held: &mut Vec<u8>, pointer: usize, zone: &[u8]) -> Joined
 }
 
 /// Hands out the packet that is held, where it is whole.
-fn finish(
-    alloc: Global,
-    held: &mut Vec<u8>,
-    whole: bool,
-    out: &mut Vec<Vec<u8>>,
-) -> Result<(), AllocError>
+fn finish(held: &mut Vec<u8>, whole: bool, out: &mut OctetStrings) -> Result<(), AllocError>
     requires whole { whole ≡ true → (6 ≤ length held.old.items)
         × (header_len held.old.items ≡ length held.old.items) }
     requires other { whole ≡ false → 6 ≤ length held.old.items → header_len held.old.items
         ≢ length held.old.items }
     ensures ok { (rest : List ℕ) → Heads held.old.items rest →
-        OnOk result (IsSplit (held.old.items ++ rest) rest held.new.items
-        (octets_of_each out.old.items) (octets_of_each out.new.items)) }
-    ensures err { OnErr result (octets_of_each out.new.items ≡ octets_of_each out.old.items) }
+        OnOk result (IsSplit (held.old.items ++ rest) rest held.new.items out.old out.new) }
+    ensures err { OnErr result (out.new ≡ out.old) }
     ensures hands { OnErr result ((whole ≡ true) × (is_idle held.old.items ≡ false)) }
     ensures capacity { vec_capacity held.old ≤ vec_capacity held.new }
 {
     if whole {
-        emit(alloc, held, out)?;
+        emit(held, out)?;
         held.clear();
     }
     Ok(())
@@ -250,11 +207,10 @@ fn goes_past(held: &[u8], pointer: usize, zone: usize) -> bool
 /// Takes the whole packets off what is read of a zone behind what is held, and tells whether a bad
 /// header ended them.
 fn read_behind(
-    alloc: Global,
     held: &mut Vec<u8>,
     pointer: usize,
     zone: &[u8],
-    out: &mut Vec<Vec<u8>>,
+    out: &mut OctetStrings,
 ) -> Result<(Joined, bool), AllocError>
     requires zone { 6 ≤ length zone.now }
     requires begun { IsBegun held.old.items }
@@ -266,10 +222,10 @@ fn read_behind(
         ≡ (step (length zone.now) held.old.items pointer zone.now).begun) }
     ensures bad { IfOk result (λ r. r.1
         ≡ (step (length zone.now) held.old.items pointer zone.now).bad) }
-    ensures ok { OnOk result (octets_of_each out.new.items ≡ octets_of_each out.old.items
+    ensures ok { OnOk result (out.new ≡ out.old
         ++ (step (length zone.now) held.old.items pointer zone.now).out) }
     ensures err { OnErr result ((n : ℕ)
-        × (octets_of_each out.new.items ≡ octets_of_each out.old.items
+        × (out.new ≡ out.old
         ++ take n (step (length zone.now) held.old.items pointer zone.now).out)) }
     ensures hands { OnErr result
         (1 ≤ length (step (length zone.now) held.old.items pointer zone.now).out) }
@@ -288,9 +244,9 @@ fn read_behind(
         return Ok((joined, false));
     }
     let joined = join(held, pointer, zone);
-    finish(alloc, held, joined.whole, out)?;
+    finish(held, joined.whole, out)?;
     let rest = &zone[joined.from..];
-    let front = cut(alloc, rest, out)?;
+    let front = cut(rest, out)?;
     append(held, &rest[front.end..]);
     Ok((joined, front.bad))
 }
@@ -302,7 +258,6 @@ fn read_behind(
 /// handed out takes memory.
 #[derive(Debug, Drop)]
 pub struct Reassembler {
-    alloc: Global,
     begun: Vec<u8>,
 }
 
@@ -325,7 +280,6 @@ impl Reassembler {
         ensures { IfOk result (λ r. r ≡ []) }
     {
         Ok(Reassembler {
-            alloc,
             begun: Vec::with_capacity(alloc, MAX_PACKET)?,
         })
     }
@@ -343,19 +297,18 @@ impl Reassembler {
         pointer: u16,
         zone: &[u8],
         follows: bool,
-        out: &mut Vec<Vec<u8>>,
+        out: &mut OctetStrings,
     ) -> Result<Notes, AllocError>
         requires { 6 ≤ length zone.now }
         ensures held { OnOk result (self.new ≡ (reading self.old follows pointer zone.now).begun) }
-        ensures ok { OnOk result (octets_of_each out.new.items ≡ octets_of_each out.old.items
+        ensures ok { OnOk result (out.new ≡ out.old
             ++ (reading self.old follows pointer zone.now).out) }
         ensures resync { IfOk result (λ n. n.resync
             ≡ resync (length zone.now) self.old follows pointer zone.now) }
         ensures bad { IfOk result (λ n. n.bad
             ≡ bad_count (length zone.now) (held_at follows self.old) pointer zone.now) }
         ensures err { OnErr result ((n : ℕ)
-            × (octets_of_each out.new.items ≡ octets_of_each out.old.items
-            ++ take n (reading self.old follows pointer zone.now).out)) }
+            × (out.new ≡ out.old ++ take n (reading self.old follows pointer zone.now).out)) }
         ensures hands { OnErr result
             (1 ≤ length (reading self.old follows pointer zone.now).out) }
         ensures err_held { OnErr result (self.new ≡ []) }
@@ -365,7 +318,7 @@ impl Reassembler {
             self.begun.clear();
         }
         let usable = usize::from(pointer) < zone.len() || pointer == NO_START;
-        match read_behind(self.alloc, &mut self.begun, usize::from(pointer), zone, out) {
+        match read_behind(&mut self.begun, usize::from(pointer), zone, out) {
             Ok((joined, bad)) => Ok(Notes {
                 resync: pointer != ONLY_IDLE
                     && (!usable || (had && !joined.goes_on && !joined.bad)),
@@ -395,7 +348,7 @@ impl Reassembler {
         pointer: u16,
         zone: &[u8],
         follows: bool,
-        out: &mut Vec<Vec<u8>>,
+        out: &mut OctetStrings,
     ) -> Result<Notes, AllocError>
         requires least { 16 ≤ length zone.now }
         requires most { length zone.now ≤ 2040 }
@@ -404,8 +357,7 @@ impl Reassembler {
         // too, and the survivors that this one completes were appended.
         ensures stream { (ps : List (List ℕ)) (marks : List Bool) →
             IsNext ps marks (held_at follows self.old) pointer zone.now →
-            OnOk result (IsTaken ps marks (length zone.now) self.new (octets_of_each out.old.items)
-            (octets_of_each out.new.items)) }
+            OnOk result (IsTaken ps marks (length zone.now) self.new out.old out.new) }
 
         // Of a stream no packet is bad, and none is discarded but by a zone that was lost.
         ensures in_order { (ps : List (List ℕ)) (marks : List Bool) →
@@ -415,17 +367,15 @@ impl Reassembler {
         // Without memory a front of them was appended, and nothing is held.
         ensures cut_short { (ps : List (List ℕ)) (marks : List Bool) →
             IsNext ps marks (held_at follows self.old) pointer zone.now →
-            OnErr result (IsFrontTaken ps marks (length zone.now) (octets_of_each out.old.items)
-            (octets_of_each out.new.items)) }
+            OnErr result (IsFrontTaken ps marks (length zone.now) out.old out.new) }
         ensures err { OnErr result (self.new ≡ []) }
 
         // What any zone gives, whatever it is.
         ensures begun { OnOk result (self.new ≡ (reading self.old follows pointer zone.now).begun) }
-        ensures appended { OnOk result (octets_of_each out.new.items ≡ octets_of_each out.old.items
+        ensures appended { OnOk result (out.new ≡ out.old
             ++ (reading self.old follows pointer zone.now).out) }
         ensures front { OnErr result ((n : ℕ)
-            × (octets_of_each out.new.items ≡ octets_of_each out.old.items
-            ++ take n (reading self.old follows pointer zone.now).out)) }
+            × (out.new ≡ out.old ++ take n (reading self.old follows pointer zone.now).out)) }
         // Only a packet that is handed out takes memory.
         ensures hands { OnErr result
             (1 ≤ length (reading self.old follows pointer zone.now).out) }

@@ -15,7 +15,6 @@
 //!                    the octets that may go down and those that wait, and the most frames
 //!     drop resync, drop idle what such a drop is called: its number, its name, and in words
 ghost use Rattle.std.specs.Prelude.{◌≡◌, ◌≤◌, ℕ, ◌++◌, ◌⊎◌, List, Bool, [], ◌∷◌, true};
-ghost use Rattle.mpdu.specs.Feeding.{octets_of_each};
 ghost use Rattle.mpdu.specs.Stream.{survivors};
 ghost use Rattle.link_stack.specs.Frames.{pdus_in};
 ghost use Rattle.link_stack.specs.Drops.{counted};
@@ -27,6 +26,7 @@ use crate::frames::{FRAME_LEN, LINK};
 use crate::words::{count, lane, lane_word, octets, pair, tell_octets};
 use aos_frame::{FrameError, LinkConfig};
 use link_stack::{Down, Lane, LinkDrop, Up};
+use octet_strings::OctetStrings;
 use std::alloc::{AllocError, Global};
 use valid_config::{Config, Valid};
 
@@ -44,13 +44,13 @@ pub fn play(
 
 /// A caller that needs no lemma: what is in a cleared `out` then are the PDUs that the frame
 /// completed in its lane.
-fn take_alone(up: &mut Up, frame: &[u8], out: &mut Vec<Vec<u8>>)
+fn take_alone(up: &mut Up, frame: &[u8], out: &mut OctetStrings)
     ensures { (ps : List (List ℕ)) (marks : List Bool) (missed : ℕ) →
         let old = lane_up (lane_of up.old frame.now) up.old in
         let new = lane_up (lane_of up.old frame.now) up.new in
         IsUp old ps marks missed → IsNextFrame old.link ps marks frame.now →
         (pdus_in (survivors old.link.zone (marks ++ true ∷ []) 0 ps)
-        ≡ pdus_in (survivors old.link.zone marks 0 ps) ++ octets_of_each out.new.items)
+        ≡ pdus_in (survivors old.link.zone marks 0 ps) ++ out.new)
         ⊎ (new.drops ≡ counted old.drops NoMemory) }
 {
     out.clear();
@@ -158,7 +158,7 @@ impl Link {
     }
 
     fn takes(&mut self, digits: &str, out: &mut String) -> Result<(), AllocError> {
-        let mut came = Vec::new(self.alloc);
+        let mut came = OctetStrings::new(self.alloc);
         take_alone(&mut self.up, &frame(self.alloc, digits)?, &mut came);
         tell_all(self.alloc, &came, out)
     }
@@ -179,7 +179,7 @@ impl Link {
 
     fn gives(&mut self, marks: u8, out: &mut String) -> Result<(), AllocError> {
         self.up = Up::new(self.alloc, valid_link()?)?;
-        let mut came = Vec::new(self.alloc);
+        let mut came = OctetStrings::new(self.alloc);
         take_marked(&mut self.up, &self.frames, marks, &mut came);
         tell_places(&self.sent, &came, out)
     }
@@ -203,7 +203,7 @@ fn frame(alloc: Global, digits: &str) -> Result<Vec<u8>, AllocError> {
 }
 
 /// Takes those frames of which the bit in `marks` is 1, the first frame's the lowest.
-fn take_marked(up: &mut Up, frames: &[Vec<u8>], marks: u8, out: &mut Vec<Vec<u8>>) {
+fn take_marked(up: &mut Up, frames: &[Vec<u8>], marks: u8, out: &mut OctetStrings) {
     let mut left = marks;
     for frame in frames {
         if left % 2 == 1 {
@@ -213,9 +213,9 @@ fn take_marked(up: &mut Up, frames: &[Vec<u8>], marks: u8, out: &mut Vec<Vec<u8>
     }
 }
 
-fn tell_all(alloc: Global, pdus: &[Vec<u8>], out: &mut String) -> Result<(), AllocError> {
-    for pdu in pdus {
-        tell_octets(alloc, pdu, out)?;
+fn tell_all(alloc: Global, pdus: &OctetStrings, out: &mut String) -> Result<(), AllocError> {
+    for place in 0..pdus.len() {
+        tell_octets(alloc, pdus.get(place), out)?;
     }
     Ok(())
 }
@@ -243,9 +243,9 @@ fn tell_drops(up: &Up, out: &mut String) -> Result<(), AllocError> {
 }
 
 /// Tells each PDU that came by its place among those that were sent.
-fn tell_places(sent: &[Vec<u8>], came: &[Vec<u8>], out: &mut String) -> Result<(), AllocError> {
-    for pdu in came {
-        write!(out, " {}", place_among(sent, pdu))?;
+fn tell_places(sent: &[Vec<u8>], came: &OctetStrings, out: &mut String) -> Result<(), AllocError> {
+    for place in 0..came.len() {
+        write!(out, " {}", place_among(sent, came.get(place)))?;
     }
     write!(out, "\n")
 }

@@ -49,6 +49,7 @@ use cfdp_station::{
 };
 use cfdp_store::{Files, Inbox, MemoryInbox, MemoryOutbox};
 use link_stack::Up;
+use octet_strings::OctetStrings;
 use std::alloc::{AllocError, Global};
 use std::collections::VecDeque;
 use std::fmt::{Debug, Display};
@@ -193,7 +194,7 @@ pub struct StationBench {
     station: Station<MemoryOutbox, MemoryInbox>,
     cable: Cable,
     up: Up,
-    came: Vec<Vec<u8>>,
+    came: OctetStrings,
 }
 
 /// One end of a link that loses nothing: the frames that came, and those to be sent.
@@ -458,7 +459,7 @@ impl StationBench {
             station,
             cable: Cable::new(alloc),
             up,
-            came: Vec::new(alloc),
+            came: OctetStrings::new(alloc),
         })
     }
 

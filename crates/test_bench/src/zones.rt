@@ -21,6 +21,7 @@ use mpdu::{
     NO_START, Notes, Packer, Reassembler, are_few_in_a_row, are_packets, carry, is_packet,
     put_pointer, read_pointer,
 };
+use octet_strings::OctetStrings;
 use space_packet::{Packet, PacketType, SequenceFlags, encode};
 use std::alloc::{AllocError, Global};
 use std::marker::Model;
@@ -73,7 +74,7 @@ struct Zones {
     packer: Packer,
     zone: Vec<u8>,
     reassembler: Reassembler,
-    came: Vec<Vec<u8>>,
+    came: OctetStrings,
 }
 
 impl Model for Zones {
@@ -112,7 +113,7 @@ impl Zones {
             packer: Packer::new(alloc, zone, capacity)?,
             zone: vec![in alloc; 0u8; zone]?,
             reassembler: Reassembler::new(alloc)?,
-            came: Vec::new(alloc),
+            came: OctetStrings::new(alloc),
         })
     }
 
@@ -211,16 +212,16 @@ fn tell_zone(alloc: Global, pointer: u16, zone: &[u8], out: &mut String) -> Resu
 fn tell_fed(
     alloc: Global,
     notes: Notes,
-    came: &[Vec<u8>],
+    came: &OctetStrings,
     out: &mut String,
 ) -> Result<(), AllocError> {
     write!(out, " {} {}\n", notes.resync, notes.bad)?;
     tell_packets(alloc, came, out)
 }
 
-fn tell_packets(alloc: Global, packets: &[Vec<u8>], out: &mut String) -> Result<(), AllocError> {
-    for octets in packets {
-        tell_packet(alloc, octets, out)?;
+fn tell_packets(alloc: Global, packets: &OctetStrings, out: &mut String) -> Result<(), AllocError> {
+    for place in 0..packets.len() {
+        tell_packet(alloc, packets.get(place), out)?;
     }
     Ok(())
 }
@@ -243,7 +244,7 @@ fn carries(alloc: Global, words: &str, out: &mut String) -> Result<(), AllocErro
     tell_packets(alloc, &came, out)
 }
 
-fn carried(alloc: Global, words: &str) -> Result<Vec<Vec<u8>>, AllocError> {
+fn carried(alloc: Global, words: &str) -> Result<OctetStrings, AllocError> {
     let (at, words) = pair(words);
     let (len, words) = pair(words);
     let packets = packets_of(alloc, words)?;
@@ -266,7 +267,7 @@ fn carried_over(
     alloc: Global,
     packets: &[Vec<u8>],
     struck: &[bool],
-) -> Result<Vec<Vec<u8>>, AllocError> {
+) -> Result<OctetStrings, AllocError> {
     if !are_packets(packets) || !are_few_in_a_row(struck) {
         return Err(AllocError);
     }

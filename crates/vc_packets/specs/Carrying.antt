@@ -5,7 +5,6 @@ use Rattle.std.specs.List.{All}
 use Rattle.aos_frame.specs.Counts.{AreMissing, compared}
 use Rattle.aos_frame.specs.declared.count.SeenCount.{SeenCount}
 use Rattle.aos_frame.specs.declared.header.FrameHeader.{FrameHeader}
-use Rattle.mpdu.specs.Feeding.{octets_of_each}
 use Rattle.mpdu.specs.MpduHeader.{pointer_of}
 use Rattle.mpdu.specs.Reading.{bad_count, held_at, reading, resync}
 use Rattle.vc_packets.specs.declared.channel.Carried.{Carried}
@@ -44,7 +43,7 @@ carried_text c = record {
   only_idle = c.only_idle;
   cut_off = c.notes.resync;
   bad = c.notes.bad;
-  packets = octets_of_each c.packets.items;
+  packets = c.packets;
 }
 
 -- So many frames of a channel are missing before this count: none before the first one seen.

@@ -5,6 +5,7 @@ ghost use Rattle.vc_packets.specs.Carrying.{is_of};
 
 use aos_frame::{Continuity, FrameHeader, VcMonitor, one_number_is_missing};
 use mpdu::{MPDU_HEADER_LEN, Notes, ONLY_IDLE, Reassembler, read_pointer};
+use octet_strings::OctetStrings;
 use std::alloc::{AllocError, Global};
 
 /// What a frame carries.
@@ -18,7 +19,7 @@ pub struct Carried {
     /// What is out of order in its packet zone.
     pub notes: Notes,
     /// The packets that end in it and aren't idle, in order.
-    pub packets: Vec<Vec<u8>>,
+    pub packets: OctetStrings,
 }
 
 /// A virtual channel whose frames were seen.
@@ -71,7 +72,7 @@ impl Channel {
             self.new) }
     {
         let missing = missing_before(&mut self.monitor, header);
-        let mut packets = Vec::new(alloc);
+        let mut packets = OctetStrings::new(alloc);
         let pointer = read_pointer(mpdu);
         if pointer == ONLY_IDLE {
             self.reassembler.let_go();

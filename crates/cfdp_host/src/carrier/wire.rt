@@ -21,6 +21,7 @@ use crate::carrier::drops::{CarrierDrop, CarrierTally};
 use cfdp_port::{PeerWire, Wire, WireFault};
 use cfdp_station::{LinkDrop, StationConfig};
 use link_stack::{Down, Up};
+use octet_strings::OctetStrings;
 use space_packet::Counter;
 use std::alloc::{AllocError, Global};
 use std::marker::Model;
@@ -48,7 +49,7 @@ struct Conversion {
     // oldest first, the APID and the count of their packets, and room for one of these and for its
     // data field.
     up: Up,
-    queue: Vec<Vec<u8>>,
+    queue: OctetStrings,
     apid: u16,
     packets: Counter,
     packet: Vec<u8>,
@@ -60,7 +61,6 @@ struct Conversion {
 
 impl Model for Conversion {
     ghost use Rattle.std.specs.Prelude.{◌≡◌, ◌<◌, length};
-    ghost use Rattle.mpdu.specs.Feeding.{octets_of_each};
     ghost use Rattle.cfdp_host.specs.Carrier.{ConversionState};
 
     ghost Value = { ConversionState };
@@ -68,7 +68,7 @@ impl Model for Conversion {
     ghost view = { λ c. record {
       carrier = c.carrier;
       up = c.up;
-      queue = octets_of_each c.queue.items;
+      queue = c.queue;
       apid = c.apid;
       count = c.packets;
       peer_apid = c.peer_apid;
@@ -90,7 +90,7 @@ impl Conversion {
         Ok(Conversion {
             carrier,
             up: Up::new(alloc, Valid::known(config.sends))?,
-            queue: Vec::new(alloc),
+            queue: OctetStrings::new(alloc),
             apid: config.sends.apid,
             packets: Counter::new(),
             packet: vec![in alloc; 0u8; MOST_PACKET]?,
@@ -130,18 +130,20 @@ impl Conversion {
         if self.queue.is_empty() {
             return Ok(());
         }
-        let pdu = self.queue.remove(0);
-        match self.carrier {
-            PduCarrier::Pdus => wire.send(&pdu),
+        let pdu = self.queue.get(0);
+        let sent = match self.carrier {
+            PduCarrier::Pdus => wire.send(pdu),
             PduCarrier::Packets(form) => {
                 let count = self.packets.next();
                 let (body, packet) = (&mut self.body, &mut self.packet);
-                match put_pdu(form, self.apid, count, &pdu, body, packet) {
+                match put_pdu(form, self.apid, count, pdu, body, packet) {
                     Some(len) => wire.send(&self.packet[..len]),
                     None => Err(WireFault),
                 }
             }
-        }
+        };
+        self.queue.remove(0);
+        sent
     }
 
     /// Takes the PDU of a datagram that came: the frames that it fills wait for the station.

@@ -7,6 +7,7 @@ use cfdp_header::Header;
 use cfdp_station::LinkConfig;
 use link_sim::{FrameLink, FrameLinks, Lane, Mark, Side};
 use link_stack::{LinkDrop, Up};
+use octet_strings::OctetStrings;
 use std::alloc::{AllocError, Global};
 use valid_config::Valid;
 
@@ -165,14 +166,15 @@ fn note_pdus(
     deed: Deed,
     log: &mut Log,
 ) -> bool {
-    let mut pdus = Vec::new(alloc);
+    let mut pdus = OctetStrings::new(alloc);
     let before = up.drops(LinkDrop::NoMemory.number());
     up.receive(frame, &mut pdus);
     if up.drops(LinkDrop::NoMemory.number()) != before {
         log.note_short();
     }
     let mut has_cancel = false;
-    for pdu in &pdus {
+    for place in 0..pdus.len() {
+        let pdu = pdus.get(place);
         log.note(station, deed, pdu);
         has_cancel |= tells_cancel(pdu);
     }

@@ -11,13 +11,13 @@ ghost use Rattle.cfdp_script.specs.Dump.Told as told;
 ghost use Rattle.cfdp_script.specs.Dump.Told.{Says, TellsTold, carried_told, packet_told, said};
 ghost use Rattle.cfdp_script.specs.Dump.Units.{TellsDeep, TellsUnit, WritesUnit};
 ghost use Rattle.vc_packets.specs.Carrying.{carried_text};
-ghost use Rattle.mpdu.specs.Feeding.{octets_of_each};
 
 use crate::dump::remark::Remark;
 use crate::dump::{DumpKind, DumpRequest};
 use aos_frame::{ChannelConfig, FrameError, FrameHeader, HEADER_LEN, decode};
 use cfd_bits::get;
 use cfdp_report::{FrameShape, write_frame, write_pdu};
+use octet_strings::OctetStrings;
 use space_packet::header;
 use std::io;
 use std::io::Write;
@@ -176,13 +176,16 @@ fn write_said<W: Write>(request: DumpRequest, remark: Option<Remark>, out: &mut 
 /// # Errors
 ///
 /// That of the writer.
-fn write_packets<W: Write>(request: DumpRequest, packets: &[Vec<u8>], out: &mut W) -> io::Result<()>
-    ensures { OnOk result (WritesLines (TellsTold request)
-        (flat_map packet_told (octets_of_each packets.now))
+fn write_packets<W: Write>(
+    request: DumpRequest,
+    packets: &OctetStrings,
+    out: &mut W,
+) -> io::Result<()>
+    ensures { OnOk result (WritesLines (TellsTold request) (flat_map packet_told packets.now)
         (W.contents out.old) (W.contents out.new)) }
 {
-    for packet in packets {
-        write_packet(request, packet, out)?;
+    for place in 0..packets.len() {
+        write_packet(request, packets.get(place), out)?;
     }
     Ok(())
 }

@@ -20,22 +20,22 @@ loop-packet-preserved c =
     let ps : List (List ℕ) = octets_of_each (take i c.args.packets.now) in
     let hq : IsPacket q = subst (λ (l : List ℕ). IsPacket l) (sym c.deref.ensures.value) (ArePackets-at c.args.packets.now i c.packet-item.result c.requires.whole (omega arith) c.packet-item.is) in
     let h : IsCarried ps struck c.args.zone c.loop-packet.packer c.loop-packet.reassembler c.loop-packet.counts.counter c.loop-packet.counts.monitor c.loop-packet.sent
-    (octets_of_each c.loop-packet.out.items) = c.loop-packet.invariant.carried in
+    c.loop-packet.out = c.loop-packet.invariant.carried in
     let fits : IsErr c.push.result → ⊥ = λ (bad : IsErr c.push.result).
     let no_room : c.loop-packet.packer.capacity < length c.loop-packet.packer.waiting + length q = c.push.ensures.full.0 bad in
     absurd (omega (arith, packet_short q hq)) in
     let at : IsAt c.push.new.self (ps ++ q ∷ []) h.taken = ok_unless _ c.push.result fits (c.push.ensures.stream ps h.taken h.packed) in
     let put : IsCarried (ps ++ q ∷ []) struck c.args.zone c.push.new.self c.loop-packet.reassembler c.loop-packet.counts.counter c.loop-packet.counts.monitor c.loop-packet.sent
-    (octets_of_each c.loop-packet.out.items) =
+    c.loop-packet.out =
     carried_push ps struck c.args.zone c.loop-packet.packer c.push.new.self c.loop-packet.reassembler c.loop-packet.counts.counter c.loop-packet.counts.monitor c.loop-packet.sent
-    (octets_of_each c.loop-packet.out.items) q hq c.push.ensures.fixed.0 h at in
+    c.loop-packet.out q hq c.push.ensures.fixed.0 h at in
     let len : length c.deref_mut.result.now ≡ c.args.zone = ap length c.deref_mut.ensures.value ∙ c.loop-packet.invariant.buffer in
     let given : IsCarried (ps ++ q ∷ []) struck c.args.zone c.drain.new.packer c.drain.new.reassembler c.drain.new.counts.counter c.drain.new.counts.monitor c.drain.new.sent
-    (octets_of_each c.drain.new.out.items) =
+    c.drain.new.out =
     subst (λ (z : ℕ). IsCarried (ps ++ q ∷ []) struck z c.drain.new.packer c.drain.new.reassembler c.drain.new.counts.counter c.drain.new.counts.monitor c.drain.new.sent
-    (octets_of_each c.drain.new.out.items)) len
+    c.drain.new.out) len
     (c.in_ok-drain.ensures.stream (ps ++ q ∷ []) (subst (λ (z : ℕ). IsCarried
-    (ps ++ q ∷ []) struck z c.push.new.self c.loop-packet.reassembler c.loop-packet.counts.counter c.loop-packet.counts.monitor c.loop-packet.sent (octets_of_each c.loop-packet.out.items))
+    (ps ++ q ∷ []) struck z c.push.new.self c.loop-packet.reassembler c.loop-packet.counts.counter c.loop-packet.counts.monitor c.loop-packet.sent c.loop-packet.out)
     (sym len) put)) in
     let more : ps ++ q ∷ [] ≡ octets_of_each (take (i + 1) c.args.packets.now) = ap (λ l. ps ++ l ∷ []) c.deref.ensures.value
     ∙ sym (packets_more c.args.packets.now i c.packet-item.result (omega arith) c.packet-item.is) in
@@ -56,7 +56,7 @@ loop-packet-preserved c =
       place = c.in_ok-drain.ensures.place;
       emptied = c.in_ok-drain.ensures.emptied;
       carried = subst (λ (l : List (List ℕ)). IsCarried l struck c.args.zone c.drain.new.packer c.drain.new.reassembler c.drain.new.counts.counter c.drain.new.counts.monitor c.drain.new.sent
-          (octets_of_each c.drain.new.out.items)) more given;
+          c.drain.new.out) more given;
     }
 
 pub returns : goal.returns
@@ -67,23 +67,23 @@ returns c =
     let ps : List (List ℕ) = octets_of_each c.args.packets.now in
     let whole : octets_of_each (take i c.args.packets.now) ≡ ps = ap (λ l. octets_of_each l) (take_all i c.args.packets.now (omega arith)) in
     let h : IsCarried ps struck size c.loop-packet.packer c.loop-packet.reassembler c.loop-packet.counts.counter c.loop-packet.counts.monitor c.loop-packet.sent
-    (octets_of_each c.loop-packet.out.items) =
+    c.loop-packet.out =
     subst (λ (l : List (List ℕ)). IsCarried l struck size c.loop-packet.packer c.loop-packet.reassembler c.loop-packet.counts.counter c.loop-packet.counts.monitor c.loop-packet.sent
-    (octets_of_each c.loop-packet.out.items)) whole c.loop-packet.invariant.carried in
+    c.loop-packet.out) whole c.loop-packet.invariant.carried in
     let more : IsCarried (ps ++ flush_of c.loop-packet.packer) struck size c.flush.new.self c.loop-packet.reassembler c.loop-packet.counts.counter c.loop-packet.counts.monitor c.loop-packet.sent
-    (octets_of_each c.loop-packet.out.items) =
+    c.loop-packet.out =
     carried_flush ps struck size c.loop-packet.packer c.flush.new.self c.loop-packet.reassembler c.loop-packet.counts.counter c.loop-packet.counts.monitor c.loop-packet.sent
-    (octets_of_each c.loop-packet.out.items) c.requires.most c.flush.ensures.fixed.0 h (c.flush.ensures.stream ps h.taken h.packed) in
+    c.loop-packet.out c.requires.most c.flush.ensures.fixed.0 h (c.flush.ensures.stream ps h.taken h.packed) in
     let len : length c.deref_mut-2.result.now ≡ size = ap length c.deref_mut-2.ensures.value ∙ c.loop-packet.invariant.buffer in
     let last : IsCarried (ps ++ flush_of c.loop-packet.packer) struck size c.drain-2.new.packer c.drain-2.new.reassembler c.drain-2.new.counts.counter c.drain-2.new.counts.monitor c.drain-2.new.sent
-    (octets_of_each c.drain-2.new.out.items) =
+    c.drain-2.new.out =
     subst (λ (z : ℕ). IsCarried (ps ++ flush_of c.loop-packet.packer) struck z c.drain-2.new.packer c.drain-2.new.reassembler c.drain-2.new.counts.counter c.drain-2.new.counts.monitor
-    c.drain-2.new.sent (octets_of_each c.drain-2.new.out.items)) len
+    c.drain-2.new.sent c.drain-2.new.out) len
     (c.in_ok-drain-2.ensures.stream (ps ++ flush_of c.loop-packet.packer)
     (subst (λ (z : ℕ). IsCarried (ps ++ flush_of c.loop-packet.packer) struck z c.flush.new.self c.loop-packet.reassembler c.loop-packet.counts.counter c.loop-packet.counts.monitor
-    c.loop-packet.sent (octets_of_each c.loop-packet.out.items)) (sym len) more)) in
+    c.loop-packet.sent c.loop-packet.out) (sym len) more)) in
     let fill : flush_of c.loop-packet.packer ≡ fill_of size ps = flush_is ps c.loop-packet.packer h.taken size c.loop-packet.invariant.sized c.loop-packet.invariant.flag h.packed
     c.loop-packet.invariant.emptied in
-    subst (λ (l : List (List ℕ)). AreSurvivors (ps ++ l) struck size (octets_of_each c.drain-2.new.out.items)) fill
+    subst (λ (l : List (List ℕ)). AreSurvivors (ps ++ l) struck size c.drain-2.new.out) fill
     (carried_all (ps ++ flush_of c.loop-packet.packer) struck size c.drain-2.new.packer c.drain-2.new.reassembler c.drain-2.new.counts.counter c.drain-2.new.counts.monitor c.drain-2.new.sent
-    (octets_of_each c.drain-2.new.out.items) last c.in_ok-drain-2.ensures.emptied)
+    c.drain-2.new.out last c.in_ok-drain-2.ensures.emptied)

@@ -11,5 +11,5 @@ invariant-loop-packet l = record {
   flag : l.packer.flushed ≡ false;
   place : l.sent ≤ length l.struck;
   emptied : length l.packer.waiting < l.packer.size;
-  carried : IsCarried (octets_of_each (take l.packet-index l.packets)) l.struck l.zone l.packer l.reassembler l.counts.counter l.counts.monitor l.sent (octets_of_each l.out.items);
+  carried : IsCarried (octets_of_each (take l.packet-index l.packets)) l.struck l.zone l.packer l.reassembler l.counts.counter l.counts.monitor l.sent l.out;
 }

@@ -1,6 +1,5 @@
 use Rattle.std.proofs.Common.{◌≡◌, ◌≤◌, ℕ, List, length}
 use Rattle.mpdu.specs.Draining.{IsCarried}
-use Rattle.mpdu.specs.Feeding.{octets_of_each}
 use Rattle.mpdu.proofs.carrying.drain.Given as goal
 
 abbrev pub invariant-loop-pointer : goal.invariant-loop-pointer
@@ -10,8 +9,8 @@ invariant-loop-pointer l = record {
   flag : l.packer.flushed ≡ l.initial.packer.flushed;
   place : l.sent ≤ length l.struck;
   stream : (ps : List (List ℕ)) → IsCarried ps l.struck (length l.initial.buffer) l.initial.packer l.initial.reassembler l.initial.counts.counter l.initial.counts.monitor l.initial.sent
-      (octets_of_each l.initial.out.items) →
-      IsCarried ps l.struck (length l.initial.buffer) l.packer l.reassembler l.counts.counter l.counts.monitor l.sent (octets_of_each l.out.items);
+      l.initial.out →
+      IsCarried ps l.struck (length l.initial.buffer) l.packer l.reassembler l.counts.counter l.counts.monitor l.sent l.out;
 }
 
 abbrev pub decreases-loop-pointer : goal.decreases-loop-pointer

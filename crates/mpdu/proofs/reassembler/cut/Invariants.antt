@@ -1,6 +1,5 @@
 use Rattle.std.proofs.Common.{◌≡◌, ◌≤◌, ◌-◌, ◌++◌, length, drop}
 use Rattle.mpdu.specs.Reading.{scan}
-use Rattle.mpdu.specs.Feeding.{octets_of_each}
 use Rattle.mpdu.proofs.reassembler.cut.Given as goal
 
 abbrev pub invariant-loop-rest : goal.invariant-loop-rest
@@ -9,8 +8,8 @@ invariant-loop-rest l = record {
   behind : l.rest ≡ drop (length l.bytes - length l.rest) l.bytes;
   begun : (scan (length l.bytes) l.bytes).begun ≡ (scan (length l.rest) l.rest).begun;
   bad : (scan (length l.bytes) l.bytes).bad ≡ (scan (length l.rest) l.rest).bad;
-  out : octets_of_each l.initial.out.items ++ (scan (length l.bytes) l.bytes).out ≡ octets_of_each l.out.items ++ (scan (length l.rest) l.rest).out;
-  grown : length (octets_of_each l.initial.out.items) ≤ length (octets_of_each l.out.items);
+  out : l.initial.out ++ (scan (length l.bytes) l.bytes).out ≡ l.out ++ (scan (length l.rest) l.rest).out;
+  grown : length l.initial.out ≤ length l.out;
 }
 
 abbrev pub decreases-loop-rest : goal.decreases-loop-rest

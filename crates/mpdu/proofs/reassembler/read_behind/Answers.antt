@@ -2,7 +2,6 @@ use Rattle.std.proofs.Common.{◌≡◌, ◌≤◌, ◌-◌, ◌++◌, length, t
 use Rattle.std.proofs.lemmas.List.{take_rest, append-nil}
 use Rattle.std.proofs.lemmas.Result.{err_from_is_err_and}
 use Rattle.mpdu.specs.Reading.{to_read, step, scan}
-use Rattle.mpdu.specs.Feeding.{octets_of_each}
 use Rattle.mpdu.specs.Joining.{IsSplit, IsBegun}
 use Rattle.mpdu.proofs.Joining.{IsPast, past, hands_behind, hands_whole, read_front, read_begun, scan_begun, begun-short}
 use Rattle.mpdu.proofs.Scan.{header_len-short}
@@ -36,7 +35,7 @@ returns-then-goes_past-clause-bad c = sym (ap (λ r. r.bad) (past_is c).read)
 
 pub returns-then-goes_past-clause-ok : goal.returns-then-goes_past-clause-ok
 returns-then-goes_past-clause-ok c =
-    let before : List (List ℕ) = octets_of_each c.args.out.now.items in
+    let before : List (List ℕ) = c.args.out.now in
     sym (ap (λ r. before ++ r.out) (past_is c).read ∙ append-nil before)
 
 pub returns-then-goes_past-clause-begun : goal.returns-then-goes_past-clause-begun
@@ -45,22 +44,22 @@ returns-then-goes_past-clause-begun c = subst (λ (l : List ℕ). IsBegun l) (sy
 pub returns-in_err-front-clause-err : goal.returns-in_err-front-clause-err
 returns-in_err-front-clause-err c =
     let rest : List ℕ = drop c.join-joined.result.from c.args.zone.now in
-    let s : IsSplit (c.join-joined.new.held.items ++ rest) rest c.finish.new.held.items (octets_of_each c.args.out.now.items) (octets_of_each c.finish.new.out.items) =
+    let s : IsSplit (c.join-joined.new.held.items ++ rest) rest c.finish.new.held.items c.args.out.now c.finish.new.out =
     c.in_ok-finish.ensures.ok rest c.join-joined.ensures.heads in
     let p = err_from_is_err_and c.from_residual-in_err-front.result c.from_residual-in_err-front.ensures.1 in
     rw (p.1) (read_front (to_read (length c.args.zone.now) c.args.held.now.items c.args.pointer c.args.zone.now) (c.join-joined.new.held.items ++ rest) rest
-    (take (length c.args.zone.now - c.join-joined.result.from) rest) c.finish.new.held.items (octets_of_each c.args.out.now.items) (octets_of_each c.finish.new.out.items)
-    (octets_of_each c.cut.new.out.items) (c.in_err-front.ensures.err.0) c.join-joined.ensures.read (take_rest c.args.zone.now c.join-joined.result.from) s (c.in_err-front.ensures.err.1))
+    (take (length c.args.zone.now - c.join-joined.result.from) rest) c.finish.new.held.items c.args.out.now c.finish.new.out
+    c.cut.new.out (c.in_err-front.ensures.err.0) c.join-joined.ensures.read (take_rest c.args.zone.now c.join-joined.result.from) s (c.in_err-front.ensures.err.1))
 
 pub returns-in_err-front-clause-hands : goal.returns-in_err-front-clause-hands
 returns-in_err-front-clause-hands c =
     let rest : List ℕ = drop c.join-joined.result.from c.args.zone.now in
-    let s : IsSplit (c.join-joined.new.held.items ++ rest) rest c.finish.new.held.items (octets_of_each c.args.out.now.items) (octets_of_each c.finish.new.out.items) =
+    let s : IsSplit (c.join-joined.new.held.items ++ rest) rest c.finish.new.held.items c.args.out.now c.finish.new.out =
     c.in_ok-finish.ensures.ok rest c.join-joined.ensures.heads in
     let p = err_from_is_err_and c.from_residual-in_err-front.result c.from_residual-in_err-front.ensures.1 in
     rw (p.1) (hands_behind (to_read (length c.args.zone.now) c.args.held.now.items c.args.pointer c.args.zone.now) (c.join-joined.new.held.items ++ rest) rest
-    (take (length c.args.zone.now - c.join-joined.result.from) rest) c.finish.new.held.items (octets_of_each c.args.out.now.items)
-    (octets_of_each c.finish.new.out.items) c.join-joined.ensures.read (take_rest c.args.zone.now c.join-joined.result.from) s c.in_err-front.ensures.hands)
+    (take (length c.args.zone.now - c.join-joined.result.from) rest) c.finish.new.held.items c.args.out.now
+    c.finish.new.out c.join-joined.ensures.read (take_rest c.args.zone.now c.join-joined.result.from) s c.in_err-front.ensures.hands)
 
 pub returns-in_err-finish-clause-hands : goal.returns-in_err-finish-clause-hands
 returns-in_err-finish-clause-hands c =
@@ -77,11 +76,11 @@ left_is : (c : goal.After-append-arg-3-1) → c.finish.new.held.items ++ drop c.
     ≡ (step (length c.args.zone.now) c.args.held.now.items c.args.pointer c.args.zone.now).begun
 left_is c =
     let rest : List ℕ = drop c.join-joined.result.from c.args.zone.now in
-    let s : IsSplit (c.join-joined.new.held.items ++ rest) rest c.finish.new.held.items (octets_of_each c.args.out.now.items) (octets_of_each c.finish.new.out.items) =
+    let s : IsSplit (c.join-joined.new.held.items ++ rest) rest c.finish.new.held.items c.args.out.now c.finish.new.out =
     c.in_ok-finish.ensures.ok rest c.join-joined.ensures.heads in
     read_begun (to_read (length c.args.zone.now) c.args.held.now.items c.args.pointer c.args.zone.now) (c.join-joined.new.held.items ++ rest) rest
-    (take (length c.args.zone.now - c.join-joined.result.from) rest) c.finish.new.held.items _ (octets_of_each c.args.out.now.items)
-    (octets_of_each c.finish.new.out.items) c.join-joined.ensures.read (take_rest c.args.zone.now c.join-joined.result.from) s c.in_ok-front.ensures.held
+    (take (length c.args.zone.now - c.join-joined.result.from) rest) c.finish.new.held.items _ c.args.out.now
+    c.finish.new.out c.join-joined.ensures.read (take_rest c.args.zone.now c.join-joined.result.from) s c.in_ok-front.ensures.held
 
 pub append-requires-2 : goal.append-requires-2
 append-requires-2 c =
@@ -104,13 +103,13 @@ append-requires-2 c =
 held_is : (c : goal.After-append-2) → c.append-2.new.held.items ≡ (step (length c.args.zone.now) c.args.held.now.items c.args.pointer c.args.zone.now).begun
 held_is c =
     let rest : List ℕ = drop c.join-joined.result.from c.args.zone.now in
-    let s : IsSplit (c.join-joined.new.held.items ++ rest) rest c.finish.new.held.items (octets_of_each c.args.out.now.items) (octets_of_each c.finish.new.out.items) =
+    let s : IsSplit (c.join-joined.new.held.items ++ rest) rest c.finish.new.held.items c.args.out.now c.finish.new.out =
     c.in_ok-finish.ensures.ok rest c.join-joined.ensures.heads in
     let part : List ℕ = take (length c.args.zone.now - c.join-joined.result.from) rest in
     c.append-2.ensures.items ∙ ap (λ l. c.finish.new.held.items ++ l) (take_rest part c.in_ok-front.front.end)
     ∙ read_begun (to_read (length c.args.zone.now) c.args.held.now.items c.args.pointer c.args.zone.now) (c.join-joined.new.held.items ++ rest) rest
-    (take (length c.args.zone.now - c.join-joined.result.from) rest) c.finish.new.held.items _ (octets_of_each c.args.out.now.items)
-    (octets_of_each c.finish.new.out.items) c.join-joined.ensures.read (take_rest c.args.zone.now c.join-joined.result.from) s c.in_ok-front.ensures.held
+    (take (length c.args.zone.now - c.join-joined.result.from) rest) c.finish.new.held.items _ c.args.out.now
+    c.finish.new.out c.join-joined.ensures.read (take_rest c.args.zone.now c.join-joined.result.from) s c.in_ok-front.ensures.held
 
 pub returns-clause-held : goal.returns-clause-held
 returns-clause-held c = held_is c

@@ -1,16 +1,9 @@
-use Rattle.std.proofs.Common.{◌≡◌, rules, subst}
-use Rattle.std.specs.List.{flat_map}
-use Rattle.std.specs.Result.{OnOk}
-use Rattle.mpdu.specs.Feeding.{octets_of_each}
-use Rattle.cfdp_report.specs.Dump.Lines.{WritesLines}
-use Rattle.cfdp_script.specs.Dump.Told.{TellsTold, packet_told}
 use Rattle.cfdp_script.proofs.Runs.{told_more}
 use Rattle.cfdp_script.proofs.dump.unit.write_carried.Goals as goal
 
 pub returns : goal.returns
 returns g c =
     let r = c.args.request in
-    let same : c.deref.result.now ≡ c.args.carried.now.packets.items = search rules in
-    rw (← c.missing_remark-missing.ensures, ← c.idle_remark-idle.ensures, ← c.cut_remark-cut.ensures, ← c.bad_remark-bad.ensures, ← same)
+    rw (← c.missing_remark-missing.ensures, ← c.idle_remark-idle.ensures, ← c.cut_remark-cut.ensures, ← c.bad_remark-bad.ensures)
     (told_more r _ _ _ _ _ _ c.in_ok-write_said.ensures (told_more r _ _ _ _ _ _ c.in_ok-write_said-2.ensures
     (told_more r _ _ _ _ _ _ c.in_ok-write_said-3.ensures (told_more r _ _ _ _ _ _ c.in_ok-write_said-4.ensures c.write_packets.ensures))))

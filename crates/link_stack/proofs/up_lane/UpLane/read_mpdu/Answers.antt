@@ -4,7 +4,6 @@ use Rattle.aos_frame.specs.Counts.{follows}
 use Rattle.aos_frame.specs.declared.count.SeenCount.{SeenCount}
 use Rattle.std.proofs.lemmas.List.{take_all}
 use Rattle.mpdu.specs.MpduHeader.{pointer_of}
-use Rattle.mpdu.specs.Feeding.{octets_of_each}
 use Rattle.link_stack.specs.Upward.{LinkReceiverState, idle_read, packets_read, mpdu_read, Takes, TakesFront}
 use Rattle.link_stack.proofs.Taking.{all_again, front_again}
 use Rattle.link_stack.proofs.up_lane.UpLane.read_mpdu.Goals as goal
@@ -25,10 +24,10 @@ returns-clause-all c done =
     ∙ ap (λ (n : ℕ). packets_read (Some seen) mid.begun (follows up.last seen) n behind) c.read_pointer-pointer.ensures.pointer
     ∙ ap (λ (l : List ℕ). packets_read (Some seen) mid.begun (follows up.last seen) (pointer_of c.args.mpdu.now) l) all
     ∙ sym (ap (λ (b : Bool). if b then idle_read seen else packets_read (Some seen) up.begun (follows up.last seen) (pointer_of c.args.mpdu.now) zone) busy) in
-    let all_of : Takes (mpdu_read up seen c.args.mpdu.now) up c.read_zone.new.self (octets_of_each c.args.out.now.items) (octets_of_each c.read_zone.new.out.items) =
+    let all_of : Takes (mpdu_read up seen c.args.mpdu.now) up c.read_zone.new.self c.args.out.now c.read_zone.new.out =
     all_again (packets_read mid.last mid.begun c.follows-in_order.result c.read_pointer-pointer.result behind) (mpdu_read up seen c.args.mpdu.now) up mid c.read_zone.new.self
-    (octets_of_each c.args.out.now.items) (octets_of_each c.read_zone.new.out.items) same refl refl (c.read_zone.ensures.all done) in
-    subst (λ (u : LinkReceiverState). Takes (mpdu_read u seen c.args.mpdu.now) u c.read_zone.new.self (octets_of_each c.args.out.now.items) (octets_of_each c.read_zone.new.out.items))
+    c.args.out.now c.read_zone.new.out same refl refl (c.read_zone.ensures.all done) in
+    subst (λ (u : LinkReceiverState). Takes (mpdu_read u seen c.args.mpdu.now) u c.read_zone.new.self c.args.out.now c.read_zone.new.out)
     c.self.view_is all_of
 
 pub returns-clause-front : goal.returns-clause-front
@@ -47,10 +46,10 @@ returns-clause-front c none =
     ∙ ap (λ (n : ℕ). packets_read (Some seen) mid.begun (follows up.last seen) n behind) c.read_pointer-pointer.ensures.pointer
     ∙ ap (λ (l : List ℕ). packets_read (Some seen) mid.begun (follows up.last seen) (pointer_of c.args.mpdu.now) l) all
     ∙ sym (ap (λ (b : Bool). if b then idle_read seen else packets_read (Some seen) up.begun (follows up.last seen) (pointer_of c.args.mpdu.now) zone) busy) in
-    let front : TakesFront (mpdu_read up seen c.args.mpdu.now) up c.read_zone.new.self (octets_of_each c.args.out.now.items) (octets_of_each c.read_zone.new.out.items) =
+    let front : TakesFront (mpdu_read up seen c.args.mpdu.now) up c.read_zone.new.self c.args.out.now c.read_zone.new.out =
     front_again (packets_read mid.last mid.begun c.follows-in_order.result c.read_pointer-pointer.result behind) (mpdu_read up seen c.args.mpdu.now) up mid c.read_zone.new.self
-    (octets_of_each c.args.out.now.items) (octets_of_each c.read_zone.new.out.items) same refl refl (c.read_zone.ensures.front none) in (
+    c.args.out.now c.read_zone.new.out same refl refl (c.read_zone.ensures.front none) in (
       busy,
-      subst (λ (u : LinkReceiverState). TakesFront (mpdu_read u seen c.args.mpdu.now) u c.read_zone.new.self (octets_of_each c.args.out.now.items) (octets_of_each c.read_zone.new.out.items))
+      subst (λ (u : LinkReceiverState). TakesFront (mpdu_read u seen c.args.mpdu.now) u c.read_zone.new.self c.args.out.now c.read_zone.new.out)
           c.self.view_is front,
     )
