@@ -229,7 +229,8 @@ def kill_mistakes(program, kills, cuts=False, seed=66):
             # A file is dropped while nobody has the spool, so that it is there whole for sure.
             due = number * FILES / (kills * 0.8) - (FILES - len(waiting))
             dropped = waiting[: int(due) + 1] if own == 1 and due > 0 else []
-            ends.drop(spool, {name: files[name] for name in dropped})
+            if dropped:
+                ends.drop(spool, {name: files[name] for name in dropped})
             waiting = waiting[len(dropped) :]
             if number % 20 == 0:
                 there = {name: files[name] for name in files if name not in waiting}
