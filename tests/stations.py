@@ -302,6 +302,26 @@ def memory_mistakes(program):
         yield f"of {growth} growths of memory were {sorted(refused)}, and not {list(MEMORY_ENDS)}"
 
 
+def steady_mistakes(program):
+    """What is wrong with the memory of a long transfer: no frame takes any, whether it leaves or
+    comes. So of many more frames than that, none finds the thousandth growth, which is refused."""
+    octets, settings = random.Random(47).randbytes(200_000), {"segment": 64}
+    with tempfile.TemporaryDirectory(dir=program.room) as folder:
+        ports, started = dict(zip((1, 2), free_ports(2))), []
+        put(folder, 1, "a", octets)
+        env = {"PATH": "/usr/bin:/bin", **program.faulty("memory=1000,mark")}
+        sends = ["--outbox", "from", "--put", "a", "b", "--idle", "2"]
+        for own, words in ((2, ["--inbox", "to", "--idle", "3"]), (1, sends)):
+            words += ["--rate", "2000"]
+            started.append(Station(program, folder, own, 3 - own, ports, words, settings, env=env))
+            started[-1].comes_up()
+        yield from (f"{it.own}: {ran}" for it in started if (ran := it.ended())[0])
+        yield from (f"{own} asked for memory a thousand times"
+                    for own in (1, 2) if os.path.exists(f"{folder}/{own}/refused"))
+        if files_at(folder, 2) != {"b": octets}:
+            yield "the file didn't come"
+
+
 def packets_of(octets):
     """The packets of a capture: the event of each, and the PDU. The last may be cut short."""
     at, packets = 0, []
@@ -425,5 +445,6 @@ def all_mistakes(program):
     yield "a name that no folder takes", refused_mistakes(program, inbox, "a/b", no_name)
     yield "a report and a line on one terminal", terminal_mistakes(program)
     yield "a put that finds no memory", memory_mistakes(program)
+    yield "a long transfer that takes no memory", steady_mistakes(program)
     yield "a station killed while one looks on", killed_watched_mistakes(program)
     yield "the memory of one who looks on", watched_memory_mistakes(program)

@@ -60,8 +60,8 @@ pub fn what_is_wished_is_fulfilled()
 {}
 
 /// All that a station in service does between two turns is deeds of it, with the very calls of its
-/// user: its wishes are done, what it indicated is told and let go, and so are transactions that are
-/// over, and the user says what it intends.
+/// user: its wishes are done, what it indicated is told and let go, and so are transactions that
+/// are over, and the user says what it intends.
 pub fn what_is_done_between_turns_is_deeds<W: PeerWire>()
     ensures { (c : Setup) (s : Side) (old : Stations) (calls : List UserCall)
         (station : StationState) → IsPrepared calls (served_at s old).kept.station station

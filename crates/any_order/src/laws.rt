@@ -39,7 +39,8 @@ pub fn the_promise_holds_in_any_order()
 }
 
 /// The files that both stations can send stay, whatever is called: so those of stores over the same
-/// files are what [`UnorderedWorld::restart`](crate::UnorderedWorld::restart) asks for, at any time.
+/// files are what [`UnorderedWorld::restart`](crate::UnorderedWorld::restart) asks for, at any
+/// time.
 pub fn the_files_to_send_stay()
     ensures { (side : Side) (calls : List Call) (old new : WorldKept) → KeepsPromise old →
         Happened side calls old new → (s : Side) → sources_at s new ≡ sources_at s old }
@@ -49,8 +50,8 @@ pub fn the_files_to_send_stay()
     an_entity_sends_the_truth();
 }
 
-/// What was told and sent in the lives before stays, and no indication is let go, whatever is called:
-/// a start makes the life that a station had the last of those before.
+/// What was told and sent in the lives before stays, and no indication is let go, whatever is
+/// called: a start makes the life that a station had the last of those before.
 pub fn lives_stay()
     ensures calls { (side : Side) (calls : List Call) (old new : WorldKept) → KeepsPromise old →
         Happened side calls old new → AreNoStarts calls →

@@ -165,8 +165,8 @@ impl<O: SteadyOutbox, I: Inbox> UnorderedWorld<O, I> {
     }
 
     /// A frame that this station made, in any of its lives, reaches the other one: whether it was
-    /// delivered before or not, and whatever was delivered before it. Where the answer isn't `Taken`,
-    /// nothing changed.
+    /// delivered before or not, and whatever was delivered before it. Where the answer isn't
+    /// `Taken`, nothing changed.
     pub fn deliver(&mut self, side: Side, which: SentFrame) -> Delivered
         ensures happened { Happened (other (side_of side)) (deliver_calls which result) self.old
             self.new }

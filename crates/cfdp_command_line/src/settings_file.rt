@@ -16,7 +16,8 @@ const DEVICE: u8 = 3;
 /// # Errors
 ///
 /// The status with which the process ends: where a settings file was asked for, which went to
-/// standard output, or where theirs can't be read or says nothing, which was told on standard error.
+/// standard output, or where theirs can't be read or says nothing, which was told on standard
+/// error.
 pub fn with_settings(rt: &HostRuntime, words: Vec<String>) -> Result<Vec<String>, u8>
     ensures { IfErr result (λ status. (status ≡ 0) ⊎ (status ≡ 2) ⊎ (status ≡ 3)) }
 {

@@ -16,8 +16,8 @@ use Rattle.cfdp_host.specs.declared.carrier.datagram.PacketForm.{PacketForm}
 use Rattle.cfdp_host.specs.declared.carrier.datagram.PduCarrier.{PduCarrier}
 use Rattle.cfdp_host.specs.declared.carrier.datagram.PduCarrier.TheVariants.{Packets, Pdus}
 
--- an unsegmented packet with a PDU behind its secondary header, which it doesn't have where that has
--- no octet (CCSDS 133.0-B-2, 4.1.3 and 4.1.4)
+-- an unsegmented packet with a PDU behind its secondary header, which it doesn't have where that
+-- has no octet (CCSDS 133.0-B-2, 4.1.3 and 4.1.4)
 abbrev pub carrying : PacketType → (apid count : ℕ) → (header pdu : List ℕ) → Parts
 carrying packet_type apid count header pdu = record {
   apid = apid;
@@ -48,8 +48,8 @@ pdu_lane pdu = if field pdu 3 1 == 0 then Directives else Data
 
 -- ---- frames to datagrams, and back
 -- How PDUs are carried; the end that takes the station's frames; the PDUs of these that have still
--- to leave, the oldest first; the APID and the count of the packet of the next one; the APID of what
--- comes; and the end that fills the frames in which that comes to the station.
+-- to leave, the oldest first; the APID and the count of the packet of the next one; the APID of
+-- what comes; and the end that fills the frames in which that comes to the station.
 pub record ConversionState : Type 0 where
   pub carrier : PduCarrier
   pub up : UpState
@@ -99,7 +99,8 @@ pub record Leaves {W : Type 0} (Steps : W → WireCall → W → Type 0) (pdu : 
   pub sends : SendsAs Steps old.carrier old.apid old.count pdu answer wire after
   pub now : new ≡ record old { queue = rest; count = next_count old.carrier old.count }
 
--- The PDU of a datagram that came was sent down its lane, and the begun frame of that was filled up.
+-- The PDU of a datagram that came was sent down its lane, and the begun frame of that was filled
+-- up.
 pub record TakesDatagram (datagram : List ℕ) (old new : ConversionState) : Type 0 where
   pub pdu : List ℕ
   pub sent : DownState

@@ -69,8 +69,8 @@ module _ {W : Type 0} (Steps : W → WireCall → W → Type 0) where
     pub steps : Times SendsStep count old new
 
   -- ---- the calls of a wire of frames
-  -- A frame of the station was taken, and datagrams left: first those that waited, and then the PDUs
-  -- that it completes.
+  -- A frame of the station was taken, and datagrams left: first those that waited, and then the
+  -- PDUs that it completes.
   pub record SendsFrame (frame : List ℕ) (c : ConversionState) (old new : CarrierState W)
       : Type 0 where
     pub taken : ConversionState

@@ -1,10 +1,10 @@
 //! What a datagram between a station and its peer carries: an AOS frame, a Space Packet, or a PDU.
 //!
 //! A station sends and takes AOS frames. Where its peer knows no frames, a [`CarrierWire`] lies
-//! between the station's port and the wire of datagrams: of the frames that leave it takes the PDUs,
-//! and each of them leaves in a datagram of its own; of the datagrams that come it makes the frames
-//! in which the peer's PDUs would have come. So the station, and all that is proved of it, stay as
-//! they are.
+//! between the station's port and the wire of datagrams: of the frames that leave it takes the
+//! PDUs, and each of them leaves in a datagram of its own; of the datagrams that come it makes the
+//! frames in which the peer's PDUs would have come. So the station, and all that is proved of it,
+//! stay as they are.
 ghost use Rattle.std.specs.Prelude.{◌≡◌};
 ghost use Rattle.cfdp_host.specs.CarrierWire.{pdu_carrier};
 

@@ -95,8 +95,8 @@ pub struct InboxFiles<'a> {
 }
 
 impl<'a> InboxFiles<'a> {
-    /// Those of the system. Where it doesn't replace, no rename takes a name that is there; and none
-    /// gives a name to a file of more than `most_size` octets, unless that is 0.
+    /// Those of the system. Where it doesn't replace, no rename takes a name that is there; and
+    /// none gives a name to a file of more than `most_size` octets, unless that is 0.
     pub fn new(rt: &'a HostRuntime, replaces: bool, most_size: u64) -> InboxFiles<'a> {
         InboxFiles {
             rt,

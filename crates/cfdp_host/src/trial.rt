@@ -11,8 +11,8 @@ const DEVICE: u8 = 3;
 const TRIAL: [u8; 4096] = [0; 4096];
 
 /// Tries whether files can be written into the folder of an inbox: makes one in it, under a name
-/// that begins with a point, writes and flushes it, gives it a link where the inbox keeps files that
-/// are there, and removes it.
+/// that begins with a point, writes and flushes it, gives it a link where the inbox keeps files
+/// that are there, and removes it.
 ///
 /// # Errors
 ///

@@ -56,9 +56,9 @@ struct Prepared<'a> {
 /// Runs the station that is asked for, writes the report to standard output, and says on standard
 /// error what went wrong. Answers the exit status.
 ///
-/// What may be wrong is looked for in this order: the console, the control address, what is set, the
-/// names of files that are to be sent, the folders, those files, the file of reserved numbers, the
-/// addresses.
+/// What may be wrong is looked for in this order: the console, the control address, what is set,
+/// the names of files that are to be sent, the folders, those files, the file of reserved numbers,
+/// the addresses.
 pub fn station_status(rt: &HostRuntime, request: &StationRequest) -> u8 {
     match started_status(rt, request) {
         Ok(status) | Err(status) => status,
@@ -354,8 +354,8 @@ fn reserved<'a>(
     }
 }
 
-/// The folder beside which the file of reserved numbers lies: that of the outbox or of the spool, or
-/// of the inbox where there is none of these.
+/// The folder beside which the file of reserved numbers lies: that of the outbox or of the spool,
+/// or of the inbox where there is none of these.
 fn numbers_folder(request: &StationRequest) -> Option<&str> {
     match (&request.outbox, &request.spool, &request.inbox) {
         (Some(path), _, _) | (None, Some(path), _) | (None, None, Some(path)) => {

@@ -14,8 +14,8 @@ abbrev pub flag_of : Bool → ℕ
 flag_of false = 0
 flag_of true = 1
 
--- These words say the shape of frames: the octets of their packet zone and of their insert zone, and
--- whether they have an operational control field and a frame error control field.
+-- These words say the shape of frames: the octets of their packet zone and of their insert zone,
+-- and whether they have an operational control field and a frame error control field.
 pub record SayShape (words : List (List ℕ)) (shape : FrameShape) : Type 0 where
   pub zone : List ℕ
   pub insert : List ℕ

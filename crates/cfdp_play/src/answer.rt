@@ -120,7 +120,8 @@ fn answer_fields(alloc: Global, body: &[u8], response: &mut Response) -> Result<
 }
 
 /// Fills an answer, the last one over its connection: nothing of it is kept, taken for something
-/// else, or shown within another page; and the page has nothing run or loaded but what it has itself.
+/// else, or shown within another page; and the page has nothing run or loaded but what it has
+/// itself.
 fn fill(
     response: &mut Response,
     status: StatusCode,

@@ -23,8 +23,8 @@ pub enum Asked {
 ///
 /// # Errors
 ///
-/// The `Denial`: `Foreign` goes before all others where it is sent to a foreign name or by a page of
-/// another site, and behind them where it is posted by no page.
+/// The `Denial`: `Foreign` goes before all others where it is sent to a foreign name or by a page
+/// of another site, and behind them where it is posted by no page.
 pub fn what_is_asked(request: &Request<Bytes>) -> Result<Asked, Denial>
     ensures may { IfOk result (MayAsk request.now) }
     ensures denied { IfErr result (IsDenied request.now) }

@@ -36,7 +36,8 @@ pub struct Client {
 }
 
 impl Client {
-    /// One that has come. The names of its fields are kept under secret keys, since it chooses them.
+    /// One that has come. The names of its fields are kept under secret keys, since it chooses
+    /// them.
     pub fn new(alloc: Global, keys: RandomState, stream: TcpStream) -> Client {
         let config = Config {
             limits: Limits::default(),

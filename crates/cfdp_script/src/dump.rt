@@ -77,7 +77,8 @@ pub struct DumpRequest {
 ///
 /// The answer is `Complete` whatever the lines say, once all have left the buffer. It is `Device`
 /// where they couldn't be read, as `read_up_to` says of 64 MiB, where a line couldn't be written,
-/// or where there was no memory. Nothing is written unless all was read, and nothing is written twice.
+/// or where there was no memory. Nothing is written unless all was read, and nothing is written
+/// twice.
 pub fn run_dump<R: Read + Drop, W: Write + Drop>(
     alloc: Global,
     request: DumpRequest,

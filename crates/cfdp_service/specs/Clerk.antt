@@ -16,8 +16,8 @@ use Rattle.cfdp_service.specs.declared.wish.Reply.TheVariants as replies
 use Rattle.cfdp_service.specs.declared.wish.Wish.{Wish}
 use Rattle.cfdp_service.specs.declared.wish.Wish.TheVariants as wishes
 
--- a clerk of the entity `own`: the file of the spool whose put it wishes, where that isn't answered;
--- the files whose puts are open, each with its transaction; and the spool
+-- a clerk of the entity `own`: the file of the spool whose put it wishes, where that isn't
+-- answered; the files whose puts are open, each with its transaction; and the spool
 pub record ClerkState (S : Type 0) : Type 0 where
   pub own : ℕ
   pub asked : Option (List ℕ)

@@ -50,8 +50,8 @@ fn tell_new(words: &str, out: &mut String) -> Result<(), AllocError> {
 }
 
 /// The keys, in the order of their numbers. `octets` says how much of `hello` is in `a.txt`. From
-/// the calls `outbox_call` and `inbox_call` on, the outbox and the inbox of an entity fail. PDUs have
-/// a CRC where `pdu_crc` is 1, and frames of both directions have error control where
+/// the calls `outbox_call` and `inbox_call` on, the outbox and the inbox of an entity fail. PDUs
+/// have a CRC where `pdu_crc` is 1, and frames of both directions have error control where
 /// `error_control` is.
 const KEYS: &str = "entity peer id_width number_width first_number segment checksum eof_time \
     nak_time finished_time inactivity_time sends_channel sends_zone sends_apid receives_channel \

@@ -38,9 +38,9 @@ impl PduCarrier {
     ///
     /// # Errors
     ///
-    /// The first cause for which the datagram is dropped, in this order: `Short`, `Version`, `Long`,
-    /// `OtherApid`, `Segmented`, `SecondaryHeader`, `Empty`; of a bare PDU `Empty` alone. What the
-    /// PDU itself says isn't looked at.
+    /// The first cause for which the datagram is dropped, in this order: `Short`, `Version`,
+    /// `Long`, `OtherApid`, `Segmented`, `SecondaryHeader`, `Empty`; of a bare PDU `Empty` alone.
+    /// What the PDU itself says isn't looked at.
     pub fn pdu_in(self, apid: u16, datagram: &[u8]) -> Result<&[u8], CarrierDrop>
         // The datagram is that of the PDU, and of no other.
         ensures found { IfOk result (λ pdu. Carries self apid pdu.now datagram.now) }
@@ -124,9 +124,9 @@ pub fn lane_of(pdu: &[u8]) -> Lane
     }
 }
 
-/// Writes the packet of a PDU, of this APID and with this count, into the first octets of `out`, and
-/// says how many they are; `None` where the PDU fits no packet, or one of both doesn't fit. Its data
-/// field is put together in `body`.
+/// Writes the packet of a PDU, of this APID and with this count, into the first octets of `out`,
+/// and says how many they are; `None` where the PDU fits no packet, or one of both doesn't fit. Its
+/// data field is put together in `body`.
 pub fn put_pdu(
     form: PacketForm,
     apid: u16,
@@ -145,8 +145,8 @@ pub fn put_pdu(
     put_packet(form, apid, count, &body[..len], out)
 }
 
-/// Writes a secondary header of so many octets, all zero, and a PDU behind it into the first octets,
-/// and says how many they are; `None` where they don't fit.
+/// Writes a secondary header of so many octets, all zero, and a PDU behind it into the first
+/// octets, and says how many they are; `None` where they don't fit.
 fn put_body(header_len: u8, pdu: &[u8], out: &mut [u8]) -> Option<usize>
     ensures within { IfSome result (λ len. len ≤ length out.new) }
     ensures some { header_len + length pdu.now ≤ length out.old → IsSome result }

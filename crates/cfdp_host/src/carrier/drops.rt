@@ -59,8 +59,8 @@ impl CarrierDrop {
     }
 }
 
-/// How often datagrams that came were dropped, for each cause. It is lent to the wire, which counts,
-/// and to whoever tells the operator.
+/// How often datagrams that came were dropped, for each cause. It is lent to the wire, which
+/// counts, and to whoever tells the operator.
 #[derive(Drop)]
 pub struct CarrierTally {
     // in the order of `CarrierDrop::ALL`

@@ -3,11 +3,11 @@
 //! Both ends of the station's link that are in here, one for each direction, lose nothing and keep
 //! the order of each lane, since nothing lies between them and the station. So the frames that the
 //! station takes are those of an honest link, and the frames that it sends are all read. What the
-//! network does it does to whole datagrams: it may lose, repeat and reorder them. A lost datagram is
-//! a lost PDU, which is asked for again. A repeated one, or one that comes late, is a PDU that the
-//! peer's entity sends once more or later than others, in a frame of its own. What is promised of a
-//! station for whatever PDUs come, holds here as there; but that the PDUs of a lane come in the order
-//! in which they were sent, which a link of frames keeps, no network of datagrams does.
+//! network does it does to whole datagrams: it may lose, repeat and reorder them. A lost datagram
+//! is a lost PDU, which is asked for again. A repeated one, or one that comes late, is a PDU that
+//! the peer's entity sends once more or later than others, in a frame of its own. What is promised
+//! of a station for whatever PDUs come, holds here as there; but that the PDUs of a lane come in
+//! the order in which they were sent, which a link of frames keeps, no network of datagrams does.
 ghost use Rattle.std.specs.Prelude.{◌≡◌, ℕ, ◌≤◌, List, [], ◌∷◌, length, take, None, Some, true};
 ghost use Rattle.std.specs.Prelude.{IfOk, IfSome, OnErr, OnOk};
 ghost use Rattle.cfdp_host.specs.Carrier.{ConversionState, GivesFrame, IsFirst, Leaves};
@@ -45,9 +45,9 @@ const MOST_BODY: usize = 65_536;
 #[derive(Drop)]
 struct Conversion {
     carrier: PduCarrier,
-    // What leaves: the end that takes the station's frames, their PDUs that have still to leave, the
-    // oldest first, the APID and the count of their packets, and room for one of these and for its
-    // data field.
+    // What leaves: the end that takes the station's frames, their PDUs that have still to leave,
+    // the oldest first, the APID and the count of their packets, and room for one of these and for
+    // its data field.
     up: Up,
     queue: OctetStrings,
     apid: u16,
@@ -181,8 +181,8 @@ impl Conversion {
         Some(len)
     }
 
-    /// Takes the PDU of a datagram that came, and writes the next frame for the station to the front
-    /// of a buffer, as `next_frame` does. A datagram that is dropped is counted in the tally.
+    /// Takes the PDU of a datagram that came, and writes the next frame for the station to the
+    /// front of a buffer, as `next_frame` does. A datagram that is dropped is counted in the tally.
     fn pass(&mut self, datagram: &[u8], tally: &CarrierTally, buffer: &mut [u8]) -> Option<usize>
         ensures within { IfSome result (λ len. len ≤ length buffer.new) }
         ensures passes { IfSome result (λ len. Passes datagram.now (take len buffer.new) self.old
@@ -213,12 +213,12 @@ fn conversion_of(
 
 /// A wire of frames for a station, over a wire of datagrams.
 ///
-/// What leaves: a frame may complete several PDUs, or none. Each leaves in a datagram of its own, in
-/// their order, as the wire of datagrams is ready for one; a frame may leave as soon as no datagram
-/// waits. The packets of both lanes are counted together, from 0 on, modulo 16,384.
+/// What leaves: a frame may complete several PDUs, or none. Each leaves in a datagram of its own,
+/// in their order, as the wire of datagrams is ready for one; a frame may leave as soon as no
+/// datagram waits. The packets of both lanes are counted together, from 0 on, modulo 16,384.
 ///
-/// What comes: the PDU of each datagram goes on the lane of its type, and the begun frame of that is
-/// filled up, so that it comes at once. A datagram that has none is dropped, and counted by its
+/// What comes: the PDU of each datagram goes on the lane of its type, and the begun frame of that
+/// is filled up, so that it comes at once. A datagram that has none is dropped, and counted by its
 /// cause.
 #[derive(Drop)]
 pub struct CarrierWire<'a, W: PeerWire> {

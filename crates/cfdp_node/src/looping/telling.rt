@@ -57,8 +57,8 @@ pub struct TellingInbox<'a> {
 
 impl<'a> TellingInbox<'a> {
     /// An inbox over this folder, which is there. Where it `replaces`, a file that comes takes the
-    /// place of the one that has its name; else it is refused, and the other stays. One of more than
-    /// `most_size` octets is refused, unless that is 0. It sets `told` once it said so.
+    /// place of the one that has its name; else it is refused, and the other stays. One of more
+    /// than `most_size` octets is refused, unless that is 0. It sets `told` once it said so.
     ///
     /// # Errors
     ///

@@ -500,8 +500,8 @@ fn most_octets(pace: &Pace) -> usize {
     }
 }
 
-/// Whether a datagram is of the link. A frame looks like one that carries packets: it has the length
-/// and one of both channels. Else there is a PDU in it that is for the station.
+/// Whether a datagram is of the link. A frame looks like one that carries packets: it has the
+/// length and one of both channels. Else there is a PDU in it that is for the station.
 fn is_of_link(datagram: &[u8], pace: &Pace) -> bool {
     if let Some(carrier) = pace.carrier.of_pdus() {
         return carrier.pdu_in(pace.receives.apid, datagram).is_ok();
@@ -582,9 +582,9 @@ impl Wire for PeerSocket<'_> {
 }
 
 impl PeerWire for PeerSocket<'_> {
-    /// The whole seconds since the start, or milliseconds, in which the link wasn't down by plan and
-    /// the process ran. While datagrams wait in the socket it is the time at which none did, at most
-    /// two seconds late. Where the clock can't be read it stands still.
+    /// The whole seconds since the start, or milliseconds, in which the link wasn't down by plan
+    /// and the process ran. While datagrams wait in the socket it is the time at which none did, at
+    /// most two seconds late. Where the clock can't be read it stands still.
     fn now(&mut self) -> u64 {
         let drained = self.drained.max(self.link_time().saturating_sub(MOST_LAG));
         self.told = self.told.max(drained / self.pace.unit.nanoseconds());

@@ -69,7 +69,8 @@ abbrev pub counted : List Sighting → ℕ
 counted seen = min (length seen) (2 ^ 64 - 1)
 
 -- What was written from some start on is the chart of those seen so far, but for how many are left
--- out: its head, and one line for each of the first ones in their order. The writer has counted all.
+-- out: its head, and one line for each of the first ones in their order. The writer has counted
+-- all.
 pub record ChartsSoFar (writer : ChartWriter) (seen : List Sighting)
     (start now : Option (List ℕ)) : Type 0 where
   pub count : writer.lines ≡ counted seen

@@ -27,8 +27,8 @@ deed_word Ticks = codes "ticks"
 deed_word Drops = codes "drops"
 deed_word Tells = codes "tells"
 
--- Behind that stands what a dump says of the frame, which is made so, or of the PDU. Of the time, of a drop and of an
--- indication the words were noted.
+-- Behind that stands what a dump says of the frame, which is made so, or of the PDU. Of the time,
+-- of a drop and of an indication the words were noted.
 abbrev pub TellsWords : Deed → FrameShape → List ℕ → List ℕ → Type 0
 TellsWords (SendsFrame lane) shape octets = TellsAsFrame Short shape octets
 TellsWords (SendsPdu lane) shape octets = TellsAsPdu Short octets

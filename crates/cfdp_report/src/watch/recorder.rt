@@ -220,8 +220,8 @@ impl<'a> SeenFile<'a> {
         }
     }
 
-    /// Tells that it can't be written, and why. Nothing more is. What a failed write left in the buffer is
-    /// let go: a `BufWriter` would write it once more.
+    /// Tells that it can't be written, and why. Nothing more is. What a failed write left in the
+    /// buffer is let go: a `BufWriter` would write it once more.
     fn fails(&mut self, kind: ErrorKind) {
         if let Some(out) = self.out.take() {
             let _ = out.into_parts();

@@ -90,8 +90,8 @@ TellsTold request (AsPdu octets) text = TellsAsPdu request.form octets text
 TellsTold request (AsFrame octets) text = TellsAsFrame request.form request.shape octets text
 TellsTold request (Says remark) text = text ≡ remark_text remark
 
--- ---- what a frame carries: first how many are missing, then that it has idle data or what is out of
--- order in it, and then each packet that ends in it, with its PDU
+-- ---- what a frame carries: first how many are missing, then that it has idle data or what is out
+-- of order in it, and then each packet that ends in it, with its PDU
 abbrev pub missing_remark : ℕ → Option Remark
 missing_remark frames = if frames == 0 then None else Some (Missing frames)
 

@@ -118,8 +118,8 @@ frames_of fate words = option_and_then (λ w. option_and_then (λ from. which_of
 abbrev pub damage_of : List ℕ → List ℕ → Option Damage
 damage_of at octet = both (λ n o. record { at = n; octet = o }) (number_of at) (octet_of octet)
 
--- what of which frame, where this word, which is the name of a lane or of none, stands there: of the
--- oldest one in the lane, or of the one sent first
+-- what of which frame, where this word, which is the name of a lane or of none, stands there: of
+-- the oldest one in the lane, or of the one sent first
 abbrev pub damage_by : Side → List ℕ → Option Lane → List (List ℕ) → Option Command
 damage_by from word (Some lane) words =
     option_and_then (λ w. option_map (DamageOne from (Some lane)) (damage_of w.0 w.1))

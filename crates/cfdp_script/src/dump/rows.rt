@@ -4,7 +4,7 @@ ghost use Rattle.std.specs.Option.{option_map};
 ghost use Rattle.cfdp_script.specs.Dump.Rows as spelled;
 ghost use Rattle.cfdp_script.specs.Dump.Stepping.{row_text};
 
-use crate::dump::{parse_digits, parse_hex};
+use crate::dump::parse_digits;
 use cfd_bits::read_uint;
 use std::alloc::{AllocError, Global};
 
