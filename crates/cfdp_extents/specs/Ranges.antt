@@ -7,6 +7,11 @@ abbrev pub turned : List (ℕ × ℕ) → List (ℕ × ℕ)
 turned [] = []
 turned (e ∷ es) = (e.1, e.0) ∷ turned es
 
+-- those entries, where any are looked at
+abbrev pub others_of : Option (List (ℕ × ℕ)) → List (ℕ × ℕ)
+others_of None = []
+others_of (Some es) = turned es
+
 -- ranges, and the greatest one behind them, where there is one
 abbrev pub with_last : List (ℕ × ℕ) → Option (ℕ × ℕ) → List (ℕ × ℕ)
 with_last rs None = rs

@@ -2,7 +2,7 @@
 ghost use Rattle.std.specs.Prelude.{◌≡◌, ℕ, List, [], ◌∷◌, IfNone, IfSome};
 ghost use Rattle.cfdp_extents.specs.Offsets.{AreApart};
 ghost use Rattle.std.specs.Iterator.{YieldsFirst, item_count};
-ghost use Rattle.cfdp_extents.specs.Ranges.{turned, with_last, behind, gaps_between};
+ghost use Rattle.cfdp_extents.specs.Ranges.{turned, others_of, with_last, behind, gaps_between};
 
 use std::collections::BTreeMap;
 use std::collections::btree_map::Range;
@@ -14,8 +14,9 @@ use std::ops::Bound;
 /// Each is its start and its end, the end not in it. Going over them takes no memory.
 #[derive(Drop)]
 pub struct Gaps<'a> {
-    // Behind `start`, ascending, from each range's end to its start.
-    ranges: Range<'a, u64, u64>,
+    // Behind `start`, ascending, from each range's end to its start. `None` where the set is one range
+    // at most, as mostly: then no place in the map is looked for.
+    ranges: Option<Range<'a, u64, u64>>,
     // Behind these.
     last: Option<(u64, u64)>,
     start: u64,
@@ -25,7 +26,7 @@ pub struct Gaps<'a> {
 impl<'a> Model for Gaps<'a> {
     ghost Value = { List (ℕ × ℕ) };
 
-    ghost view = { λ g. gaps_between g.start g.limit (with_last (turned g.ranges) g.last) };
+    ghost view = { λ g. gaps_between g.start g.limit (with_last (others_of g.ranges) g.last) };
 }
 
 /// The range, if it ends behind an offset.
@@ -39,12 +40,18 @@ fn ending_behind(range: Option<(u64, u64)>, offset: u64) -> Option<(u64, u64)>
 }
 
 /// Takes the next range, which is the last one where no others are left.
-fn next_range(ranges: &mut Range<'_, u64, u64>, last: &mut Option<(u64, u64)>) -> Option<(u64, u64)>
-    ensures some { IfSome result (λ r. with_last (turned ranges.old) last.old
-        ≡ r ∷ with_last (turned ranges.new) last.new) }
-    ensures none { IfNone result (with_last (turned ranges.old) last.old ≡ []) }
+fn next_range(
+    ranges: &mut Option<Range<'_, u64, u64>>,
+    last: &mut Option<(u64, u64)>,
+) -> Option<(u64, u64)>
+    ensures some { IfSome result (λ r. with_last (others_of ranges.old) last.old
+        ≡ r ∷ with_last (others_of ranges.new) last.new) }
+    ensures none { IfNone result (with_last (others_of ranges.old) last.old ≡ []) }
 {
-    match ranges.next() {
+    let Some(others) = ranges else {
+        return last.take();
+    };
+    match others.next() {
         Some((end, start)) => Some((*start, *end)),
         None => last.take(),
     }
@@ -62,8 +69,13 @@ impl<'a> Gaps<'a> {
         ensures { result ≡ gaps_between start limit
             (behind start (with_last (turned ranges.now.entries) last)) }
     {
+        let others = if ranges.is_empty() {
+            None
+        } else {
+            Some(ranges.range((Bound::Excluded(start), Bound::Unbounded)))
+        };
         Gaps {
-            ranges: ranges.range((Bound::Excluded(start), Bound::Unbounded)),
+            ranges: others,
             last: ending_behind(last, start),
             start,
             limit,
