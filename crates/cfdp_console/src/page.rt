@@ -4,7 +4,7 @@
 /// checksums (SHA-256 of what stands between their tags), and it asks nobody but the console.
 pub const POLICY: &str = "default-src 'none'; connect-src 'self'; img-src data:; \
     style-src 'sha256-ciEet665SB6eacwrvNPd1VaughUFKYuos5DUVB1DfVI='; \
-    script-src 'sha256-RnPRxOWhVH59B1YuQ4sjp7oC7gjAefDh7d4Y1azdASY='; \
+    script-src 'sha256-NoP1e6TKaq3SVmbTXHazetylkepKUAcgseZRPcocltM='; \
     base-uri 'none'; form-action 'none'; frame-ancestors 'none'";
 
 /// The page, in HTML.
@@ -318,7 +318,7 @@ async function takes_token() {
   const answer = await fetch("/token", { cache: "no-store" });
   if (!answer.ok) return false;
   const told = (await answer.json()).token;
-  isAnew = token !== null && token !== told;
+  if (token !== null && token !== told) isAnew = true;
   token = told;
   return true;
 }

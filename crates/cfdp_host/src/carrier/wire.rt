@@ -104,7 +104,8 @@ impl Conversion {
     ///
     /// # Errors
     ///
-    /// `WireFault` where there was no memory for one of them: it is lost.
+    /// `WireFault` where there was no memory for one of them: it is lost, and so are those behind it
+    /// in the frame, and the one that the frame began.
     fn take_frame(&mut self, frame: &[u8]) -> Result<(), WireFault>
         ensures { TakesFrame frame.now self.old self.new }
     {
