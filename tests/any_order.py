@@ -126,7 +126,9 @@ def lives_of(program, script, report):
     cuts = {"1": [0], "2": [0]}
     for place, line in enumerate(lines):
         if line.startswith("restart "):
-            before = told_in(report_of(program, "\n".join([*lines[:place], "repeat 1 9", ""])))
+            # What keeps no order is told in this form; so many frames never arrived.
+            before = "\n".join([*lines[:place], "repeat 1 1000000", ""])
+            before = told_in(report_of(program, before))
             for side in "12":
                 if now[side][: len(before[side])] != before[side]:
                     raise ValueError(f"what station {side} told before line {place + 1} is gone")
@@ -169,8 +171,8 @@ def trials(program):
     for seed in range(SCRIPTS):
         try:
             wrong, count = faults_of(program, script_of(seed))
-        except (ValueError, subprocess.TimeoutExpired) as error:
-            wrong, count = [str(error)], 0
+        except Exception as error:  # pylint: disable=broad-except
+            wrong, count = [f"it broke off: {error!r}"], 0
         complete += count
         yield f"script {seed} over a link that keeps no order", wrong
     enough = [] if complete > SCRIPTS else [f"only {complete} files were complete"]

@@ -26,6 +26,9 @@ PATIENT = {"eof_time": 1, "nak_time": 1, "finished_time": 1}
 PATIENT |= {"eof_limit": 255, "nak_limit": 255, "finished_limit": 255}
 
 
+# How often a station may ask for memory in a transfer of ten times as many frames.
+MOST_GROWTHS = 420
+
 # What a station with one put writes, and what it tells on standard error, where there is no memory
 # for the start, the put, a look at its file, or a read of it.
 MEMORY_ENDS = {
@@ -302,21 +305,22 @@ def memory_mistakes(program):
         yield f"of {growth} growths of memory were {sorted(refused)}, and not {list(MEMORY_ENDS)}"
 
 
-def steady_mistakes(program):
+def steady_mistakes(program, words):
     """What is wrong with the memory of a long transfer: no frame takes any, whether it leaves or
-    comes. So of many more frames than that, none finds the thousandth growth, which is refused."""
-    octets, settings = random.Random(47).randbytes(200_000), {"segment": 64}
+    comes. Of 4,200 frames fewer than a tenth may ask for memory: a start needs some hundreds, and a
+    list that grows to twice its length few."""
+    octets, settings = random.Random(47).randbytes(200_000), {"segment": 64, "zone": 64}
     with tempfile.TemporaryDirectory(dir=program.room) as folder:
         ports, started = dict(zip((1, 2), free_ports(2))), []
         put(folder, 1, "a", octets)
-        env = {"PATH": "/usr/bin:/bin", **program.faulty("memory=1000,mark")}
+        env = {"PATH": "/usr/bin:/bin", **program.faulty(f"memory={MOST_GROWTHS},mark")}
         sends = ["--outbox", "from", "--put", "a", "b", "--idle", "2"]
-        for own, words in ((2, ["--inbox", "to", "--idle", "3"]), (1, sends)):
-            words += ["--rate", "2000"]
-            started.append(Station(program, folder, own, 3 - own, ports, words, settings, env=env))
+        for own, those in ((2, ["--inbox", "to", "--idle", "3"]), (1, sends)):
+            those += ["--rate", "2000", *words]
+            started.append(Station(program, folder, own, 3 - own, ports, those, settings, env=env))
             started[-1].comes_up()
         yield from (f"{it.own}: {ran}" for it in started if (ran := it.ended())[0])
-        yield from (f"{own} asked for memory a thousand times"
+        yield from (f"{own} asked for memory {MOST_GROWTHS} times"
                     for own in (1, 2) if os.path.exists(f"{folder}/{own}/refused"))
         if files_at(folder, 2) != {"b": octets}:
             yield "the file didn't come"
@@ -445,6 +449,8 @@ def all_mistakes(program):
     yield "a name that no folder takes", refused_mistakes(program, inbox, "a/b", no_name)
     yield "a report and a line on one terminal", terminal_mistakes(program)
     yield "a put that finds no memory", memory_mistakes(program)
-    yield "a long transfer that takes no memory", steady_mistakes(program)
+    for words in [], ["--carrier", "pdus"]:
+        what = "a long transfer that takes no memory"
+        yield " ".join([what, *words]), steady_mistakes(program, words)
     yield "a station killed while one looks on", killed_watched_mistakes(program)
     yield "the memory of one who looks on", watched_memory_mistakes(program)
