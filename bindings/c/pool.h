@@ -14,7 +14,7 @@ extern "C" {
 #define CFDP_POOL_FOR(octets) ((octets) + (octets) / 2)
 
 /* A station, by the capacity of its configuration, with what it has to tell. */
-#define CFDP_POOL_STATION(capacity) ((size_t)4 * (capacity) + 160 * 1024)
+#define CFDP_POOL_STATION(capacity) ((size_t)5 * (capacity) + 160 * 1024)
 
 /* So many records of transactions at once, with their names; one that is over is one until it is
  * forgotten. */
