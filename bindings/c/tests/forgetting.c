@@ -209,16 +209,22 @@ static unsigned pass(cfdp_station *from, cfdp_station *to)
     return frames;
 }
 
-/* How many transactions a station tells that went well. All it told is let go. */
-static unsigned ended_well(cfdp_station *station)
+/* How many transactions a station tells that ended so. All it told is let go. */
+static unsigned ended_with(cfdp_station *station, uint8_t condition, uint8_t status)
 {
     cfdp_indication told;
     uint8_t names[CFDP_NAMES];
     unsigned count = 0;
 
     while (cfdp_next_indication(station, &told, names, sizeof names) == CFDP_OK)
-        count += told.kind == CFDP_FINISHED && told.condition == 0 && told.status == 2;
+        count += told.kind == CFDP_FINISHED && told.condition == condition && told.status == status;
     return count;
+}
+
+/* Those that went well: the file is retained. */
+static unsigned ended_well(cfdp_station *station)
+{
+    return ended_with(station, 0, 2);
 }
 
 static uint8_t was_forgotten(cfdp_station *station, cfdp_id id)
@@ -469,29 +475,25 @@ static uint64_t lacked_memory(cfdp_station *station)
     return counts.frames.no_memory;
 }
 
-/* The same, but the first frames find no memory: they are dropped, and all is sent again. */
-static void receives_late(cfdp_station *two, uint64_t number)
+/* The same, but there is no memory for the file: no frame needs any, so its data come to the inbox,
+ * which can't take them. Both stations are told so, and nothing is published. */
+static void is_rejected(cfdp_station *two, uint64_t number)
 {
-    const uint64_t before = lacked_memory(two);
     cfdp_station one;
     cfdp_id id;
-    uint64_t deadline = 0;
-    unsigned frames;
 
     open_first(&one, number);
     IS(put(&one, &id), CFDP_OK);
     IS(fill(&one), CFDP_NOTHING);
     most = live;
-    frames = hand_over(&one, two);
-    IS(pass(two, &one), 0);
+    IS(hand_over(&one, two) != 0, 1);
+    IS(lacked_memory(two), 0);
     most = SIZE_MAX;
-    IS(frames != 0, 1);
-    IS(lacked_memory(two), before + frames);
-    IS(cfdp_next_timeout(&one, &deadline), CFDP_OK);
-    IS(cfdp_tick(&one, deadline), CFDP_OK);
-    exchange(&one, two);
-    exchange(&one, two);
-    ends_well(&one, two, number);
+    exchange(two, &one);
+    IS(ended_with(&one, 4, 1), 1);
+    IS(ended_with(two, 4, 1), 1);
+    IS(only_file(two), number - 2);
+    cfdp_close(&one);
 }
 
 /* Of all numbers each second one was forgotten, up to a last one. */
@@ -540,7 +542,7 @@ static void skips_numbers(unsigned rounds)
     IS(answer, CFDP_NO_MEMORY);
     IS(count > rounds, 1);
     is_refused(&two, id, limit);
-    receives_late(&two, id.number + 2);
+    is_rejected(&two, id.number + 2);
     is_refused(&two, id, limit);
     IS(cfdp_forget(&two, &id), CFDP_OK);
     forgot_up_to(&two, id.number);
