@@ -50,43 +50,48 @@ drawn_of_file = (refl, refl)
 abbrev bare : ℕ → FrameShape
 bare zone = record { zone = zone; fields = no_fields }
 
-plain_pdus : (refusals (line (codes "dump" ∷ codes "pdus" ∷ [])) ≡ []) × (asked_of (line (codes "dump" ∷ codes "pdus" ∷ [])) ≡ Some (dump (Pdus, bare 256, Short, false) None))
+plain_pdus : (refusals (line (codes "dump" ∷ codes "pdus" ∷ [])) ≡ []) × (asked_of (line (codes "dump" ∷ codes "pdus" ∷ [])) ≡ Some (dump (Pdus, bare 256, Short, false, false) None))
 unfolding clap_on_literals
 plain_pdus = (refl, refl)
 
 plain_frames : (refusals (line (codes "dump" ∷ codes "frames" ∷ [])) ≡ [])
-    × (asked_of (line (codes "dump" ∷ codes "frames" ∷ [])) ≡ Some (dump (Frames, bare 256, Short, false) None))
+    × (asked_of (line (codes "dump" ∷ codes "frames" ∷ [])) ≡ Some (dump (Frames, bare 256, Short, false, false) None))
 unfolding clap_on_literals
 plain_frames = (refl, refl)
 
 zoned_frames : (refusals (line (codes "dump" ∷ codes "frames" ∷ codes "--zone" ∷ codes "300" ∷ [])) ≡ [])
-    × (asked_of (line (codes "dump" ∷ codes "frames" ∷ codes "--zone" ∷ codes "300" ∷ [])) ≡ Some (dump (Frames, bare 300, Short, false) None))
+    × (asked_of (line (codes "dump" ∷ codes "frames" ∷ codes "--zone" ∷ codes "300" ∷ [])) ≡ Some (dump (Frames, bare 300, Short, false, false) None))
 unfolding clap_on_literals
 zoned_frames = (refl, refl)
 
 filled_frames : (refusals (line (codes "dump" ∷ codes "frames" ∷ codes "--error-control" ∷ codes "--insert-zone" ∷ codes "8" ∷ [])) ≡ [])
     × (asked_of (line (codes "dump" ∷ codes "frames" ∷ codes "--error-control" ∷ codes "--insert-zone" ∷ codes "8" ∷ []))
-    ≡ Some (dump (Frames, record { zone = 256; fields = record { insert_zone = 8; control_field = false; error_control = true } }, Short, false) None))
+    ≡ Some (dump (Frames, record { zone = 256; fields = record { insert_zone = 8; control_field = false; error_control = true } }, Short, false, false) None))
 unfolding clap_on_literals
 filled_frames = (refl, refl)
 
 long_pdus : (refusals (line (codes "dump" ∷ codes "--long" ∷ codes "pdus" ∷ [])) ≡ [])
-    × (asked_of (line (codes "dump" ∷ codes "--long" ∷ codes "pdus" ∷ [])) ≡ Some (dump (Pdus, bare 256, Long, false) None))
+    × (asked_of (line (codes "dump" ∷ codes "--long" ∷ codes "pdus" ∷ [])) ≡ Some (dump (Pdus, bare 256, Long, false, false) None))
 unfolding clap_on_literals
 long_pdus = (refl, refl)
 
 fields_of_frames : (refusals (line (codes "dump" ∷ codes "--fields" ∷ codes "frames" ∷ codes "--long" ∷ [])) ≡ [])
-    × (asked_of (line (codes "dump" ∷ codes "--fields" ∷ codes "frames" ∷ codes "--long" ∷ [])) ≡ Some (dump (Frames, bare 256, Fields, false) None))
+    × (asked_of (line (codes "dump" ∷ codes "--fields" ∷ codes "frames" ∷ codes "--long" ∷ [])) ≡ Some (dump (Frames, bare 256, Fields, false, false) None))
 unfolding clap_on_literals
 fields_of_frames = (refl, refl)
 
 deep_frames : (refusals (line (codes "dump" ∷ codes "frames" ∷ codes "--deep" ∷ codes "--long" ∷ [])) ≡ [])
-    × (asked_of (line (codes "dump" ∷ codes "frames" ∷ codes "--deep" ∷ codes "--long" ∷ [])) ≡ Some (dump (Frames, bare 256, Long, true) None))
+    × (asked_of (line (codes "dump" ∷ codes "frames" ∷ codes "--deep" ∷ codes "--long" ∷ [])) ≡ Some (dump (Frames, bare 256, Long, true, false) None))
 unfolding clap_on_literals
 deep_frames = (refl, refl)
 
+pdus_of_text : (refusals (line (codes "dump" ∷ codes "pdus" ∷ codes "--text" ∷ [])) ≡ [])
+    × (asked_of (line (codes "dump" ∷ codes "pdus" ∷ codes "--text" ∷ [])) ≡ Some (dump (Pdus, bare 256, Short, false, true) None))
+unfolding clap_on_literals
+pdus_of_text = (refl, refl)
+
 pdus_of_file : (refusals (line (codes "dump" ∷ codes "pdus" ∷ codes "a" ∷ [])) ≡ [])
-    × (asked_of (line (codes "dump" ∷ codes "pdus" ∷ codes "a" ∷ [])) ≡ Some (dump (Pdus, bare 256, Short, false) (Some (codes "a"))))
+    × (asked_of (line (codes "dump" ∷ codes "pdus" ∷ codes "a" ∷ [])) ≡ Some (dump (Pdus, bare 256, Short, false, false) (Some (codes "a"))))
 unfolding clap_on_literals
 pdus_of_file = (refl, refl)
 
