@@ -1,5 +1,5 @@
 //! A station that serves its operator over its stores, from its first turn to its last.
-use crate::looping::folders::folder_outbox;
+use crate::looping::folders::{folder_outbox, frame_losses};
 use crate::looping::telling::{LoopLookout, TellingInbox, TellingNoInbox, TellingOutbox};
 use crate::station::exchange::Exchange;
 use crate::station::notices::Notices;
@@ -162,7 +162,7 @@ fn wired<'a, O: SeekingOutbox, I: Inbox, S: Spool, L: Lookout>(
         frame_count,
         side,
     };
-    let wire = LossyWire::new(socket, request.numbers.drop_every);
+    let wire = LossyWire::new(socket, frame_losses(request.numbers.losses));
     let (own, tally) = (options.config, &exchange.dropped);
     match CarrierWire::new(rt.alloc(), carrier, own, wire, tally) {
         Ok(wire) => {
