@@ -104,7 +104,7 @@ pdus_of_file = (refl, refl)
 
 plain_loop : (refusals (line (codes "loop" ∷ codes "a" ∷ codes "b" ∷ codes "x" ∷ codes "y" ∷ [])) ≡ [])
     × (asked_of (line (codes "loop" ∷ codes "a" ∷ codes "b" ∷ codes "x" ∷ codes "y" ∷ []))
-    ≡ Some (loop (record { from = codes "a"; to = codes "b"; source = codes "x"; destination = codes "y"; turns = 1000000000000; losses = no_losses; sets = []; shown = nothing })))
+    ≡ Some (loop (record { from = codes "a"; to = codes "b"; source = codes "x"; destination = codes "y"; turns = 10000; losses = no_losses; sets = []; shown = nothing })))
 unfolding clap_on_literals
 plain_loop = (refl, refl)
 
@@ -121,7 +121,7 @@ watched_loop : (refusals (line (codes "loop" ∷ codes "--trace" ∷ codes "a" �
       to = codes "b";
       source = codes "x";
       destination = codes "y";
-      turns = 1000000000000;
+      turns = 10000;
       losses = no_losses;
       sets = [];
       shown = record { explain = false; trace = true; pcap = Some (codes "c"); chart = Some (codes "d") };
@@ -136,7 +136,7 @@ set_loop : (refusals (line (codes "loop" ∷ codes "a" ∷ codes "--set" ∷ cod
       to = codes "b";
       source = codes "x";
       destination = codes "y";
-      turns = 1000000000000;
+      turns = 10000;
       losses = no_losses;
       sets = codes "zone" ∷ codes "64" ∷ codes "crc" ∷ codes "1" ∷ [];
       shown = nothing;
@@ -166,6 +166,10 @@ few_words = refl
 no_turn : refusals (line (codes "loop" ∷ codes "a" ∷ codes "b" ∷ codes "x" ∷ codes "y" ∷ codes "--turns" ∷ codes "0" ∷ [])) ≡ ValueValidation ∷ []
 unfolding clap_on_literals
 no_turn = refl
+
+many_turns : refusals (line (codes "loop" ∷ codes "a" ∷ codes "b" ∷ codes "x" ∷ codes "y" ∷ codes "--turns" ∷ codes "1000001" ∷ [])) ≡ ValueValidation ∷ []
+unfolding clap_on_literals
+many_turns = refl
 
 more_than_all : refusals (line (codes "loop" ∷ codes "a" ∷ codes "b" ∷ codes "x" ∷ codes "y" ∷ codes "--loss" ∷ codes "101" ∷ [])) ≡ ValueValidation ∷ []
 unfolding clap_on_literals

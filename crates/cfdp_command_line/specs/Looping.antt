@@ -35,9 +35,9 @@ pairs_rule name = record (new_rule name) {
   value_names = 1;
 }
 
--- the most turns: 1 to 1,000,000,000,000, and the most of these where none are given
+-- the most turns: 1 to 1,000,000, and 10,000 where none are given
 abbrev pub turns_rule : Rule
-turns_rule = number_rule (codes "turns") 1 1000000000000 (codes "1000000000000")
+turns_rule = number_rule (codes "turns") 1 1000000 (codes "10000")
 
 -- a number up to 1,000,000, and what stands for it where none is said
 abbrev pub tuned_rule : Text → Text → Rule
@@ -131,7 +131,7 @@ loop_of rows =
       losses = losses;
       sets = words_for (codes "set") rows;
       shown = shown_of rows;
-    }) (losses_of rows)) (number_in (codes "turns") 1 1000000000000 rows))
+    }) (losses_of rows)) (number_in (codes "turns") 1 1000000 rows))
     (first_of (codes "destination") rows)) (first_of (codes "source") rows))
     (first_of (codes "to") rows)) (first_of (codes "from") rows)
 

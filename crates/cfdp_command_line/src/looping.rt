@@ -32,7 +32,7 @@ pub struct LoopRequest {
     pub source: String,
     /// Its name in the second one.
     pub destination: String,
-    /// The most turns, 1 to 1,000,000,000,000: they carry more than the longest file.
+    /// The most turns, 1 to 1,000,000.
     pub turns: u64,
     /// Which frames of both stations together are lost.
     pub losses: LossRequest,
@@ -80,7 +80,7 @@ a line on standard error says so, and nothing comes. DST appears whole or not at
 all, in the place of a file of that name.
 In a turn both stations are told its number as the time, send, and take what
 came: 16 PDUs of each at most. The run ends when the transfer is over at both,
-or after N turns.
+or after N turns; if it isn't over then, a line on standard error says so.
 With --loss P each frame is lost with a probability of P percent, and has to be
 asked for: the same frames with the same --seed. With --drop K each Kth frame is
 lost, counted over both stations in the order in which the frames leave. Both
@@ -88,9 +88,9 @@ options may be given.
 With --set KEY N, as often as it is said, both are set up as by 'set KEY N' in a
 script: 'sim --help' has the keys and their defaults, of which nak_limit is 255
 here. So frames of both directions have the fields that insert_zone,
-control_field and error_control set. Times are numbers of turns. A transfer that
-is suspended stays so: say --turns where on_ack_limit, on_nak_limit or
-on_inactivity is 1 or 2.
+control_field and error_control set. Times are numbers of turns. Where
+on_ack_limit, on_nak_limit or on_inactivity is 1 or 2, a transfer may stay open
+until the turns are used up.
 
 Report: as that of sim, without the files.
 --trace, --chart FILE, --pcap FILE and --explain show as those of sim what
@@ -168,9 +168,9 @@ fn turns_argument<'a>(alloc: Global) -> Arg<'a>
     Arg::new(alloc, "turns")
         .long("turns")
         .value_name("N")
-        .help("The most turns, 1 to 1000000000000")
-        .value_parser(value_parser!(u64).range(1..=1000000000000))
-        .default_value("1000000000000")
+        .help("The most turns, 1 to 1000000")
+        .value_parser(value_parser!(u64).range(1..=1000000))
+        .default_value("10000")
 }
 
 /// A number up to 1,000,000, and the one that stands for it where none is said.
@@ -218,7 +218,7 @@ fn loop_words<'a>(arguments: &ArgMatches<'a>) -> Option<LoopWords<'a>>
         to: word_of(arguments, "to")?,
         source: word_of(arguments, "source")?,
         destination: word_of(arguments, "destination")?,
-        turns: number_in(arguments, "turns", 1, 1_000_000_000_000)?,
+        turns: number_in(arguments, "turns", 1, 1_000_000)?,
         losses: losses_of(arguments)?,
     })
 }

@@ -29,6 +29,9 @@ const MISTAKE: u8 = 2;
 /// The exit status where a folder, a file, a socket or memory failed.
 const DEVICE: u8 = 3;
 
+/// The most turns that may be asked for, by the grammar of `loop`.
+const MOST_TURNS: u64 = 1_000_000;
+
 /// Sends the file that is asked for, writes the report to standard output, and says on standard
 /// error what went wrong. Answers the exit status.
 ///
@@ -282,8 +285,11 @@ fn sent_over<O: Outbox, I: Inbox, W: Wire>(
     };
     match Onlooker::new(screen, options.config, &request.shown) {
         Ok(onlooker) => {
-            let mut lookout = LoopLookout { onlooker, progress };
+            let mut lookout = LoopLookout::new(onlooker, progress);
             let exit = reported(rt, options, ends, &mut lookout);
+            if let Some(turns) = lookout.used_up {
+                note_turns(rt, turns);
+            }
             Ran {
                 exit,
                 seen: lookout.onlooker.into_summary(),
@@ -291,6 +297,21 @@ fn sent_over<O: Outbox, I: Inbox, W: Wire>(
         }
         Err(AllocError) => Ran::unseen(Exit::Device(Fault::NoMemoryAtStart)),
     }
+}
+
+/// Says on standard error that so many turns were taken, and the transfer was not over.
+fn note_turns(rt: &HostRuntime, turns: u64) {
+    let noun = if turns == 1 { "turn" } else { "turns" };
+    let _ = if turns < MOST_TURNS {
+        eprintln!(rt;
+            "note: the transfer was not over after {turns} {noun}; --turns allows more, up to \
+             {MOST_TURNS}"
+        )
+    } else {
+        eprintln!(rt;
+            "note: the transfer was not over after {turns} {noun}, the most that --turns allows"
+        )
+    };
 }
 
 /// Sends the file, and writes the report to standard output. Its buffer is there before the first

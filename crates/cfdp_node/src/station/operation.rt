@@ -123,7 +123,7 @@ fn ran_over<'a, O: SeekingOutbox, I: Inbox, S: Spool>(
     match Onlooker::new(screen, config, &request.shown) {
         Ok(onlooker) => {
             let own = WorldConfig::station(config, side_of(request)).get();
-            let lookout = LoopLookout { onlooker, progress };
+            let lookout = LoopLookout::new(onlooker, progress);
             let mut notices = Notices::new(rt, lookout, exchange, own, request.to.as_str());
             let exit = wired(context, parts, stores, spool, &mut notices);
             Ran {
