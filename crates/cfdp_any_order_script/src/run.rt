@@ -79,8 +79,8 @@ fn make_report_of(
     requires room { length steps.now ≤ vec_capacity answered.old }
     ensures ran { (config : WorldConfig) (files : List FileLine) → IsFirst config files play.entry →
         IfSome result (λ made. RunsAll config files steps.now) }
-    ensures ends { (config : WorldConfig) (files : List FileLine) → IsFirst config files play.entry →
-        IfSome result (λ made. (old new : Option (List ℕ)) → Appends old new made.text.items →
+    ensures ends { (config : WorldConfig) (files : List FileLine) → IsFirst config files play.entry
+        → IfSome result (λ made. (old new : Option (List ℕ)) → Appends old new made.text.items →
         EndsRun made.exit config files steps.now old new) }
 {
     let made = make_report_at(alloc, &mut play, steps, answered);

@@ -13,9 +13,9 @@ ghost use Rattle.cfdp_command_line.specs.Request.{dump_of, kind_of_word, kind_ru
 ghost use Rattle.cfdp_command_line.specs.Request.{asked_lines, address_app, address_rule, ask_app};
 ghost use Rattle.cfdp_command_line.specs.Request.{ask_of, lines_of, program_app, refusals, sim_app};
 ghost use Rattle.cfdp_command_line.specs.Request.{sim_of, words_rule, fields_of, form_of};
-ghost use Rattle.cfdp_command_line.specs.Request.{frames_app, insert_rule, lines_app, read_app, shape_of};
+ghost use Rattle.cfdp_command_line.specs.Request.{frames_app, insert_rule, lines_app, shape_of};
 ghost use Rattle.cfdp_command_line.specs.Request.{told_app, top_app, zone_of_word, zone_rule};
-ghost use Rattle.cfdp_command_line.specs.Request.{listen_rule, play_app, play_of};
+ghost use Rattle.cfdp_command_line.specs.Request.{listen_rule, play_app, play_of, read_app};
 ghost use Rattle.cfdp_command_line.specs.Request as asks;
 ghost use Rattle.cfdp_report.specs.Dump.Shape.{IsShape};
 ghost use Rattle.cfdp_command_line.specs.Looping.{loop_app, loop_of};

@@ -43,9 +43,7 @@ pub struct LoopRequest {
 }
 
 impl LoopRequest {
-    /// The configuration of both stations: that of a script with these settings, but that NAKs are
-    /// sent again up to 255 times where nothing sets that. Losses that come in step with what is
-    /// sent again pass only after some.
+    /// The configuration of both stations: that of a script with these settings.
     ///
     /// # Errors
     ///
@@ -86,11 +84,10 @@ asked for: the same frames with the same --seed. With --drop K each Kth frame is
 lost, counted over both stations in the order in which the frames leave. Both
 options may be given.
 With --set KEY N, as often as it is said, both are set up as by 'set KEY N' in a
-script: 'sim --help' has the keys and their defaults, of which nak_limit is 255
-here. So frames of both directions have the fields that insert_zone,
-control_field and error_control set. Times are numbers of turns. Where
-on_ack_limit, on_nak_limit or on_inactivity is 1 or 2, a transfer may stay open
-until the turns are used up.
+script: 'sim --help' has the keys and their defaults. So frames of both
+directions have the fields that insert_zone, control_field and error_control
+set. Times are numbers of turns. Where on_ack_limit, on_nak_limit or
+on_inactivity is 1 or 2, a transfer may stay open until the turns are used up.
 
 Report: as that of sim, without the files.
 --trace, --chart FILE, --pcap FILE and --explain show as those of sim what

@@ -203,7 +203,7 @@ fn spool<'a>(
         let _ = eprintln!(rt; "error: a station sends from one folder: --spool or --outbox");
         return Err(MISTAKE);
     }
-    let _ = folder(rt, path.as_str())?;
+    folder(rt, path.as_str())?;
     let teller = StandardErrorTeller(rt);
     let spool = FolderSpool::open(rt, path.as_str(), request.flags.remove_sent, teller)?;
     Ok(Some(spool))
@@ -416,7 +416,7 @@ fn held_inbox(rt: &HostRuntime, request: &StationRequest) -> Result<Option<HeldF
     }
     match &request.inbox {
         Some(path) => {
-            let _ = folder(rt, path.as_str())?;
+            folder(rt, path.as_str())?;
             let held = HeldFolder::take(rt, path.as_str())?;
             try_folder(rt, path.as_str(), !request.flags.no_overwrite)?;
             Ok(Some(held))
@@ -439,7 +439,7 @@ fn check_outbox(rt: &HostRuntime, request: &StationRequest) -> Result<(), u8> {
         let _ = eprintln!(rt; "error: --put wants a folder of files, --outbox FOLDER");
         return Err(MISTAKE);
     };
-    let _ = folder(rt, path)?;
+    folder(rt, path)?;
     check_files(rt, path, request.puts.as_slice())
 }
 

@@ -12,30 +12,30 @@ pub record LossState : Type 0 where
   pub every : ℕ
   pub left : ℕ
   pub percent : ℕ
-  pub dice : ℕ
+  pub generator : ℕ
 
 -- how many frames it is to the next one that is lost, once one more has left
 abbrev pub next_left : (every left : ℕ) → ℕ
 next_left every left = if left == 1 then every else left - 1
 
 -- the stream of the random generator: that of the reference
-abbrev pub dice_stream : ℕ
-dice_stream = 721347520444481703
+abbrev pub generator_stream : ℕ
+generator_stream = 721347520444481703
 
 -- the random generator at this state: PCG32
-abbrev pub dice_at : ℕ → Lcg
-dice_at state = record { state = state; increment = increment_of 64 dice_stream }
+abbrev pub generator_at : ℕ → Lcg
+generator_at state = record { state = state; increment = increment_of 64 generator_stream }
 
 -- where it begins with a seed
-abbrev pub dice_of_seed : ℕ → ℕ
-dice_of_seed seed = (started 64 multiplier_64 seed (increment_of 64 dice_stream)).state
+abbrev pub generator_of_seed : ℕ → ℕ
+generator_of_seed seed = (started 64 multiplier_64 seed (increment_of 64 generator_stream)).state
 
 -- the number below 2 ^ 32 that it gives, and where it is then
-abbrev pub thrown : ℕ → ℕ
-thrown dice = (pcg32 (dice_at dice)).0
+abbrev pub drawn : ℕ → ℕ
+drawn generator = (pcg32 (generator_at generator)).0
 
-abbrev pub dice_after : ℕ → ℕ
-dice_after dice = (pcg32 (dice_at dice)).1.state
+abbrev pub generator_after : ℕ → ℕ
+generator_after generator = (pcg32 (generator_at generator)).1.state
 
 -- whether a number is among the first so many hundredths of those below 2 ^ 32
 abbrev pub is_in_share : (percent number : ℕ) → Bool
@@ -44,9 +44,9 @@ is_in_share percent number = nat_lt (number * 100) (percent * 2 ^ 32)
 -- The next frame is lost where it is the so-manieth one, or where the next random number is in the
 -- share of those that are lost. Both go on by one, whichever takes it.
 pub record LosesNext (old : LossState) (lost : Bool) (new : LossState) : Type 0 where
-  pub says : lost ≡ (old.left == 1 || is_in_share old.percent (thrown old.dice))
+  pub says : lost ≡ (old.left == 1 || is_in_share old.percent (drawn old.generator))
   pub left : new.left ≡ next_left old.every old.left
-  pub dice : new.dice ≡ dice_after old.dice
+  pub generator : new.generator ≡ generator_after old.generator
   pub every : new.every ≡ old.every
   pub percent : new.percent ≡ old.percent
 
@@ -74,8 +74,8 @@ abbrev pub Passes : {W : Type 0} → (W → WireCall → W → Type 0) → (lost
 Passes Steps true call old new = IsRefused call × (new ≡ old)
 Passes Steps false call old new = Steps old call new
 
--- Of the frames that are to be sent those are lost of which it is said so; all other calls are those
--- of the wire behind it.
+-- Of the frames that are to be sent those are lost of which it is said so; all other calls are
+-- those of the wire behind it.
 pub record LosesSome {W L : Type 0} (Steps : W → WireCall → W → Type 0)
     (Loses : L → Bool → L → Type 0) (old : LossyState W L) (call : WireCall) (new : LossyState W L)
     : Type 0 where

@@ -1,7 +1,7 @@
 //! Which of the frames that are to be sent are lost, to try what losses do.
 ghost use Rattle.std.specs.Prelude.{◌≡◌, ◌==◌, Bool, false, true};
-ghost use Rattle.cfdp_port.specs.Lossy.{LosesNext, LossState, dice_after, dice_at, dice_of_seed};
-ghost use Rattle.cfdp_port.specs.Lossy.{is_in_share, next_left, thrown};
+ghost use Rattle.cfdp_port.specs.Lossy.{LosesNext, LossState, drawn, generator_after};
+ghost use Rattle.cfdp_port.specs.Lossy.{generator_at, generator_of_seed, is_in_share, next_left};
 
 use rand_core::utils::NextWord;
 use rand_pcg::Pcg32;
@@ -9,7 +9,7 @@ use std::cell::Cell;
 use std::marker::Model;
 
 /// The stream of the random generator: that of PCG's reference.
-const DICE_STREAM: u64 = 721347520444481703;
+const GENERATOR_STREAM: u64 = 721347520444481703;
 
 /// What says of each frame that is to be sent whether it is lost.
 pub trait Losses: Drop {
@@ -32,7 +32,7 @@ pub struct FrameLosses {
     /// How many of a hundred are lost at random.
     percent: u32,
     /// The state of the random generator.
-    dice: u64,
+    generator: u64,
 }
 
 impl Model for FrameLosses {
@@ -44,14 +44,14 @@ impl Model for FrameLosses {
       every = l.every;
       left = l.left;
       percent = l.percent;
-      dice = l.dice;
+      generator = l.generator;
     } };
 
     ghost inverse = { λ l. record {
       every = l.every;
       left = l.left;
       percent = l.percent;
-      dice = l.dice;
+      generator = l.generator;
     } };
 }
 
@@ -63,14 +63,14 @@ impl FrameLosses {
           every = every;
           left = every;
           percent = percent;
-          dice = dice_of_seed seed;
+          generator = generator_of_seed seed;
         } }
     {
         FrameLosses {
             every,
             left: every,
             percent,
-            dice: Pcg32::new(seed, DICE_STREAM).state(),
+            generator: Pcg32::new(seed, GENERATOR_STREAM).state(),
         }
     }
 
@@ -80,7 +80,7 @@ impl FrameLosses {
         ensures left { self.new.left ≡ next_left self.old.every self.old.left }
         ensures every { self.new.every ≡ self.old.every }
         ensures percent { self.new.percent ≡ self.old.percent }
-        ensures dice { self.new.dice ≡ self.old.dice }
+        ensures generator { self.new.generator ≡ self.old.generator }
     {
         if self.left == 1 {
             self.left = self.every;
@@ -92,18 +92,18 @@ impl FrameLosses {
     }
 
     /// Whether the next random number is in the share of those by which a frame is lost.
-    fn is_next_hit(&mut self) -> bool
-        ensures lost { result ≡ is_in_share self.old.percent (thrown self.old.dice) }
+    fn is_next_drawn(&mut self) -> bool
+        ensures lost { result ≡ is_in_share self.old.percent (drawn self.old.generator) }
         ensures none { self.old.percent ≡ 0 → result ≡ false }
         ensures all { self.old.percent ≡ 100 → result ≡ true }
-        ensures dice { self.new.dice ≡ dice_after self.old.dice }
+        ensures generator { self.new.generator ≡ generator_after self.old.generator }
         ensures percent { self.new.percent ≡ self.old.percent }
         ensures every { self.new.every ≡ self.old.every }
         ensures left { self.new.left ≡ self.old.left }
     {
-        let mut dice = Pcg32::from_state(self.dice, DICE_STREAM);
-        let number = dice.next_word();
-        self.dice = dice.state();
+        let mut generator = Pcg32::from_state(self.generator, GENERATOR_STREAM);
+        let number = generator.next_word();
+        self.generator = generator.state();
         u64::from(number) * 100 < u64::from(self.percent) << 32
     }
 }
@@ -119,8 +119,8 @@ impl Losses for FrameLosses {
         ensures all { self.old.percent ≡ 100 → result ≡ true }
     {
         let is_counted = self.is_next_counted();
-        let is_hit = self.is_next_hit();
-        is_counted || is_hit
+        let is_drawn = self.is_next_drawn();
+        is_counted || is_drawn
     }
 }
 

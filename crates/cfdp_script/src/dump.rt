@@ -64,12 +64,12 @@ pub struct DumpRequest {
 /// Reads a file to its end, and writes what it spells: a capture if it begins as one, else lines of
 /// hexadecimal digits.
 ///
-/// For each line it writes one that says what the line spells, or with fields a line for each and an
-/// empty one. A line is pairs of digits, of either case, and ends with a line feed, which the last
-/// one may lack; an empty line is no octets. With `by_tools` spaces may stand anywhere between the
-/// digits, `0x` may stand after a space or at the line's beginning, a carriage return may stand at
-/// its end, and lines that begin with an offset, as `xxd`, `hexdump -C` and Wireshark write them,
-/// are read as one.
+/// For each line it writes one that says what the line spells, or with fields a line for each and
+/// an empty one. A line is pairs of digits, of either case, and ends with a line feed, which the
+/// last one may lack; an empty line is no octets. With `by_tools` spaces may stand anywhere between
+/// the digits, `0x` may stand after a space or at the line's beginning, a carriage return may stand
+/// at its end, and lines that begin with an offset, as `xxd`, `hexdump -C` and Wireshark write
+/// them, are read as one.
 ///
 /// Of a capture it does the same for the payload of each UDP datagram, or for what was captured
 /// as it is, and names what it can't read.
@@ -78,9 +78,9 @@ pub struct DumpRequest {
 /// and channel. Of PDUs `shape` says nothing. Where `deep` is true, behind a frame stands what it
 /// carries, by the frames before it.
 ///
-/// The answer is `Complete` whatever the lines say, once all have left the buffer. It is `Device` if
-/// they couldn't be read, as `read_up_to` says, or are more than 1 MiB of digits alone or 64 MiB of
-/// anything else; if a line couldn't be written; or if there was no memory. Nothing is written
+/// The answer is `Complete` whatever the lines say, once all have left the buffer. It is `Device`
+/// if they couldn't be read, as `read_up_to` says, or are more than 1 MiB of digits alone or 64 MiB
+/// of anything else; if a line couldn't be written; or if there was no memory. Nothing is written
 /// unless all was read, and nothing is written twice.
 pub fn run_dump<R: Read + Drop, W: Write + Drop>(
     alloc: Global,

@@ -16,9 +16,8 @@ use link_sim::WorldConfig;
 use past::Past;
 use std::alloc::{AllocError, Global};
 use std::cell::Cell;
-use std::fs::Metadata;
+use std::fs::File;
 use std::io::{BufWriter, ErrorKind};
-use std::os::unix::fs::MetadataExt;
 use std::snapshot::Snapshot;
 use std::{fs, io};
 use valid_config::Valid;
@@ -80,12 +79,7 @@ fn way<'a>(
     request: &LoopRequest,
     losses: &'a Cell<FrameLosses>,
 ) -> Result<Way<'a>, u8> {
-    let from = folder(rt, request.from.as_str())?;
-    let to = folder(rt, request.to.as_str())?;
-    if from.dev() == to.dev() && from.ino() == to.ino() {
-        let _ = eprintln!(rt; "error: {} and {} are one folder", request.from, request.to);
-        return Err(MISTAKE);
-    }
+    folder(rt, request.to.as_str())?;
     note_losses(rt, request.losses);
     let held = HeldFolder::take(rt, request.to.as_str())?;
     match UdpWire::pair(rt) {
@@ -139,9 +133,9 @@ pub fn check_name(rt: &HostRuntime, name: &str) -> Result<(), u8> {
 /// # Errors
 ///
 /// The exit status, where it is none, which was told on standard error.
-pub fn folder(rt: &HostRuntime, path: &str) -> Result<Metadata, u8> {
+pub fn folder(rt: &HostRuntime, path: &str) -> Result<(), u8> {
     match fs::metadata(rt, path) {
-        Ok(found) if found.is_dir() => return Ok(found),
+        Ok(found) if found.is_dir() => return Ok(()),
         Ok(_) => {
             let _ = eprintln!(rt; "error: {path}: it is no folder");
         }
@@ -170,7 +164,28 @@ fn found<'a>(
         return Err(DEVICE);
     };
     check_file(rt, &mut outbox, path, name)?;
+    check_open(rt, path, name)?;
     Ok(outbox)
+}
+
+/// Looks whether a plain file of a folder can be opened, if it is there.
+///
+/// # Errors
+///
+/// The exit status if it can't be, which was told on standard error.
+fn check_open(rt: &HostRuntime, path: &str, name: &str) -> Result<(), u8> {
+    let kind = match format!(in rt.alloc(); "{path}/{name}") {
+        Ok(file) => match File::open(rt, file.as_str()) {
+            Ok(_) => return Ok(()),
+            Err(error) => error.kind(),
+        },
+        Err(_) => ErrorKind::OutOfMemory,
+    };
+    if kind == ErrorKind::NotFound {
+        return Ok(());
+    }
+    tell_of_file(rt, path, name, FolderError::System(kind));
+    Err(DEVICE)
 }
 
 /// An outbox over this folder, which is there. Nothing was looked for yet.
@@ -229,8 +244,9 @@ fn sent_status<O: Outbox>(
 ) -> u8 {
     let losses = Cell::new(frame_losses(request.losses));
     match way(rt, request, &losses) {
-        Ok((wires, _held)) => {
+        Ok((wires, held)) => {
             let ran = sent(rt, request, options, outbox, wires, told, progress);
+            held.clear(rt, request.to.as_str());
             tell_untold(rt, ran.exit, told);
             shown_status(rt, &request.shown, &ran)
         }

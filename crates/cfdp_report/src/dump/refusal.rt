@@ -62,7 +62,7 @@ pub struct FrameRefusal {
     pub form: DumpForm,
 }
 
-/// Says why they are none. Where details are told, a refused length comes with how many octets there
+/// Says why they are none. If details are told, a refused length comes with how many octets there
 /// are and how many such a frame has.
 impl fmt::Display for FrameRefusal {
     ghost use Rattle.cfdp_report.specs.Dump.Refusal.{frame_fault_text};

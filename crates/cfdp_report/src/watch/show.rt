@@ -74,8 +74,8 @@ fn explain(rt: &HostRuntime, shown: &Shown, seen: &Summary) -> u8
     }
 }
 
-/// Writes which commands had nothing more to do before their end, what the conditions that were told
-/// say, and what the stations sent, lost and dropped.
+/// Writes which commands had nothing more to do before their end, what the conditions that were
+/// told say, and what the stations sent, lost and dropped.
 fn write_explanation(rt: &HostRuntime, seen: &Summary) -> io::Result<()> {
     let mut text = Vec::new(rt.alloc());
     for done in seen.answered.iter() {

@@ -33,8 +33,8 @@ remark_text (PassedBy passed) = passed_text passed
 remark_text (BadCapture cause place) =
     fault_text cause ++ (codes " at octet " ++ decimal place)
 
--- Whether the octet at a place of a text may stand there: it is a hexadecimal digit; or, in a line as
--- tools write it, a space, or the x of 0x where a word begins.
+-- Whether the octet at a place of a text may stand there: it is a hexadecimal digit; or, in a line
+-- as tools write it, a space, or the x of 0x where a word begins.
 abbrev pub is_digit : ℕ → Bool
 is_digit octet = is_in_range 48 57 octet || (is_in_range 65 70 octet || is_in_range 97 102 octet)
 

@@ -10,8 +10,8 @@ use std::fmt;
 /// Where a line is wrong, and whether that is told.
 #[derive(Clone, Copy)]
 pub(crate) struct BadPlace {
-    /// The column in its line, from 1, of the first octet that may not stand there, if there is one;
-    /// else the digits are odd in number.
+    /// The column in its line, from 1, of the first octet that may not stand there, if there is
+    /// one; else the digits are odd in number.
     column: Option<usize>,
     is_told: bool,
 }
