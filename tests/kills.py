@@ -200,7 +200,7 @@ def left_mistakes(spool, files, cuts):
     """What is wrong with what lies in the folders in the end. A power cut between the renaming into
     `.sent` and its flush may lose that copy, not the file: this is in the inbox."""
     if not cuts:
-        yield from spool.mistakes(files, 5)
+        yield from spool.mistakes(files)
         return
     if names_in(spool.folder):
         yield f"{sorted(names_in(spool.folder))[:9]} stay in the spool"
