@@ -256,6 +256,22 @@ static void opened_so(void)
     IS(live, 0);
 }
 
+/* A first number that its octets can't have may be configured: then each put is refused. */
+static void numbered_past_its_width(void)
+{
+    cfdp_station s = CFDP_STATION_INIT;
+    cfdp_config c = config_of(1);
+    cfdp_id id;
+
+    c.number_width = 1;
+    c.first_number = 256;
+    IS(cfdp_open(&s, &c), CFDP_OK);
+    IS(cfdp_add(&s, NAME_A, 1, OCTETS, 1), CFDP_OK);
+    IS(cfdp_put(&s, NAME_A, 1, NAME_B, 1, &id), CFDP_NUMBERS_SPENT);
+    cfdp_close(&s);
+    IS(live, 0);
+}
+
 static void asked_of(cfdp_station *s)
 {
     uint8_t long_name[256];
@@ -1039,6 +1055,7 @@ int main(void)
     defaults();
     on_a_closed_handle();
     opened_so();
+    numbered_past_its_width();
     transferred();
     at_the_limits();
     transmitted();

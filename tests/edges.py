@@ -1,4 +1,5 @@
-"""What is set of a station's link, as its frames show it, and which of them --drop loses."""
+"""What is set of a station's link, as its frames show it, and which of them --drop and --loss
+lose."""
 import re
 import struct
 import time
@@ -70,17 +71,31 @@ def left_of(station):
     return len(sent) - len(lost)
 
 
-def lost_mistakes(program, every):
-    """What is wrong with the frames that are lost: each of that number is, and no other."""
+def thrown(seed):
+    """The random numbers that a seed gives: PCG32, by its author's description."""
+    increment, most = 1442695040888963407, 1 << 64
+    step = lambda state: (state * 6364136223846793005 + increment) % most
+    state = step((seed + increment) % most)
+    while True:
+        mixed, turn = ((state >> 18) ^ state) >> 27 & 0xFFFFFFFF, state >> 59
+        yield (mixed >> turn | mixed << (32 - turn)) & 0xFFFFFFFF
+        state = step(state)
+
+
+def lost_mistakes(program, every=0, percent=0, seed=1):
+    """What is wrong with the frames that are lost: each of that number is, and each whose random
+    number is in the share, and no other."""
     with Link(program, Relay(lambda own, frame: False)) as link:
-        words = [*link.puts(1, {"a": bytes(20_000)}), "--trace", "--drop", str(every)]
-        station = link.starts(1, words)
+        words = ["--drop", str(every), "--loss", str(percent), "--seed", str(seed), "--trace"]
+        station = link.starts(1, [*link.puts(1, {"a": bytes(20_000)}), *words])
         station.comes_to("eof-sent")
         time.sleep(1)
         stations.waits_for(lambda: len(link.relay.came) == left_of(station), links.SLACK)
         sent, lost = sent_and_lost(station)
         left = [fields(frame)[1:3] for _, _, frame in list(link.relay.came)]
-    wanted = sent[every - 1 :: every]
+    numbers = zip(range(1, len(sent) + 1), sent, thrown(seed))
+    is_lost = lambda turn, it: every and turn % every == 0 or it * 100 < percent << 32
+    wanted = [frame for turn, frame, it in numbers if is_lost(turn, it)]
     if len(sent) < 10 or lost != wanted:
         yield f"of {len(sent)} frames {lost} were lost, and not {wanted}"
     if sorted(left) != sorted(set(sent) - set(lost)):
@@ -195,6 +210,11 @@ def all_mistakes(program):
         yield f"a datagram of a PDU that the system refuses, number {turn}", kept
     for every in (1, 3):
         yield f"a station that loses each frame of number {every}", lost_mistakes(program, every)
+    for percent, seed in ((25, 1), (60, 12345), (100, 7)):
+        wrong = lost_mistakes(program, 0, percent, seed)
+        yield f"a station that loses {percent} percent of its frames, seed {seed}", wrong
+    both = lost_mistakes(program, 4, 20, (1 << 64) - 1)
+    yield "a station that loses each fourth frame, and 20 percent at random", both
     for zone in (16, 2040):
         settings = {"zone": zone, "segment": 4096}
         both = carriers.pair_mistakes(program, "frames", [], settings, {"one": 1, "some": 100_000})

@@ -28,7 +28,7 @@ use Rattle.any_order.specs.declared.answers.Restarted.TheVariants as restarted
 use Rattle.any_order.specs.declared.answers.SentFrame.{SentFrame}
 use Rattle.cfdp_report.specs.Report.Lines.{indication_line, is_own_completion}
 use Rattle.cfdp_script.specs.Script.Outboxes.{outbox_of}
-use Rattle.cfdp_script.specs.declared.script.GivenFile.{GivenFile}
+use Rattle.cfdp_script.specs.declared.script.command.FileLine.{FileLine}
 use Rattle.cfdp_any_order_script.specs.Told.{GoesOnward, HasSources, IsNoted, Starts}
 
 -- ---- calls that are no starts
@@ -74,13 +74,13 @@ noted_on station lives told completed k l g n = record {
   none_gone = g.gone ∙ n.none_gone;
 }
 
-pub sources_on : (files : List GivenFile) (v w : WorldKept) → ((s : Side) → sources_at s w ≡ sources_at s v) → HasSources files v → HasSources files w
+pub sources_on : (files : List FileLine) (v w : WorldKept) → ((s : Side) → sources_at s w ≡ sources_at s v) → HasSources files v → HasSources files w
 sources_on files v w same has s = same (side_of s) ∙ has s
 
-abbrev pub AllNoted : (files : List GivenFile) (a : ℕ) (b : List ℕ) (c : ℕ) (d : ℕ) (e : List ℕ) (f : ℕ) → WorldKept → Type 0
+abbrev pub AllNoted : (files : List FileLine) (a : ℕ) (b : List ℕ) (c : ℕ) (d : ℕ) (e : List ℕ) (f : ℕ) → WorldKept → Type 0
 AllNoted files a b c d e f w = IsNoted 1 a b c w.one × IsNoted 2 d e f w.two × HasSources files w
 
-pub all_on : (files : List GivenFile) (a : ℕ) (b : List ℕ) (c : ℕ) (d : ℕ) (e : List ℕ) (f : ℕ) (v w : WorldKept) → GoesOnward v w → AllNoted files a b c d e f v → AllNoted files a b c d e f w
+pub all_on : (files : List FileLine) (a : ℕ) (b : List ℕ) (c : ℕ) (d : ℕ) (e : List ℕ) (f : ℕ) (v w : WorldKept) → GoesOnward v w → AllNoted files a b c d e f v → AllNoted files a b c d e f w
 all_on files a b c d e f v w g n = (noted_on 1 a b c v.one w.one (g.0 One) n.0, noted_on 2 d e f v.two w.two (g.0 Two) n.1, sources_on files v w g.1 n.2)
 
 -- a station that starts anew
@@ -110,7 +110,7 @@ noted_new station number lines complete c sources files k new n l o = record {
   none_gone = ap (λ (e : EntityState). e.table.gone) new.entity;
 }
 
-pub sources_new : (c : WorldConfig) (files : List GivenFile) (a b : FileMap) (inboxes : FileMap × FileMap) (w : WorldKept) → IsNewWorld c (a, b) inboxes w → a ≡ outbox_of sides.One files → b ≡ outbox_of sides.Two files →
+pub sources_new : (c : WorldConfig) (files : List FileLine) (a b : FileMap) (inboxes : FileMap × FileMap) (w : WorldKept) → IsNewWorld c (a, b) inboxes w → a ≡ outbox_of sides.One files → b ≡ outbox_of sides.Two files →
     HasSources files w
 sources_new c files a b inboxes w new one two sides.One = ap (λ (e : EntityState). e.table.sources) new.one.entity ∙ one
 sources_new c files a b inboxes w new one two sides.Two = ap (λ (e : EntityState). e.table.sources) new.two.entity ∙ two

@@ -8,7 +8,7 @@ use Rattle.cfdp_report.specs.declared.exit.Exit.{Exit}
 use Rattle.cfdp_report.specs.declared.exit.Exit.TheVariants.{Complete, Incomplete, Device}
 use Rattle.cfdp_report.specs.declared.exit.Fault.TheVariants.{NoMemory}
 use Rattle.cfdp_script.specs.Script.Report.{puts_asked}
-use Rattle.cfdp_script.specs.declared.script.GivenFile.{GivenFile}
+use Rattle.cfdp_script.specs.declared.script.command.FileLine.{FileLine}
 use Rattle.cfdp_script.specs.declared.script.Step.{Step}
 use Rattle.cfdp_any_order_script.specs.Answers.{is_device_fault}
 use Rattle.cfdp_any_order_script.specs.Performing.{Performs, PlayState, Runs}
@@ -27,7 +27,7 @@ one_more_done (s ∷ steps) (d ∷ all) step done old mid new before line does =
 
 -- ---- the end of a run
 
-ends_picked : (fault all : Bool) (c : WorldConfig) (files : List GivenFile) (steps : List Step) (old new : Option (List ℕ))
+ends_picked : (fault all : Bool) (c : WorldConfig) (files : List FileLine) (steps : List Step) (old new : Option (List ℕ))
     → ((e : Exit) → e ≡ (if fault then Device NoMemory else if all then Complete else Incomplete) → RunsTold c files steps e old new)
     → EndsRun (if fault then Device NoMemory else if all then Complete else Incomplete) c files steps old new
 ends_picked true all c files steps old new ran = ran (Device NoMemory) refl
@@ -35,7 +35,7 @@ ends_picked false true c files steps old new ran = ran Complete refl
 ends_picked false false c files steps old new ran = ran Incomplete refl
 
 -- what a run did, of which the promise holds
-pub run_all : (c : WorldConfig) (files : List GivenFile) (steps : List Step) (first last : PlayState) (answered given : List Answered)
+pub run_all : (c : WorldConfig) (files : List FileLine) (steps : List Step) (first last : PlayState) (answered given : List Answered)
     → IsFirst c files first → Runs steps answered first last → given ≡ answered → KeepsPromise last.world → RunsAll c files steps
 run_all c files steps first last answered given starts runs same promised = record {
   first = first;
@@ -47,7 +47,7 @@ run_all c files steps first last answered given starts runs same promised = reco
 }
 
 -- a run whose report was written ended as its exit says
-pub run_ended : (exit : Exit) (c : WorldConfig) (files : List GivenFile) (steps : List Step) (ran : RunsAll c files steps) (asked : ℕ) (old new : Option (List ℕ)) → asked ≡ puts_asked steps
+pub run_ended : (exit : Exit) (c : WorldConfig) (files : List FileLine) (steps : List Step) (ran : RunsAll c files steps) (asked : ℕ) (old new : Option (List ℕ)) → asked ≡ puts_asked steps
     → exit ≡ exit_of ran.answered (puts_completed ran.last.world) asked → Appends old new (report_text asked ran.answered ran.last.world) → EndsRun exit c files steps old new
 run_ended exit c files steps ran asked old new is ends written =
     let fault : Bool = list_any (λ done. is_device_fault done.answer) ran.answered in
@@ -56,7 +56,7 @@ run_ended exit c files steps ran asked old new is ends written =
     let report : Appends old new (report_text (puts_asked steps) ran.answered ran.last.world) = subst (λ (n : ℕ). Appends old new (report_text n ran.answered ran.last.world)) is written in
     subst (λ e. EndsRun e c files steps old new) (sym ended) (ends_picked fault all c files steps old new (λ e same. (ran, same, report)))
 
-pub run_done : (exit : Exit) (c : WorldConfig) (files : List GivenFile) (steps : List Step) (first last : PlayState) (answered given : List Answered) (asked : ℕ) (old new : Option (List ℕ))
+pub run_done : (exit : Exit) (c : WorldConfig) (files : List FileLine) (steps : List Step) (first last : PlayState) (answered given : List Answered) (asked : ℕ) (old new : Option (List ℕ))
     → IsFirst c files first → Runs steps answered first last → given ≡ answered → KeepsPromise last.world → asked ≡ puts_asked steps
     → exit ≡ exit_of given (puts_completed last.world) asked → Appends old new (report_text asked given last.world) → EndsRun exit c files steps old new
 run_done exit c files steps first last answered given asked old new starts runs same promised is ends written =
@@ -71,7 +71,7 @@ run_done exit c files steps first last answered given asked old new starts runs 
     run_ended exit c files steps ran asked old new is ends written
 
 -- a report that is made is that of a run, wherever it is written
-pub run_told : (exit : Exit) (c : WorldConfig) (files : List GivenFile) (steps : List Step) (first last : PlayState) (answered given : List Answered) (asked : ℕ) (text : List ℕ)
+pub run_told : (exit : Exit) (c : WorldConfig) (files : List FileLine) (steps : List Step) (first last : PlayState) (answered given : List Answered) (asked : ℕ) (text : List ℕ)
     → IsFirst c files first → Runs steps answered first last → given ≡ answered → KeepsPromise last.world → asked ≡ puts_asked steps
     → exit ≡ exit_of given (puts_completed last.world) asked → text ≡ report_text asked given last.world → (old new : Option (List ℕ)) → Appends old new text → EndsRun exit c files steps old new
 run_told exit c files steps first last answered given asked text starts runs same promised is ends made old new written =

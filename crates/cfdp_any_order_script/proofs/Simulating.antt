@@ -14,7 +14,7 @@ use Rattle.cfdp_report.specs.declared.line_error.BadLine.{BadLine}
 use Rattle.cfdp_script.specs.Script.Lines as scripts
 use Rattle.cfdp_script.specs.Script.Lines.{IsFirstBad, files_of, settings_of, steps_of}
 use Rattle.cfdp_script.specs.Script.Simulated.{EndsReading, EndsText, IsSilentAt}
-use Rattle.cfdp_script.specs.declared.script.GivenFile.{GivenFile}
+use Rattle.cfdp_script.specs.declared.script.command.FileLine.{FileLine}
 use Rattle.cfdp_script.specs.declared.script.Script.{Script}
 use Rattle.cfdp_script.specs.declared.script.Step.{Step}
 use Rattle.cfdp_script.proofs.Endings.{any_text, noted_of_text}
@@ -43,7 +43,7 @@ run_of_text exit text s old new r ran =
     (subst (λ x. EndsRun exit (world_of (settings_of text)) x s.steps.items old new) r.files
     (subst (λ x. EndsRun exit (world_of x) s.files.items s.steps.items old new) r.settings ran))
 
-run_noted : (exit : Exit) (s : Script) (config : WorldConfig) (files : List GivenFile) (steps : List Step) (old new : Option (List ℕ)) → config ≡ world_of s.settings → files ≡ s.files.items → steps ≡ s.steps.items →
+run_noted : (exit : Exit) (s : Script) (config : WorldConfig) (files : List FileLine) (steps : List Step) (old new : Option (List ℕ)) → config ≡ world_of s.settings → files ≡ s.files.items → steps ≡ s.steps.items →
     EndsRun exit config files steps old new → EndsRun exit (world_of s.settings) s.files.items s.steps.items old new
 run_noted exit s config files steps old new c f e ran =
     subst (λ x. EndsRun exit (world_of s.settings) s.files.items x old new) e
@@ -72,7 +72,7 @@ disorder_ends line exit text s old new r e ends =
     ends_disorder line exit text old new (subst (λ x. first_disorder x ≡ Some line) r.steps e) (disorder_of_text line exit text s old new r ends)
 
 -- its commands ran
-pub ran_at : (line : ℕ) (exit : Exit) (s : Script) (config : WorldConfig) (files : List GivenFile) (steps : List Step) (old new : Option (List ℕ)) → IsFirstNoted s None → config ≡ world_of s.settings → files ≡ s.files.items →
+pub ran_at : (line : ℕ) (exit : Exit) (s : Script) (config : WorldConfig) (files : List FileLine) (steps : List Step) (old new : Option (List ℕ)) → IsFirstNoted s None → config ≡ world_of s.settings → files ≡ s.files.items →
     steps ≡ s.steps.items → EndsRun exit config files steps old new → EndsAt line exit s old new
 ran_at line Complete s config files steps old new good c f e ran = (good, run_noted Complete s config files steps old new c f e ran)
 ran_at line Incomplete s config files steps old new good c f e ran = (good, run_noted Incomplete s config files steps old new c f e ran)

@@ -15,7 +15,7 @@ use Rattle.cfdp_script.specs.Script.Lines.{IsFirstBad, files_of, settings_of, st
 use Rattle.cfdp_script.specs.Script.Outboxes.{outbox_of}
 use Rattle.cfdp_script.specs.Script.Report.{puts_asked}
 use Rattle.cfdp_script.specs.Script.Simulated.{EndsScript, IsTooLong}
-use Rattle.cfdp_script.specs.declared.script.GivenFile.{GivenFile}
+use Rattle.cfdp_script.specs.declared.script.command.FileLine.{FileLine}
 use Rattle.cfdp_script.specs.declared.script.Script.{Script}
 use Rattle.cfdp_script.specs.declared.script.Step.{Step}
 use Rattle.cfdp_script.specs.declared.script.command.Command.{Command}
@@ -38,7 +38,7 @@ first_disorder (step ∷ steps) =
     if is_disorder step.command then Some step.line else first_disorder steps
 
 -- Two stations at which nothing was done yet, with these files to send, and no frames.
-pub record IsFirst (config : WorldConfig) (files : List GivenFile) (first : PlayState) : Type 0 where
+pub record IsFirst (config : WorldConfig) (files : List FileLine) (first : PlayState) : Type 0 where
   pub world : IsNewWorld config (outbox_of One files, outbox_of Two files) (empty, empty)
       first.world
   pub one : first.one ≡ no_frames
@@ -46,7 +46,7 @@ pub record IsFirst (config : WorldConfig) (files : List GivenFile) (first : Play
 
 -- From two such stations all commands ran, had these answers, and left the last world; of that the
 -- promise holds.
-pub record RunsAll (config : WorldConfig) (files : List GivenFile) (steps : List Step) : Type 0
+pub record RunsAll (config : WorldConfig) (files : List FileLine) (steps : List Step) : Type 0
   where
     pub first : PlayState
     pub starts : IsFirst config files first
@@ -56,7 +56,7 @@ pub record RunsAll (config : WorldConfig) (files : List GivenFile) (steps : List
     pub promised : KeepsPromise last.world
 
 -- They ended so, and what was written is the report of the world that they left.
-abbrev pub RunsTold : WorldConfig → List GivenFile → List Step → Exit → (old new : Option (List ℕ))
+abbrev pub RunsTold : WorldConfig → List FileLine → List Step → Exit → (old new : Option (List ℕ))
     → Type 0
 RunsTold config files steps exit old new = (ran : RunsAll config files steps)
     × (exit ≡ exit_of ran.answered (puts_completed ran.last.world) (puts_asked steps))
@@ -65,7 +65,7 @@ RunsTold config files steps exit old new = (ran : RunsAll config files steps)
 -- These commands ended so. Where there was no memory at the start, or none to make the report,
 -- nothing is written. Where the report couldn't be written to its end, they ran all the same; of
 -- what was written nothing is said.
-abbrev pub EndsRun : Exit → WorldConfig → List GivenFile → List Step → (old new : Option (List ℕ))
+abbrev pub EndsRun : Exit → WorldConfig → List FileLine → List Step → (old new : Option (List ℕ))
     → Type 0
 EndsRun Complete c files steps old new = RunsTold c files steps Complete old new
 EndsRun Incomplete c files steps old new = RunsTold c files steps Incomplete old new

@@ -12,7 +12,7 @@ use Rattle.any_order.specs.Onward.{BeginsAnew, GoesOn}
 use Rattle.any_order.specs.World.{WorldKept, kept_at, side_of, sources_at}
 use Rattle.cfdp_report.specs.Report.Lines.{indication_line, is_own_completion}
 use Rattle.cfdp_script.specs.Script.Outboxes.{outbox_of}
-use Rattle.cfdp_script.specs.declared.script.GivenFile.{GivenFile}
+use Rattle.cfdp_script.specs.declared.script.command.FileLine.{FileLine}
 
 -- the other station
 abbrev pub opposite : Side → Side
@@ -50,7 +50,7 @@ pub record IsNoted (station number : ℕ) (lines : List ℕ) (complete : ℕ) (k
   pub none_gone : k.station.entity.state.table.gone ≡ 0
 
 -- The files that both stations can send are those of a script. (Only proofs need it.)
-abbrev pub HasSources : List GivenFile → WorldKept → Type 0
+abbrev pub HasSources : List FileLine → WorldKept → Type 0
 HasSources files w = (s : Side) → sources_at (side_of s) w ≡ outbox_of s files
 
 -- Whatever was called, both stations went on in their lives, and the files that they can send stay.

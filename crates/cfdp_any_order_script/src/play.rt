@@ -20,7 +20,7 @@ use aos_frame::Lane;
 use cfdp_directives::Octets;
 use cfdp_entity::Request;
 use cfdp_header::TransactionId;
-use cfdp_script::{Damage, GivenFile, damaged};
+use cfdp_script::{Damage, FileLine, damaged};
 use cfdp_station::{Polled, PutError, RequestError};
 use link_sim::{Event, Refusal, Side, WorldConfig};
 use std::alloc::{AllocError, Global};
@@ -287,7 +287,7 @@ impl<'a> Play<'a> {
     pub fn new(
         alloc: Global,
         config: Valid<WorldConfig>,
-        files: &'a [GivenFile],
+        files: &'a [FileLine],
     ) -> Result<Self, AllocError>
         ensures world { IfOk result (λ p. IsNewWorld config
             (outbox_of sides.One files.now, outbox_of sides.Two files.now)

@@ -3,7 +3,7 @@ ghost use Rattle.std.specs.Prelude.{◌≡◌, ◌≤◌, ℕ, List, [], length,
 ghost use Rattle.std.specs.Io.KnownBytes.{Appends};
 ghost use Rattle.link_sim.specs.declared.world_config.WorldConfig.{WorldConfig};
 ghost use Rattle.any_order.specs.World.{KeepsPromise};
-ghost use Rattle.cfdp_script.specs.declared.script.GivenFile.{GivenFile};
+ghost use Rattle.cfdp_script.specs.declared.script.command.FileLine.{FileLine};
 ghost use Rattle.cfdp_any_order_script.specs.Performing.{Runs};
 ghost use Rattle.cfdp_any_order_script.specs.Simulated.{EndsRun, IsFirst, RunsAll};
 
@@ -12,7 +12,7 @@ use crate::perform::perform;
 use crate::play::Play;
 use crate::report::report;
 use cfdp_report::{Exit, Fault};
-use cfdp_script::{GivenFile, Step, asked_puts};
+use cfdp_script::{FileLine, Step, asked_puts};
 use link_sim::{Side, WorldConfig};
 use std::alloc::{AllocError, Global};
 use std::io::Write;
@@ -31,7 +31,7 @@ struct Reported {
 pub fn run_steps<W: Write>(
     alloc: Global,
     config: Valid<WorldConfig>,
-    files: &[GivenFile],
+    files: &[FileLine],
     steps: &[Step],
     out: &mut W,
 ) -> Exit
@@ -51,7 +51,7 @@ pub fn run_steps<W: Write>(
 fn make_report(
     alloc: Global,
     config: Valid<WorldConfig>,
-    files: &[GivenFile],
+    files: &[FileLine],
     steps: &[Step],
 ) -> Option<Reported>
     ensures ran { IfSome result (λ made. RunsAll config files.now steps.now) }
@@ -77,9 +77,9 @@ fn make_report_of(
 ) -> Option<Reported>
     requires none { answered.old.items ≡ [] }
     requires room { length steps.now ≤ vec_capacity answered.old }
-    ensures ran { (config : WorldConfig) (files : List GivenFile) → IsFirst config files play.entry →
+    ensures ran { (config : WorldConfig) (files : List FileLine) → IsFirst config files play.entry →
         IfSome result (λ made. RunsAll config files steps.now) }
-    ensures ends { (config : WorldConfig) (files : List GivenFile) → IsFirst config files play.entry →
+    ensures ends { (config : WorldConfig) (files : List FileLine) → IsFirst config files play.entry →
         IfSome result (λ made. (old new : Option (List ℕ)) → Appends old new made.text.items →
         EndsRun made.exit config files steps.now old new) }
 {
@@ -97,9 +97,9 @@ fn make_report_at(
 ) -> Option<Reported>
     requires none { answered.old.items ≡ [] }
     requires room { length steps.now ≤ vec_capacity answered.old }
-    ensures ran { (config : WorldConfig) (files : List GivenFile) → IsFirst config files play.old →
+    ensures ran { (config : WorldConfig) (files : List FileLine) → IsFirst config files play.old →
         IfSome result (λ made. RunsAll config files steps.now) }
-    ensures ends { (config : WorldConfig) (files : List GivenFile) → IsFirst config files play.old →
+    ensures ends { (config : WorldConfig) (files : List FileLine) → IsFirst config files play.old →
         IfSome result (λ made. (old new : Option (List ℕ)) → Appends old new made.text.items →
         EndsRun made.exit config files steps.now old new) }
 {

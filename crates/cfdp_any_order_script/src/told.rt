@@ -31,7 +31,7 @@ use aos_frame::Lane;
 use cfdp_entity::Request;
 use cfdp_header::TransactionId;
 use cfdp_report::{own_completions, write_indications};
-use cfdp_script::{GivenFile, outboxes};
+use cfdp_script::{FileLine, outboxes};
 use cfdp_station::{Inbox, Polled, PutError, RequestError, Station};
 use cfdp_store::{Files, MemoryInbox, MemoryOutbox};
 use link_sim::{Side, WorldConfig};
@@ -60,7 +60,7 @@ struct Before {
 pub struct ToldWorld<'a> {
     alloc: Global,
     world: Stations,
-    files: &'a [GivenFile],
+    files: &'a [FileLine],
     one: Before,
     two: Before,
 }
@@ -121,7 +121,7 @@ fn stores_of(
     world: &Stations,
     alloc: Global,
     side: Side,
-    files: &[GivenFile],
+    files: &[FileLine],
 ) -> Result<(MemoryOutbox, MemoryInbox), AllocError>
     ensures sources { IfOk result (λ stores. stores.0 ≡ outbox_of side files.now) }
     ensures files { IfOk result (λ stores. ⟦<MemoryInbox as Inbox>⟧.published stores.1
@@ -193,7 +193,7 @@ fn prepare(
     world: &Stations,
     side: Side,
     before: &Before,
-    files: &[GivenFile],
+    files: &[FileLine],
 ) -> Result<Prepared, AllocError>
     requires { (kept_of side world.now).station.entity.state.table.gone ≡ 0 }
     ensures lives { IfOk result (λ p. p.lives ≡ before.now.lives + 1) }
@@ -238,7 +238,7 @@ fn restart_at(
     world: &mut Stations,
     side: Side,
     before: &mut Before,
-    files: &[GivenFile],
+    files: &[FileLine],
 ) -> Result<Restarted, AllocError>
     requires noted { IsNoted (station_of side) before.old.lives before.old.told.items
         before.old.completed (kept_of side world.old) }
@@ -275,7 +275,7 @@ impl<'a> ToldWorld<'a> {
     pub fn new(
         alloc: Global,
         config: Valid<WorldConfig>,
-        files: &'a [GivenFile],
+        files: &'a [FileLine],
     ) -> Result<Self, AllocError>
         ensures { IfOk result (IsNewWorld config
             (outbox_of sides.One files.now, outbox_of sides.Two files.now)

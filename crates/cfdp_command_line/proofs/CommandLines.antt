@@ -6,6 +6,7 @@ use Rattle.clap.proofs.OnLiterals.{clap_on_literals}
 use Rattle.cfdp_command_line.specs.Request.{ask, asked_of, dump, loop, play, refusals, sim, station, version}
 use Rattle.cfdp_command_line.specs.Shown.{ShownAsked}
 use Rattle.cfdp_command_line.specs.Station.{StationAsked}
+use Rattle.cfdp_command_line.specs.declared.losses.LossRequest.{LossRequest}
 use Rattle.cfdp_command_line.specs.declared.station.CarrierKind.TheVariants.{Frames as FramesCarried, Packets, Pdus as PdusCarried}
 use Rattle.cfdp_command_line.specs.declared.station.StationFlags.{StationFlags}
 use Rattle.cfdp_command_line.specs.declared.station.StationLimits.{StationLimits}
@@ -22,6 +23,10 @@ line words = codes "cfdp_node" ∷ words
 -- what is shown without any option
 abbrev nothing : ShownAsked
 nothing = record { explain = false; trace = false; pcap = None; chart = None }
+
+-- and what is lost
+abbrev no_losses : LossRequest
+no_losses = record { every = 0; percent = 0; seed = 1 }
 
 -- ---- sim
 
@@ -50,43 +55,48 @@ drawn_of_file = (refl, refl)
 abbrev bare : ℕ → FrameShape
 bare zone = record { zone = zone; fields = no_fields }
 
-plain_pdus : (refusals (line (codes "dump" ∷ codes "pdus" ∷ [])) ≡ []) × (asked_of (line (codes "dump" ∷ codes "pdus" ∷ [])) ≡ Some (dump (Pdus, bare 256, Short, false) None))
+plain_pdus : (refusals (line (codes "dump" ∷ codes "pdus" ∷ [])) ≡ []) × (asked_of (line (codes "dump" ∷ codes "pdus" ∷ [])) ≡ Some (dump (Pdus, bare 256, Short, false, false) None))
 unfolding clap_on_literals
 plain_pdus = (refl, refl)
 
 plain_frames : (refusals (line (codes "dump" ∷ codes "frames" ∷ [])) ≡ [])
-    × (asked_of (line (codes "dump" ∷ codes "frames" ∷ [])) ≡ Some (dump (Frames, bare 256, Short, false) None))
+    × (asked_of (line (codes "dump" ∷ codes "frames" ∷ [])) ≡ Some (dump (Frames, bare 256, Short, false, false) None))
 unfolding clap_on_literals
 plain_frames = (refl, refl)
 
 zoned_frames : (refusals (line (codes "dump" ∷ codes "frames" ∷ codes "--zone" ∷ codes "300" ∷ [])) ≡ [])
-    × (asked_of (line (codes "dump" ∷ codes "frames" ∷ codes "--zone" ∷ codes "300" ∷ [])) ≡ Some (dump (Frames, bare 300, Short, false) None))
+    × (asked_of (line (codes "dump" ∷ codes "frames" ∷ codes "--zone" ∷ codes "300" ∷ [])) ≡ Some (dump (Frames, bare 300, Short, false, false) None))
 unfolding clap_on_literals
 zoned_frames = (refl, refl)
 
 filled_frames : (refusals (line (codes "dump" ∷ codes "frames" ∷ codes "--error-control" ∷ codes "--insert-zone" ∷ codes "8" ∷ [])) ≡ [])
     × (asked_of (line (codes "dump" ∷ codes "frames" ∷ codes "--error-control" ∷ codes "--insert-zone" ∷ codes "8" ∷ []))
-    ≡ Some (dump (Frames, record { zone = 256; fields = record { insert_zone = 8; control_field = false; error_control = true } }, Short, false) None))
+    ≡ Some (dump (Frames, record { zone = 256; fields = record { insert_zone = 8; control_field = false; error_control = true } }, Short, false, false) None))
 unfolding clap_on_literals
 filled_frames = (refl, refl)
 
 long_pdus : (refusals (line (codes "dump" ∷ codes "--long" ∷ codes "pdus" ∷ [])) ≡ [])
-    × (asked_of (line (codes "dump" ∷ codes "--long" ∷ codes "pdus" ∷ [])) ≡ Some (dump (Pdus, bare 256, Long, false) None))
+    × (asked_of (line (codes "dump" ∷ codes "--long" ∷ codes "pdus" ∷ [])) ≡ Some (dump (Pdus, bare 256, Long, false, false) None))
 unfolding clap_on_literals
 long_pdus = (refl, refl)
 
 fields_of_frames : (refusals (line (codes "dump" ∷ codes "--fields" ∷ codes "frames" ∷ codes "--long" ∷ [])) ≡ [])
-    × (asked_of (line (codes "dump" ∷ codes "--fields" ∷ codes "frames" ∷ codes "--long" ∷ [])) ≡ Some (dump (Frames, bare 256, Fields, false) None))
+    × (asked_of (line (codes "dump" ∷ codes "--fields" ∷ codes "frames" ∷ codes "--long" ∷ [])) ≡ Some (dump (Frames, bare 256, Fields, false, false) None))
 unfolding clap_on_literals
 fields_of_frames = (refl, refl)
 
 deep_frames : (refusals (line (codes "dump" ∷ codes "frames" ∷ codes "--deep" ∷ codes "--long" ∷ [])) ≡ [])
-    × (asked_of (line (codes "dump" ∷ codes "frames" ∷ codes "--deep" ∷ codes "--long" ∷ [])) ≡ Some (dump (Frames, bare 256, Long, true) None))
+    × (asked_of (line (codes "dump" ∷ codes "frames" ∷ codes "--deep" ∷ codes "--long" ∷ [])) ≡ Some (dump (Frames, bare 256, Long, true, false) None))
 unfolding clap_on_literals
 deep_frames = (refl, refl)
 
+pdus_of_text : (refusals (line (codes "dump" ∷ codes "pdus" ∷ codes "--text" ∷ [])) ≡ [])
+    × (asked_of (line (codes "dump" ∷ codes "pdus" ∷ codes "--text" ∷ [])) ≡ Some (dump (Pdus, bare 256, Short, false, true) None))
+unfolding clap_on_literals
+pdus_of_text = (refl, refl)
+
 pdus_of_file : (refusals (line (codes "dump" ∷ codes "pdus" ∷ codes "a" ∷ [])) ≡ [])
-    × (asked_of (line (codes "dump" ∷ codes "pdus" ∷ codes "a" ∷ [])) ≡ Some (dump (Pdus, bare 256, Short, false) (Some (codes "a"))))
+    × (asked_of (line (codes "dump" ∷ codes "pdus" ∷ codes "a" ∷ [])) ≡ Some (dump (Pdus, bare 256, Short, false, false) (Some (codes "a"))))
 unfolding clap_on_literals
 pdus_of_file = (refl, refl)
 
@@ -94,13 +104,13 @@ pdus_of_file = (refl, refl)
 
 plain_loop : (refusals (line (codes "loop" ∷ codes "a" ∷ codes "b" ∷ codes "x" ∷ codes "y" ∷ [])) ≡ [])
     × (asked_of (line (codes "loop" ∷ codes "a" ∷ codes "b" ∷ codes "x" ∷ codes "y" ∷ []))
-    ≡ Some (loop (record { from = codes "a"; to = codes "b"; source = codes "x"; destination = codes "y"; turns = 1000000000000; drop_every = 0; sets = []; shown = nothing })))
+    ≡ Some (loop (record { from = codes "a"; to = codes "b"; source = codes "x"; destination = codes "y"; turns = 10000; losses = no_losses; sets = []; shown = nothing })))
 unfolding clap_on_literals
 plain_loop = (refl, refl)
 
 lossy_loop : (refusals (line (codes "loop" ∷ codes "--drop" ∷ codes "7" ∷ codes "a" ∷ codes "b" ∷ codes "x" ∷ codes "y" ∷ codes "--turns" ∷ codes "50" ∷ [])) ≡ [])
     × (asked_of (line (codes "loop" ∷ codes "--drop" ∷ codes "7" ∷ codes "a" ∷ codes "b" ∷ codes "x" ∷ codes "y" ∷ codes "--turns" ∷ codes "50" ∷ []))
-    ≡ Some (loop (record { from = codes "a"; to = codes "b"; source = codes "x"; destination = codes "y"; turns = 50; drop_every = 7; sets = []; shown = nothing })))
+    ≡ Some (loop (record { from = codes "a"; to = codes "b"; source = codes "x"; destination = codes "y"; turns = 50; losses = record { every = 7; percent = 0; seed = 1 }; sets = []; shown = nothing })))
 unfolding clap_on_literals
 lossy_loop = (refl, refl)
 
@@ -111,8 +121,8 @@ watched_loop : (refusals (line (codes "loop" ∷ codes "--trace" ∷ codes "a" �
       to = codes "b";
       source = codes "x";
       destination = codes "y";
-      turns = 1000000000000;
-      drop_every = 0;
+      turns = 10000;
+      losses = no_losses;
       sets = [];
       shown = record { explain = false; trace = true; pcap = Some (codes "c"); chart = Some (codes "d") };
     })))
@@ -126,13 +136,28 @@ set_loop : (refusals (line (codes "loop" ∷ codes "a" ∷ codes "--set" ∷ cod
       to = codes "b";
       source = codes "x";
       destination = codes "y";
-      turns = 1000000000000;
-      drop_every = 0;
+      turns = 10000;
+      losses = no_losses;
       sets = codes "zone" ∷ codes "64" ∷ codes "crc" ∷ codes "1" ∷ [];
       shown = nothing;
     })))
 unfolding clap_on_literals
 set_loop = (refl, refl)
+
+random_loop : (refusals (line (codes "loop" ∷ codes "a" ∷ codes "b" ∷ codes "x" ∷ codes "y" ∷ codes "--loss" ∷ codes "100" ∷ codes "--seed" ∷ codes "18446744073709551615" ∷ codes "--drop" ∷ codes "3" ∷ codes "--turns" ∷ codes "1000000" ∷ [])) ≡ [])
+    × (asked_of (line (codes "loop" ∷ codes "a" ∷ codes "b" ∷ codes "x" ∷ codes "y" ∷ codes "--loss" ∷ codes "100" ∷ codes "--seed" ∷ codes "18446744073709551615" ∷ codes "--drop" ∷ codes "3" ∷ codes "--turns" ∷ codes "1000000" ∷ []))
+    ≡ Some (loop (record {
+      from = codes "a";
+      to = codes "b";
+      source = codes "x";
+      destination = codes "y";
+      turns = 1000000;
+      losses = record { every = 3; percent = 100; seed = 18446744073709551615 };
+      sets = [];
+      shown = nothing;
+    })))
+unfolding clap_on_literals
+random_loop = (refl, refl)
 
 few_words : refusals (line (codes "loop" ∷ codes "a" ∷ codes "b" ∷ codes "x" ∷ [])) ≡ MissingRequiredArgument ∷ []
 unfolding clap_on_literals
@@ -141,6 +166,14 @@ few_words = refl
 no_turn : refusals (line (codes "loop" ∷ codes "a" ∷ codes "b" ∷ codes "x" ∷ codes "y" ∷ codes "--turns" ∷ codes "0" ∷ [])) ≡ ValueValidation ∷ []
 unfolding clap_on_literals
 no_turn = refl
+
+many_turns : refusals (line (codes "loop" ∷ codes "a" ∷ codes "b" ∷ codes "x" ∷ codes "y" ∷ codes "--turns" ∷ codes "1000001" ∷ [])) ≡ ValueValidation ∷ []
+unfolding clap_on_literals
+many_turns = refl
+
+more_than_all : refusals (line (codes "loop" ∷ codes "a" ∷ codes "b" ∷ codes "x" ∷ codes "y" ∷ codes "--loss" ∷ codes "101" ∷ [])) ≡ ValueValidation ∷ []
+unfolding clap_on_literals
+more_than_all = refl
 
 -- ---- station
 
@@ -157,7 +190,7 @@ named words = line (codes "station" ∷ codes "--id" ∷ codes "1" ∷ codes "--
 
 abbrev plain : StationAsked
 plain = record {
-  numbers = record { id = 1; peer = 2; idle = 0; first_number = 0; rate = 1000; drop_every = 0 };
+  numbers = record { id = 1; peer = 2; idle = 0; first_number = 0; rate = 1000; losses = no_losses };
   limits = plain_limits;
   flags = no_flags;
   carrier = FramesCarried;
@@ -182,7 +215,7 @@ plain_station = (refl, refl)
 
 -- each default said gives what nothing said gives
 abbrev defaults : List Text
-defaults = codes "--idle" ∷ codes "0" ∷ codes "--first-number" ∷ codes "0" ∷ codes "--rate" ∷ codes "1000" ∷ codes "--drop" ∷ codes "0" ∷ codes "--carrier" ∷ codes "frames" ∷ codes "--unit" ∷
+defaults = codes "--idle" ∷ codes "0" ∷ codes "--first-number" ∷ codes "0" ∷ codes "--rate" ∷ codes "1000" ∷ codes "--drop" ∷ codes "0" ∷ codes "--loss" ∷ codes "0" ∷ codes "--seed" ∷ codes "1" ∷ codes "--carrier" ∷ codes "frames" ∷ codes "--unit" ∷
     codes "s" ∷ codes "--retries" ∷ codes "3" ∷ codes "--at-once" ∷ codes "4" ∷ codes "--most-size" ∷ codes "0" ∷ codes "--most-open" ∷ codes "0" ∷ []
 
 defaults_said : (refusals (named defaults) ≡ []) × (asked_of (named defaults) ≡ Some (station plain))
@@ -194,7 +227,7 @@ sending_station : (refusals (line (codes "station" ∷ codes "--put" ∷ codes "
     × (asked_of (line (codes "station" ∷ codes "--put" ∷ codes "x" ∷ codes "y" ∷ codes "--id" ∷ codes "3" ∷ codes "--peer" ∷ codes "4" ∷ codes "--set" ∷ codes "zone" ∷ codes "512" ∷ codes "--listen" ∷
     codes "a" ∷ codes "--to" ∷ codes "b" ∷ codes "--put" ∷ codes "v" ∷ codes "w" ∷ codes "--outbox" ∷ codes "o" ∷ codes "--state" ∷ codes "s" ∷ codes "--idle" ∷ codes "9" ∷ []))
     ≡ Some (station (record plain {
-      numbers = record { id = 3; peer = 4; idle = 9; first_number = 0; rate = 1000; drop_every = 0 };
+      numbers = record { id = 3; peer = 4; idle = 9; first_number = 0; rate = 1000; losses = no_losses };
       outbox = Some (codes "o");
       state = Some (codes "s");
       puts = codes "x" ∷ codes "y" ∷ codes "v" ∷ codes "w" ∷ [];
@@ -223,6 +256,14 @@ operated_station = (refl, refl)
 packets_carried : (refusals (named (codes "--carrier=packets" ∷ [])) ≡ []) × (asked_of (named (codes "--carrier=packets" ∷ [])) ≡ Some (station (record plain { carrier = Packets })))
 unfolding clap_on_literals
 packets_carried = (refl, refl)
+
+lossy_station : (refusals (named (codes "--loss" ∷ codes "10" ∷ codes "--seed" ∷ codes "5" ∷ [])) ≡ [])
+    × (asked_of (named (codes "--loss" ∷ codes "10" ∷ codes "--seed" ∷ codes "5" ∷ []))
+    ≡ Some (station (record plain {
+      numbers = record { id = 1; peer = 2; idle = 0; first_number = 0; rate = 1000; losses = record { every = 0; percent = 10; seed = 5 } };
+    })))
+unfolding clap_on_literals
+lossy_station = (refl, refl)
 
 other_carrier : refusals (named (codes "--carrier" ∷ codes "Frames" ∷ [])) ≡ InvalidValue ∷ []
 unfolding clap_on_literals

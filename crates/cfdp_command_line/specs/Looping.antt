@@ -8,6 +8,7 @@ use Rattle.clap.specs.declared.builder.action.ArgAction.TheVariants.{Append}
 use Rattle.clap.specs.declared.builder.value_parser.ValueParser.TheVariants.{Unsigned}
 use Rattle.cfdp_command_line.specs.declared.looping.LoopRequest.{LoopRequest}
 use Rattle.cfdp_command_line.specs.declared.looping.LoopWords.{LoopWords}
+use Rattle.cfdp_command_line.specs.declared.losses.LossRequest.{LossRequest}
 use Rattle.cfdp_command_line.specs.Shown.{ShownAsked, asked_shown, shown_of, with_shown}
 
 -- ---- the grammar
@@ -34,9 +35,9 @@ pairs_rule name = record (new_rule name) {
   value_names = 1;
 }
 
--- the most turns: 1 to 1,000,000,000,000, and the most of these where none are given
+-- the most turns: 1 to 1,000,000, and 10,000 where none are given
 abbrev pub turns_rule : Rule
-turns_rule = number_rule (codes "turns") 1 1000000000000 (codes "1000000000000")
+turns_rule = number_rule (codes "turns") 1 1000000 (codes "10000")
 
 -- a number up to 1,000,000, and what stands for it where none is said
 abbrev pub tuned_rule : Text → Text → Rule
@@ -45,6 +46,22 @@ tuned_rule name default = number_rule name 0 1000000 default
 -- each Kth frame is lost: 0 to 1,000,000, and none where K is 0 or isn't given
 abbrev pub drop_rule : Rule
 drop_rule = tuned_rule (codes "drop") (codes "0")
+
+-- of a hundred frames so many are lost at random: 0 to 100, and none where it isn't given
+abbrev pub loss_rule : Rule
+loss_rule = number_rule (codes "loss") 0 100 (codes "0")
+
+-- the greatest number of eight octets
+abbrev pub most : ℕ
+most = 18446744073709551615
+
+-- where the random numbers begin, and at 1 where it isn't given
+abbrev pub seed_rule : Rule
+seed_rule = number_rule (codes "seed") 0 most (codes "1")
+
+-- a subcommand with what says which frames are lost
+abbrev pub with_losses : App → App
+with_losses app = with_rule (with_rule (with_rule app drop_rule) loss_rule) seed_rule
 
 abbrev pub folders_app : App
 folders_app =
@@ -57,7 +74,7 @@ files_app =
     (place_rule (codes "destination"))
 
 abbrev pub numbers_app : App
-numbers_app = with_rule (with_rule files_app turns_rule) drop_rule
+numbers_app = with_losses (with_rule files_app turns_rule)
 
 abbrev pub set_app : App
 set_app = with_rule numbers_app (pairs_rule (codes "set"))
@@ -76,7 +93,7 @@ pub record LoopAsked : Type 0 where
   pub source : Text
   pub destination : Text
   pub turns : ℕ
-  pub drop_every : ℕ
+  pub losses : LossRequest
   pub sets : List Text
   pub shown : ShownAsked
 
@@ -93,20 +110,28 @@ number_in name low high rows = option_and_then (number_of_word low high) (first_
 abbrev pub words_for : Text → List Row → List Text
 words_for name rows = unwrap_or (all_of name rows) []
 
+abbrev pub losses_of : List Row → Option LossRequest
+losses_of rows = option_and_then (λ every. option_and_then (λ percent. option_map (λ seed. record {
+  every = every;
+  percent = percent;
+  seed = seed;
+}) (number_in (codes "seed") 0 most rows)) (number_in (codes "loss") 0 100 rows))
+    (number_in (codes "drop") 0 1000000 rows)
+
 abbrev pub loop_of : List Row → Option LoopAsked
 loop_of rows =
     option_and_then (λ from. option_and_then
     (λ to. option_and_then (λ source. option_and_then (λ destination.
-    option_and_then (λ turns. option_map (λ drop_every. record {
+    option_and_then (λ turns. option_map (λ losses. record {
       from = from;
       to = to;
       source = source;
       destination = destination;
       turns = turns;
-      drop_every = drop_every;
+      losses = losses;
       sets = words_for (codes "set") rows;
       shown = shown_of rows;
-    }) (number_in (codes "drop") 0 1000000 rows)) (number_in (codes "turns") 1 1000000000000 rows))
+    }) (losses_of rows)) (number_in (codes "turns") 1 1000000 rows))
     (first_of (codes "destination") rows)) (first_of (codes "source") rows))
     (first_of (codes "to") rows)) (first_of (codes "from") rows)
 
@@ -119,7 +144,7 @@ loop_asked request = record {
   source = request.source.bytes.items;
   destination = request.destination.bytes.items;
   turns = request.turns;
-  drop_every = request.drop_every;
+  losses = request.losses;
   sets = map (λ word. word.bytes.items) request.sets.items;
   shown = asked_shown request.shown;
 }
@@ -132,7 +157,7 @@ words_asked rows words = record {
   source = words.source.now;
   destination = words.destination.now;
   turns = words.turns;
-  drop_every = words.drop_every;
+  losses = words.losses;
   sets = words_for (codes "set") rows;
   shown = shown_of rows;
 }

@@ -67,10 +67,14 @@ frames_app =
     with_rule (with_rule (with_rule lines_app insert_rule) (flag_rule (codes "control-field")))
     (flag_rule (codes "error-control"))
 
+-- whether lines are read as tools write them
+abbrev pub read_app : App
+read_app = with_rule frames_app (flag_rule (codes "text"))
+
 -- and how they are told; and the file with them
 abbrev pub told_app : App
 told_app =
-    with_rule (with_rule (with_rule frames_app (flag_rule (codes "long")))
+    with_rule (with_rule (with_rule read_app (flag_rule (codes "long")))
     (flag_rule (codes "fields"))) (flag_rule (codes "deep"))
 
 abbrev pub dump_app : App
@@ -126,10 +130,10 @@ IsCommand app c = (app_of c ≡ app) × HasNoGlobals c
 
 -- ---- what is asked for
 
--- How lines are to be told: their kind, what frames are made of, in which form, and whether with
--- what frames carry.
+-- How lines are to be told: their kind, what frames are made of, in which form, whether with what
+-- frames carry, and whether lines are read as tools write them.
 abbrev pub Lines : Type 0
-Lines = DumpKind × FrameShape × DumpForm × Bool
+Lines = DumpKind × FrameShape × DumpForm × Bool × Bool
 
 -- To run a script, and what is shown of it; to tell lines, and how; to send a file, and how; to run
 -- a station, and how; to send a command to the station at an address; to serve the page at an
@@ -187,6 +191,7 @@ lines_of rows = option_and_then (λ kind. option_map
       shape,
       form_of (is_given (codes "fields") rows) (is_given (codes "long") rows),
       is_given (codes "deep") rows,
+      is_given (codes "text") rows,
     ))
     (shape_of rows))
     (option_and_then kind_of_word (first_of (codes "kind") rows))
@@ -226,7 +231,8 @@ refusals words = or_else (fault_of program_app words)
 -- ---- what the program makes of it
 
 abbrev pub asked_lines : DumpRequest → Lines
-asked_lines request = (request.kind, request.shape, request.form, request.deep)
+asked_lines request =
+    (request.kind, request.shape, request.form, request.deep, request.by_tools)
 
 abbrev pub asked : Request → Asked
 asked (Sim request) = sim (asked_shown request.shown)

@@ -19,17 +19,13 @@ set_all [] s = Some s
 set_all (key ∷ []) s = Some s
 set_all (key ∷ value ∷ rest) s = option_and_then (set_all rest) (set_by key value s)
 
--- those of a loop before the first pair: a script's, but that NAKs are sent again up to 255 times
-abbrev pub loop_settings : Settings
-loop_settings = record default_settings { nak_limit = 255 }
-
--- These words set this configuration of both stations of a loop.
+-- These words set this configuration of both stations of a loop, from a script's defaults on.
 pub record IsSetBy (words : List Text) (config : WorldConfig) : Type 0 where
   pub settings : Settings
-  pub set : set_all words loop_settings ≡ Some settings
+  pub set : set_all words default_settings ≡ Some settings
   pub same : config ≡ world_of settings
 
 -- They set none: a pair of them sets nothing, or the stations can't be set up so.
 abbrev pub CannotBeSet : List Text → Type 0
-CannotBeSet words = (set_all words loop_settings ≡ None)
-    ⊎ ((s : Settings) × (set_all words loop_settings ≡ Some s) × (AreValid s → ⊥))
+CannotBeSet words = (set_all words default_settings ≡ None)
+    ⊎ ((s : Settings) × (set_all words default_settings ≡ Some s) × (AreValid s → ⊥))

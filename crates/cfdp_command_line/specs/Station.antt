@@ -13,7 +13,7 @@ use Rattle.cfdp_command_line.specs.declared.station.StationRequest.{StationReque
 use Rattle.cfdp_command_line.specs.declared.station.StationWords.{StationWords}
 use Rattle.cfdp_command_line.specs.declared.station.TimeUnit.{TimeUnit}
 use Rattle.cfdp_command_line.specs.declared.station.TimeUnit.TheVariants.{Seconds, Milliseconds}
-use Rattle.cfdp_command_line.specs.Looping.{drop_rule, number_in, number_rule, pairs_rule, tuned_rule, words_for}
+use Rattle.cfdp_command_line.specs.Looping.{losses_of, most, number_in, number_rule, pairs_rule, tuned_rule, with_losses, words_for}
 use Rattle.cfdp_command_line.specs.Shown.{ShownAsked, asked_shown, file_rule, flag_rule, is_given, shown_of, with_shown}
 
 -- ---- the grammar
@@ -21,10 +21,6 @@ use Rattle.cfdp_command_line.specs.Shown.{ShownAsked, asked_shown, file_rule, fl
 -- a word that has to be said behind its option
 abbrev pub said_rule : Text → Rule
 said_rule name = record (new_rule name) { long = Some name; value_names = 1; required = true }
-
--- the greatest number of eight octets
-abbrev pub most : ℕ
-most = 18446744073709551615
 
 -- a number that has to be said
 abbrev pub said_number_rule : Text → Rule
@@ -59,8 +55,8 @@ numbered_app = with_rule (with_rule addresses_app (tuned_rule (codes "idle") (co
     first_number_rule
 
 abbrev pub own_numbers_app : App
-own_numbers_app = with_rule (with_rule numbered_app (tuned_rule (codes "rate") (codes "1000")))
-    drop_rule
+own_numbers_app =
+    with_losses (with_rule numbered_app (tuned_rule (codes "rate") (codes "1000")))
 
 abbrev pub carried_app : App
 carried_app =
@@ -141,14 +137,14 @@ pub record StationAsked : Type 0 where
 abbrev pub numbers_of : List Row → Option StationNumbers
 numbers_of rows =
     option_and_then (λ id. option_and_then (λ peer. option_and_then (λ idle.
-    option_and_then (λ first_number. option_and_then (λ rate. option_map (λ drop_every. record {
+    option_and_then (λ first_number. option_and_then (λ rate. option_map (λ losses. record {
       id = id;
       peer = peer;
       idle = idle;
       first_number = first_number;
       rate = rate;
-      drop_every = drop_every;
-    }) (number_in (codes "drop") 0 1000000 rows)) (number_in (codes "rate") 0 1000000 rows))
+      losses = losses;
+    }) (losses_of rows)) (number_in (codes "rate") 0 1000000 rows))
     (number_in (codes "first-number") 0 most rows)) (number_in (codes "idle") 0 1000000 rows))
     (number_in (codes "peer") 0 most rows)) (number_in (codes "id") 0 most rows)
 

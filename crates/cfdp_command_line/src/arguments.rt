@@ -13,7 +13,7 @@ ghost use Rattle.cfdp_command_line.specs.Request.{dump_of, kind_of_word, kind_ru
 ghost use Rattle.cfdp_command_line.specs.Request.{asked_lines, address_app, address_rule, ask_app};
 ghost use Rattle.cfdp_command_line.specs.Request.{ask_of, lines_of, program_app, refusals, sim_app};
 ghost use Rattle.cfdp_command_line.specs.Request.{sim_of, words_rule, fields_of, form_of};
-ghost use Rattle.cfdp_command_line.specs.Request.{frames_app, insert_rule, lines_app, shape_of};
+ghost use Rattle.cfdp_command_line.specs.Request.{frames_app, insert_rule, lines_app, read_app, shape_of};
 ghost use Rattle.cfdp_command_line.specs.Request.{told_app, top_app, zone_of_word, zone_rule};
 ghost use Rattle.cfdp_command_line.specs.Request.{listen_rule, play_app, play_of};
 ghost use Rattle.cfdp_command_line.specs.Request as asks;
@@ -87,7 +87,8 @@ words with one space between. Empty lines and lines that begin with # are
 skipped. S is the station, 1 or 2; ID is a transaction, SOURCE:NUMBER.
 First, what the stations have:
   set KEY N             a setting of both stations, see below
-  file S NAME TEXT      a file in the outbox of S; TEXT is the rest of the line
+  file S NAME TEXT      a file in the outbox of S; TEXT is the rest of the line,
+                        and the last line of a name counts
   fill S NAME N HH      a file of N octets, each hexadecimal HH; N to 1048576
 Then, what happens:
   put S SRC DST         S sends its file SRC to the other station, as DST
@@ -100,7 +101,7 @@ Then, what happens:
   spread S              S polls until nothing is due, with a flush after each PDU
   burst S               S polls until nothing is due, then flushes once
   tick S N              S is told that the time is N
-  deliver S [N]         the N oldest frames that S sent arrive (default 1)
+  deliver S [N]         the N oldest frames that S sent arrive (default 1; 0: none)
   strike S [N]          the N oldest frames that S sent are lost (default 1)
   deliver S LANE [N], strike S LANE [N]
                         the same of a lane: data, whose frames carry file data,
@@ -135,8 +136,10 @@ Conditions, as in 'fault ID 7': 0 none, 1 no ACK came, 4 the store failed,
 5 checksum, 6 size, 7 NAKs were of no use, 8 silence, 11 unknown checksum type,
 14 suspended, 15 cancelled. --explain tells them in words.
 
-With --explain, on standard error at the end: what the conditions say that came
-up, and what each station sent, what of that was lost, and what it dropped.
+With --explain, on standard error at the end: how many frames a command took if
+fewer waited than it asked for, what the conditions say that came up, and what
+each station sent, what of that was lost, and what it dropped. Of a bad script
+it says why that line is bad.
 With --trace, a line for each thing that a station did, on standard error: the
 line of the script and the number of the event, as 3.10, the station, and what
 it did: ticks (it was told the time), sends, takes a frame or hears a PDU, which
@@ -155,11 +158,13 @@ Example:
 
 const DUMP_HELP: &str = "\
 Input, from FILE or standard input: a PDU or a frame a line, as pairs of
-hexadecimal digits of either case, with spaces between or not, and with 0x in
-front of a word or not; or one in several lines with offsets, as xxd, hexdump -C
-and Wireshark write them, with an empty line between two; or a capture, pcap or
-pcapng, in which each UDP datagram has one, or with link types 147 to 162 each
-packet; at most 67,108,864 octets.
+hexadecimal digits of either case, at most 1,048,576 octets in all. With --text
+spaces may stand between the digits and 0x before a word, lines may end with
+CR LF, and a PDU or a frame may stand in several lines with offsets, as xxd,
+hexdump -C and Wireshark write them, with an empty line between two. A capture,
+pcap or pcapng, needs no option: each UDP datagram has a PDU or a frame, or with
+link types 147 to 162 each packet. Captures and text have at most 67,108,864
+octets.
 Output: a line for each; ID is the source and the number of the transaction.
   data ID OFFSET LENGTH
   metadata ID CHECKSUM-TYPE SIZE SRC DST
@@ -195,7 +200,8 @@ With --deep lines behind that of a frame say what it carries:
   bad N                             so many packet headers of another version
   packet APID COUNT LENGTH          a packet ends in it; behind that its PDU
   unfollowed                        64 other channels are followed already
-Errors of any line: 0 Hex (no such digits; then the column, or 'odd digits').
+Errors of any line: 0 Hex (no such digits). With --long or --fields the column
+follows, or 'odd digits', and after 1 Length how many octets there are.
 Errors of PDUs: 1 Short, 2 Version, 3 BadCrc, 4 Length, 5 Unacknowledged,
 7 Directive, 8 Truncated, 9 Trailing, 10 Tlv, 11 Condition; 6 is no longer used.
 Errors of frames: 1 Length (mostly: another --zone, or other fields, are meant),
@@ -515,11 +521,13 @@ fn lines_asked(arguments: &ArgMatches<'_>) -> Option<DumpRequest>
     let shape = frame_shape(arguments)?;
     let form = dump_form(is_given(arguments, "fields"), is_given(arguments, "long"));
     let deep = is_given(arguments, "deep");
+    let by_tools = is_given(arguments, "text");
     Some(DumpRequest {
         kind,
         shape,
         form,
         deep,
+        by_tools,
     })
 }
 
@@ -723,11 +731,11 @@ fn dump_command<'a>(alloc: Global) -> Result<Command<'a>, AllocError>
     told_command(alloc)?.arg(input_argument(alloc))
 }
 
-/// `dump` with what the lines are, and how they are told.
+/// `dump` with what the lines are, how they are read, and how they are told.
 fn told_command<'a>(alloc: Global) -> Result<Command<'a>, AllocError>
     ensures { IfOk result (IsCommand told_app) }
 {
-    frames_command(alloc)?
+    read_command(alloc)?
         .arg(flag(
             alloc,
             "long",
@@ -743,6 +751,17 @@ fn told_command<'a>(alloc: Global) -> Result<Command<'a>, AllocError>
             "deep",
             "Tells also the packets in frames, and the PDUs in these",
         ))
+}
+
+/// `dump` with what the lines are, and how they are read.
+fn read_command<'a>(alloc: Global) -> Result<Command<'a>, AllocError>
+    ensures { IfOk result (IsCommand read_app) }
+{
+    frames_command(alloc)?.arg(flag(
+        alloc,
+        "text",
+        "Read lines as xxd, hexdump -C and Wireshark write them",
+    ))
 }
 
 /// `dump` with what the lines are, and which fields frames have.

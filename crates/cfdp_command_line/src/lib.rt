@@ -6,6 +6,7 @@
 mod arguments;
 mod dropping;
 mod looping;
+mod losses;
 mod sets;
 mod settings_file;
 mod shown;
@@ -13,6 +14,7 @@ mod station;
 
 pub use arguments::{Request, SimRequest, parse, read, version_status};
 pub use looping::LoopRequest;
+pub use losses::LossRequest;
 pub use sets::SetError;
 pub use station::{
     CarrierKind, StationFlags, StationLimits, StationNumbers, StationRequest, TimeUnit,

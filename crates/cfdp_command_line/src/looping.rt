@@ -2,7 +2,7 @@
 ghost use Rattle.std.specs.Prelude.{◌≡◌, ◌≤◌, false, map, IfOk, IfSome, OnErr, option_map};
 ghost use Rattle.clap.specs.Matches.{found_of};
 ghost use Rattle.clap.specs.Walk.{rows_of, rule_of};
-ghost use Rattle.cfdp_command_line.specs.Looping.{drop_rule, files_app, folders_app, loop_app};
+ghost use Rattle.cfdp_command_line.specs.Looping.{files_app, folders_app, loop_app};
 ghost use Rattle.cfdp_command_line.specs.Looping.{loop_asked, loop_of, number_of_word, numbers_app};
 ghost use Rattle.cfdp_command_line.specs.Looping.{place_rule, tuned_rule, turns_rule, words_asked};
 ghost use Rattle.cfdp_command_line.specs.Looping.{set_app};
@@ -11,6 +11,7 @@ ghost use Rattle.cfdp_command_line.specs.Request.{IsCommand};
 ghost use Rattle.cfdp_command_line.specs.Sets.{CannotBeSet, IsSetBy};
 
 use crate::arguments::word_of;
+use crate::losses::{LossRequest, losses_command, losses_of};
 use crate::sets::{SetError, configuration};
 use crate::shown::{shown_by, shown_command};
 use crate::station::{owned_words, pairs};
@@ -31,10 +32,10 @@ pub struct LoopRequest {
     pub source: String,
     /// Its name in the second one.
     pub destination: String,
-    /// The most turns, 1 to 1,000,000,000,000: they carry more than the longest file.
+    /// The most turns, 1 to 1,000,000.
     pub turns: u64,
-    /// Each frame of that number is lost, up to 1,000,000; with 0 none is.
-    pub drop_every: u64,
+    /// Which frames of both stations together are lost.
+    pub losses: LossRequest,
     /// What is set of both stations: the key of each setting, and behind it the value.
     pub sets: Vec<String>,
     /// What is to be shown of it.
@@ -67,7 +68,7 @@ struct LoopWords<'a> {
     source: &'a str,
     destination: &'a str,
     turns: u64,
-    drop_every: u64,
+    losses: LossRequest,
 }
 
 const LOOP_HELP: &str = "\
@@ -79,14 +80,17 @@ a line on standard error says so, and nothing comes. DST appears whole or not at
 all, in the place of a file of that name.
 In a turn both stations are told its number as the time, send, and take what
 came: 16 PDUs of each at most. The run ends when the transfer is over at both,
-or after N turns.
-With --drop K, each Kth frame of both is not sent, and has to be asked for.
+or after N turns; if it isn't over then, a line on standard error says so.
+With --loss P each frame is lost with a probability of P percent, and has to be
+asked for: the same frames with the same --seed. With --drop K each Kth frame is
+lost, counted over both stations in the order in which the frames leave. Both
+options may be given.
 With --set KEY N, as often as it is said, both are set up as by 'set KEY N' in a
 script: 'sim --help' has the keys and their defaults, of which nak_limit is 255
 here. So frames of both directions have the fields that insert_zone,
-control_field and error_control set. Times are numbers of turns. A transfer that
-is suspended stays so: say --turns where on_ack_limit, on_nak_limit or
-on_inactivity is 1 or 2.
+control_field and error_control set. Times are numbers of turns. Where
+on_ack_limit, on_nak_limit or on_inactivity is 1 or 2, a transfer may stay open
+until the turns are used up.
 
 Report: as that of sim, without the files.
 --trace, --chart FILE, --pcap FILE and --explain show as those of sim what
@@ -99,7 +103,7 @@ Exit status: 0 the file was delivered, 1 it wasn't, 2 bad arguments, 3 a folder,
 a file, a socket or the output failed, or no memory (told on standard error).
 
 Examples:
-  mkdir a b && echo hello > a/x && cfdp_node loop a b x y --drop 3
+  mkdir a b && echo hello > a/x && cfdp_node loop a b x y --loss 20
   cfdp_node loop a b x y --set zone 1024 --set error_control 1";
 
 /// The grammar of what stands behind `loop`.
@@ -125,9 +129,7 @@ fn set_command<'a>(alloc: Global) -> Result<Command<'a>, AllocError>
 fn numbers_command<'a>(alloc: Global) -> Result<Command<'a>, AllocError>
     ensures { IfOk result (IsCommand numbers_app) }
 {
-    files_command(alloc)?
-        .arg(turns_argument(alloc))?
-        .arg(drop_argument(alloc))
+    losses_command(alloc, files_command(alloc)?.arg(turns_argument(alloc))?)
 }
 
 /// The same without options.
@@ -166,22 +168,9 @@ fn turns_argument<'a>(alloc: Global) -> Arg<'a>
     Arg::new(alloc, "turns")
         .long("turns")
         .value_name("N")
-        .help("The most turns, 1 to 1000000000000")
-        .value_parser(value_parser!(u64).range(1..=1000000000000))
-        .default_value("1000000000000")
-}
-
-/// Which frames are lost for a trial.
-pub fn drop_argument<'a>(alloc: Global) -> Arg<'a>
-    ensures { (rule_of result ≡ drop_rule) × (result.global ≡ false) }
-{
-    tuned(
-        alloc,
-        "drop",
-        "K",
-        "0",
-        "Loses each Kth frame, up to 1000000; 0 loses none",
-    )
+        .help("The most turns, 1 to 1000000")
+        .value_parser(value_parser!(u64).range(1..=1000000))
+        .default_value("10000")
 }
 
 /// A number up to 1,000,000, and the one that stands for it where none is said.
@@ -229,8 +218,8 @@ fn loop_words<'a>(arguments: &ArgMatches<'a>) -> Option<LoopWords<'a>>
         to: word_of(arguments, "to")?,
         source: word_of(arguments, "source")?,
         destination: word_of(arguments, "destination")?,
-        turns: number_in(arguments, "turns", 1, 1_000_000_000_000)?,
-        drop_every: number_in(arguments, "drop", 0, 1_000_000)?,
+        turns: number_in(arguments, "turns", 1, 1_000_000)?,
+        losses: losses_of(arguments)?,
     })
 }
 
@@ -246,7 +235,7 @@ impl LoopWords<'_> {
             source: String::from_str(alloc, self.source)?,
             destination: String::from_str(alloc, self.destination)?,
             turns: self.turns,
-            drop_every: self.drop_every,
+            losses: self.losses,
             sets: owned_words(alloc, arguments, "set")?,
             shown: shown_by(alloc, arguments)?,
         })

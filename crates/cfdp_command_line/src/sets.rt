@@ -1,11 +1,10 @@
 //! What pairs of words set: the keys of settings, each with its value behind it.
 ghost use Rattle.std.specs.Prelude.{◌≡◌, map, IfOk, OnErr};
 ghost use Rattle.std.specs.Result.{result_ok};
-ghost use Rattle.cfdp_command_line.specs.Sets.{CannotBeSet, IsSetBy, loop_settings, set_all, set_by};
+ghost use Rattle.cfdp_command_line.specs.Sets.{CannotBeSet, IsSetBy, set_all, set_by};
 
 use cfdp_report::{
-    Hint, LineError, Nearest, NumberRange, Quote, Setting, Settings, consider_keys, parse_number,
-    parse_setting,
+    Hint, LineError, Nearest, Quote, Setting, Settings, consider_keys, parse_number, parse_setting,
 };
 use link_sim::WorldConfig;
 use std::alloc::{AllocError, Global};
@@ -20,8 +19,6 @@ pub enum SetError<'a> {
     Number { key: &'a str, value: &'a str },
     /// The value of this setting is out of its range.
     OutOfRange(Setting),
-    /// The number of a first put is none of these, which its octets can have.
-    WideNumber(NumberRange),
     /// The stations can't be set up so.
     Misfit,
 }
@@ -40,10 +37,6 @@ impl SetError<'_> {
             }
             SetError::OutOfRange(setting) => {
                 let (key, range) = (setting.key(), setting.range());
-                eprintln!(rt; "error: {key} is out of its range, {range}")
-            }
-            SetError::WideNumber(range) => {
-                let key = Setting::FirstNumber.key();
                 eprintln!(rt; "error: {key} is out of its range, {range}")
             }
             SetError::Misfit => eprintln!(rt; "error: the stations can't be set up so"),
@@ -74,13 +67,6 @@ fn value_hint(key: &str) -> Hint {
     }
 }
 
-/// The settings of a loop before the first is set: those of a script, but that NAKs are sent again
-/// until nothing is heard any more.
-const LOOP_SETTINGS: Settings = Settings {
-    nak_limit: 255,
-    ..Settings::DEFAULT
-};
-
 /// The configuration of both stations of a loop that these words set: keys, each with its value
 /// behind it.
 ///
@@ -91,7 +77,7 @@ pub fn configuration(words: &[String]) -> Result<Valid<WorldConfig>, SetError<'_
     ensures set { IfOk result (IsSetBy (map (λ word. word.bytes.items) words.now)) }
     ensures refused { OnErr result (CannotBeSet (map (λ word. word.bytes.items) words.now)) }
 {
-    let settings = match all_set(LOOP_SETTINGS, words) {
+    let settings = match all_set(Settings::DEFAULT, words) {
         Ok(settings) => settings,
         Err(error) => return Err(error),
     };
@@ -103,11 +89,8 @@ pub fn configuration(words: &[String]) -> Result<Valid<WorldConfig>, SetError<'_
 
 /// Why no stations can be set up by these settings.
 fn misfit<'a>(settings: &Settings) -> SetError<'a> {
-    if let Some(setting) = settings.out_of_range() {
-        return SetError::OutOfRange(setting);
-    }
-    match settings.wide_number() {
-        Some(range) => SetError::WideNumber(range),
+    match settings.out_of_range() {
+        Some(setting) => SetError::OutOfRange(setting),
         None => SetError::Misfit,
     }
 }

@@ -17,7 +17,8 @@ ghost use Rattle.cfdp_command_line.specs.Station.{station_asked, station_of, sto
 ghost use Rattle.cfdp_command_line.specs.Station.{told_app, unit_of_word, words_asked};
 
 use crate::arguments::{file_for, flag, is_given, owned_word, word_of};
-use crate::looping::{drop_argument, number_in, tuned};
+use crate::looping::{number_in, tuned};
+use crate::losses::{LossRequest, losses_command, losses_of};
 use crate::shown::{shown_by, shown_command};
 use cfdp_report::Shown;
 use clap::builder::ValueParser;
@@ -78,8 +79,8 @@ pub struct StationNumbers {
     pub first_number: u64,
     /// The most frames that leave in a second, up to 1,000,000; with 0 any number.
     pub rate: u64,
-    /// Each frame of that number is lost, up to 1,000,000; with 0 none is.
-    pub drop_every: u64,
+    /// Which of its frames are lost.
+    pub losses: LossRequest,
 }
 
 /// How much a station does at a time, and what it takes.
@@ -197,6 +198,9 @@ folder of --outbox or --spool, else of --inbox. --state names another file, and
 --first-number a number, for which you answer then.
 --rate N sends a frame each 1/N seconds; with 0 as fast as it can. The system
 drops what a socket has no room for, and it is sent again.
+To try what losses do: --loss P loses each datagram that it sends with a
+probability of P percent, the same ones with the same --seed, and --drop K loses
+each Kth one. Both may be given.
 
 What is wrong with the link is told on standard error at once, and then once a
 minute at most, as 'note: ..': where the peer is set up otherwise, what was
@@ -429,15 +433,14 @@ fn carried_command<'a>(alloc: Global) -> Result<Command<'a>, AllocError>
 fn own_numbers_command<'a>(alloc: Global) -> Result<Command<'a>, AllocError>
     ensures { IfOk result (IsCommand own_numbers_app) }
 {
-    numbered_command(alloc)?
-        .arg(tuned(
-            alloc,
-            "rate",
-            "N",
-            "1000",
-            "Sends N frames a second at most; 0 any number",
-        ))?
-        .arg(drop_argument(alloc))
+    let paced = numbered_command(alloc)?.arg(tuned(
+        alloc,
+        "rate",
+        "N",
+        "1000",
+        "Sends N frames a second at most; 0 any number",
+    ))?;
+    losses_command(alloc, paced)
 }
 
 /// The same without what says which frames leave.
@@ -598,7 +601,7 @@ fn station_numbers(arguments: &ArgMatches<'_>) -> Option<StationNumbers>
         idle: number_in(arguments, "idle", 0, 1_000_000)?,
         first_number: number_in(arguments, "first-number", 0, u64::MAX)?,
         rate: number_in(arguments, "rate", 0, 1_000_000)?,
-        drop_every: number_in(arguments, "drop", 0, 1_000_000)?,
+        losses: losses_of(arguments)?,
     })
 }
 

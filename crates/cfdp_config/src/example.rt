@@ -18,6 +18,8 @@ idle = 0                        # ends after N seconds in which nothing came or 
 first-number = 0                # of its first transaction; 0 the next that was never used
 rate = 1000                     # sends N frames a second at most, to 1000000; 0 any number
 drop = 0                        # loses each Kth frame, for trials; 0 loses none
+loss = 0                        # loses each frame with a probability of P percent, for trials
+seed = 1                        # where the random numbers of loss begin
 carrier = \"frames\"              # what a datagram carries: frames, packets or pdus
 unit = \"s\"                      # of the times in [set] below: s or ms
 

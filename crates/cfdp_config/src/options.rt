@@ -25,7 +25,7 @@ pub struct SettingsOption {
 }
 
 /// All options of a station but those that name a settings file, in the order of its help.
-pub const OPTIONS: [SettingsOption; 32] = [
+pub const OPTIONS: [SettingsOption; 34] = [
     SettingsOption {
         name: "id",
         kind: ValueKind::Number,
@@ -56,6 +56,14 @@ pub const OPTIONS: [SettingsOption; 32] = [
     },
     SettingsOption {
         name: "drop",
+        kind: ValueKind::Number,
+    },
+    SettingsOption {
+        name: "loss",
+        kind: ValueKind::Number,
+    },
+    SettingsOption {
+        name: "seed",
         kind: ValueKind::Number,
     },
     SettingsOption {

@@ -34,6 +34,11 @@ impl HeldFolder {
             }
         }
     }
+
+    /// Removes the part files of this folder, whose path this is: of files that never came whole.
+    pub fn clear(&self, rt: &HostRuntime, path: &str) {
+        remove_parts(rt, path);
+    }
 }
 
 fn locked(rt: &HostRuntime, path: &str) -> Result<File, LockError> {

@@ -11,7 +11,7 @@ pub mod setup;
 pub mod state_file;
 
 use crate::looping::folders::{
-    check_file, check_name, folder, folder_outbox, note_drops, tell_untold,
+    check_file, check_name, folder, folder_outbox, note_losses, tell_untold,
 };
 use crate::station::beacon::Beacon;
 use crate::station::console_door::door;
@@ -105,7 +105,7 @@ fn started_status(rt: &HostRuntime, request: &StationRequest) -> Result<u8, u8> 
 ///
 /// The exit status, where both are one, which was told on standard error.
 fn check_addresses(rt: &HostRuntime, request: &StationRequest) -> Result<(), u8> {
-    note_drops(rt, request.numbers.drop_every);
+    note_losses(rt, request.numbers.losses);
     let to = request.to.as_str();
     if to == request.listen.as_str() {
         let _ = eprintln!(rt; "error: --listen and --to are both {to}: --to is that of the peer");

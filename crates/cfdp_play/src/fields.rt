@@ -49,6 +49,7 @@ pub fn fields(alloc: Global, text: &[u8]) -> Result<Option<Vec<u8>>, AllocError>
         shape,
         form: DumpForm::Fields,
         deep: false,
+        by_tools: false,
     };
     Ok(Some(told(alloc, request, lines)?))
 }

@@ -6,7 +6,7 @@ ghost use Rattle.cfdp_play.specs.Running.{Tells};
 
 use crate::values::Values;
 use cfdp_report::{
-    Deed, Exit, Fault, FrameShape, FrameShapes, Kept, Ran, Sighting, Standing, write_trace,
+    Deed, Exit, Fault, FrameShape, FrameShapes, Kept, Ran, Reason, Sighting, Standing, write_trace,
 };
 use cfdp_station::Phase;
 use serde_json::{Value, json};
@@ -44,7 +44,7 @@ fn error_of(alloc: Global, exit: Exit) -> Result<Value, AllocError>
 {
     match exit {
         Exit::Complete | Exit::Incomplete => Ok(Value::Null),
-        Exit::BadScript(bad) => Ok(Value::String(format!(in alloc; "{bad}")?)),
+        Exit::BadScript(bad) => Ok(Value::String(format!(in alloc; "{bad}: {}", Reason(bad))?)),
         Exit::Device(fault) => Ok(Value::String(String::from_str(alloc, fault_text(fault))?)),
     }
 }

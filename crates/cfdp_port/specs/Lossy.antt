@@ -1,37 +1,84 @@
--- A wire that loses each so-manieth frame.
-use Rattle.std.specs.Prelude.{◌≡◌, ℕ, ◌-◌, ◌==◌, Bool, true, false, if◌then◌else◌}
+-- Which of the frames that are to be sent are lost, for a trial; and a wire that loses them.
+use Rattle.std.specs.Prelude.{◌≡◌, ℕ, ◌-◌, ◌*◌, ◌^◌, ◌==◌, ◌||◌, nat_lt, Bool, true, false, if◌then◌else◌, IsErr}
+use Rattle.rand_pcg.specs.Lcg.{Lcg, increment_of, started}
+use Rattle.rand_pcg.specs.Pcg.{multiplier_64, pcg32}
 use Rattle.cfdp_port.specs.Calls.{WireCall, Sent}
 
--- the wire behind it; of how many frames one is lost, 0 where none is; and how many frames it is to
--- the next one that is lost
-pub record LossyState (W : Type 0) : Type 0 where
-  pub wire : W
+-- ---- which frames are lost
+
+-- Of how many frames one is lost, 0 where none is; how many frames it is to the next one that is
+-- lost so; how many of a hundred are lost at random; and where the random generator is.
+pub record LossState : Type 0 where
   pub every : ℕ
   pub left : ℕ
+  pub percent : ℕ
+  pub dice : ℕ
 
 -- how many frames it is to the next one that is lost, once one more has left
 abbrev pub next_left : (every left : ℕ) → ℕ
 next_left every left = if left == 1 then every else left - 1
 
--- whether a call is to send a frame that is lost, and how many frames it is to the next one then
-abbrev pub is_lost : WireCall → (left : ℕ) → Bool
-is_lost (Sent frame answer) left = left == 1
-is_lost _ left = false
+-- the stream of the random generator: that of the reference
+abbrev pub dice_stream : ℕ
+dice_stream = 721347520444481703
 
-abbrev pub left_after : WireCall → (every left : ℕ) → ℕ
-left_after (Sent frame answer) every left = next_left every left
-left_after _ every left = left
+-- the random generator at this state: PCG32
+abbrev pub dice_at : ℕ → Lcg
+dice_at state = record { state = state; increment = increment_of 64 dice_stream }
+
+-- where it begins with a seed
+abbrev pub dice_of_seed : ℕ → ℕ
+dice_of_seed seed = (started 64 multiplier_64 seed (increment_of 64 dice_stream)).state
+
+-- the number below 2 ^ 32 that it gives, and where it is then
+abbrev pub thrown : ℕ → ℕ
+thrown dice = (pcg32 (dice_at dice)).0
+
+abbrev pub dice_after : ℕ → ℕ
+dice_after dice = (pcg32 (dice_at dice)).1.state
+
+-- whether a number is among the first so many hundredths of those below 2 ^ 32
+abbrev pub is_in_share : (percent number : ℕ) → Bool
+is_in_share percent number = nat_lt (number * 100) (percent * 2 ^ 32)
+
+-- The next frame is lost where it is the so-manieth one, or where the next random number is in the
+-- share of those that are lost. Both go on by one, whichever takes it.
+pub record LosesNext (old : LossState) (lost : Bool) (new : LossState) : Type 0 where
+  pub says : lost ≡ (old.left == 1 || is_in_share old.percent (thrown old.dice))
+  pub left : new.left ≡ next_left old.every old.left
+  pub dice : new.dice ≡ dice_after old.dice
+  pub every : new.every ≡ old.every
+  pub percent : new.percent ≡ old.percent
+
+-- ---- the wire
+
+-- the wire behind it, and what says which frames are lost
+pub record LossyState (W L : Type 0) : Type 0 where
+  pub wire : W
+  pub losses : L
+
+-- Of a frame that is to be sent it is asked whether that is lost; of no other call.
+abbrev pub Asks : {L : Type 0} → (L → Bool → L → Type 0) → WireCall → (lost : Bool) → (old new : L)
+    → Type 0
+Asks Loses (Sent frame answer) lost old new = Loses old lost new
+Asks Loses _ lost old new = (lost ≡ false) × (new ≡ old)
+
+-- what is answered of a frame that is lost
+abbrev pub IsRefused : WireCall → Type 0
+IsRefused (Sent frame answer) = IsErr answer
+IsRefused _ = Unit {0}
 
 -- A call of the wire behind, with its own answer; or the frame is lost, and that isn't asked.
 abbrev pub Passes : {W : Type 0} → (W → WireCall → W → Type 0) → (lost : Bool) → WireCall
     → (old new : W) → Type 0
-Passes Steps true call old new = new ≡ old
+Passes Steps true call old new = IsRefused call × (new ≡ old)
 Passes Steps false call old new = Steps old call new
 
--- Of the frames that are to be sent each so-manieth is lost; all other calls are those of the wire
--- behind it.
-pub record LosesSome {W : Type 0} (Steps : W → WireCall → W → Type 0) (old : LossyState W)
-    (call : WireCall) (new : LossyState W) : Type 0 where
-  pub passes : Passes Steps (is_lost call old.left) call old.wire new.wire
-  pub left : new.left ≡ left_after call old.every old.left
-  pub every : new.every ≡ old.every
+-- Of the frames that are to be sent those are lost of which it is said so; all other calls are those
+-- of the wire behind it.
+pub record LosesSome {W L : Type 0} (Steps : W → WireCall → W → Type 0)
+    (Loses : L → Bool → L → Type 0) (old : LossyState W L) (call : WireCall) (new : LossyState W L)
+    : Type 0 where
+  pub lost : Bool
+  pub asks : Asks Loses call lost old.losses new.losses
+  pub passes : Passes Steps lost call old.wire new.wire

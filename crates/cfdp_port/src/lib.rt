@@ -19,6 +19,7 @@
 
 mod in_order;
 mod lookout;
+mod losses;
 mod lossy_wire;
 mod pair;
 mod peer_turn;
@@ -29,6 +30,7 @@ mod wire;
 pub use in_order::{told_complete_is_published, turns_are_of_a_world};
 pub use link_sim::{Passed, Side};
 pub use lookout::Lookout;
+pub use losses::{FrameLosses, Losses};
 pub use lossy_wire::LossyWire;
 pub use pair::take_turns;
 pub use port::Port;

@@ -16,6 +16,10 @@ pub trait Lookout {
         station: &Station<O, I>,
     );
 
+    /// Hears that so many turns were taken, which are all that may be, and the transaction isn't
+    /// over.
+    fn runs_out(&mut self, _turns: u64) {}
+
     /// Hears that lines are about to be written: what it shows on a terminal gives way to them.
     fn yields(&mut self);
 

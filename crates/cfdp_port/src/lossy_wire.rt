@@ -1,69 +1,38 @@
 //! A wire that loses frames.
-ghost use Rattle.std.specs.Prelude.{◌≡◌, ◌==◌};
-ghost use Rattle.cfdp_port.specs.Lossy.{LosesSome, LossyState, next_left};
+ghost use Rattle.std.specs.Prelude.{◌≡◌};
+ghost use Rattle.cfdp_port.specs.Lossy.{LosesSome, LossyState};
 
+use crate::losses::Losses;
 use crate::wire::{PeerWire, Wire, WireFault};
 use std::marker::Model;
 
-/// A wire that loses each so-manieth of the frames that are to be sent over the wire behind it, to
-/// try what losses do. What comes, comes all.
+/// A wire that loses some of the frames that are to be sent over the wire behind it, to try what
+/// losses do. What comes, comes all.
 #[derive(Drop)]
-pub struct LossyWire<W: Wire> {
+pub struct LossyWire<W: Wire, L: Losses> {
     wire: W,
-    losses: Losses,
+    losses: L,
 }
 
-/// Of so many frames one is lost, 0 where none is; and how many it is to the next one.
-#[derive(Clone, Copy)]
-struct Losses {
-    every: u64,
-    left: u64,
-}
-
-impl Losses {
-    /// Whether the next frame is to be lost. It is counted.
-    fn is_next_lost(&mut self) -> bool
-        ensures lost { result ≡ (self.old.left == 1) }
-        ensures left { self.new.left ≡ next_left self.old.every self.old.left }
-        ensures every { self.new.every ≡ self.old.every }
-    {
-        if self.left == 1 {
-            self.left = self.every;
-            true
-        } else {
-            self.left = self.left.saturating_sub(1);
-            false
-        }
-    }
-}
-
-impl<W: Wire> Model for LossyWire<W> {
+impl<W: Wire, L: Losses> Model for LossyWire<W, L> {
     ghost use Rattle.cfdp_port.specs.Lossy.{LossyState};
 
-    ghost Value = { LossyState W };
+    ghost Value = { LossyState W L };
 
-    ghost view = { λ l. record {
-      wire = l.wire;
-      every = l.losses.every;
-      left = l.losses.left;
-    } };
+    ghost view = { λ l. record { wire = l.wire; losses = l.losses } };
 }
 
-impl<W: Wire> LossyWire<W> {
-    /// Each frame of that number is lost, from the first that is sent on; with 0 none is, with 1
-    /// all are.
-    pub fn new(wire: W, every: u64) -> Self
-        ensures { result ≡ record { wire = wire; every = every; left = every } }
+impl<W: Wire, L: Losses> LossyWire<W, L> {
+    /// The frames that these losses name are lost.
+    pub fn new(wire: W, losses: L) -> Self
+        ensures { result ≡ record { wire = wire; losses = losses } }
     {
-        LossyWire {
-            wire,
-            losses: Losses { every, left: every },
-        }
+        LossyWire { wire, losses }
     }
 }
 
-impl<W: Wire> Wire for LossyWire<W> {
-    ghost steps = { λ old call new. LosesSome W.steps old call new };
+impl<W: Wire, L: Losses> Wire for LossyWire<W, L> {
+    ghost steps = { λ old call new. LosesSome W.steps L.loses old call new };
 
     fn send(&mut self, frame: &[u8]) -> Result<(), WireFault> {
         if self.losses.is_next_lost() {
@@ -77,7 +46,7 @@ impl<W: Wire> Wire for LossyWire<W> {
     }
 }
 
-impl<W: PeerWire> PeerWire for LossyWire<W> {
+impl<W: PeerWire, L: Losses> PeerWire for LossyWire<W, L> {
     fn now(&mut self) -> u64 {
         self.wire.now()
     }

@@ -13,6 +13,7 @@ use std::alloc::AllocError;
 
 /// Takes turns until a transaction is over at both stations, or so many were taken. In a turn both
 /// are told its number as the time and send, the first one first, and then each takes what came.
+/// Where the transaction isn't over after so many, who looks on hears it.
 ///
 /// # Errors
 ///
@@ -35,7 +36,21 @@ pub fn take_turns<O: Outbox, I: Inbox, P: Outbox, J: Inbox, W: Wire, L: Lookout>
         }
         take_turn(before + 1, one, two, lookout)?;
     }
+    tell_end(id, most, one, two, lookout);
     Ok(())
+}
+
+/// Lets a lookout hear that so many turns were taken, where the transaction isn't over.
+fn tell_end<O: Outbox, I: Inbox, P: Outbox, J: Inbox, W: Wire, L: Lookout>(
+    id: TransactionId,
+    most: u64,
+    one: &Port<O, J, W>,
+    two: &Port<P, I, W>,
+    lookout: &mut L,
+) {
+    if !are_closed(id, one, two) {
+        lookout.runs_out(most);
+    }
 }
 
 /// Takes one turn.

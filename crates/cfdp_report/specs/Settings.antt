@@ -1,5 +1,5 @@
 -- What can be set, the key of each setting, and the configuration that they make.
-use Rattle.std.specs.Prelude.{ℕ, ◌≡◌, ◌+◌, ◌<◌, ◌^◌, ◌==◌, Bool, List, [], ◌∷◌, Option, Some, None, codes, nat_eq, if◌then◌else◌}
+use Rattle.std.specs.Prelude.{ℕ, ◌<◌, ◌^◌, ◌==◌, Bool, List, [], ◌∷◌, Option, Some, None, codes, nat_eq, if◌then◌else◌}
 use Rattle.std.specs.Cmp.Lexicographic.{pointwise}
 use Rattle.cfdp_directives.specs.declared.user.handler.Handler.{Handler}
 use Rattle.cfdp_directives.specs.declared.user.handler.Handler.TheVariants as does
@@ -8,7 +8,6 @@ use Rattle.cfdp_directives.specs.declared.user.limits.Limits.{Limits}
 use Rattle.cfdp_directives.specs.declared.user.limits.Times.{Times}
 use Rattle.cfdp_directives.specs.declared.user.policy.Policy.{Policy}
 use Rattle.cfdp_entity.specs.declared.config.EntityConfig.{EntityConfig}
-use Rattle.cfdp_header.specs.Header.{FitsWidth}
 use Rattle.cfdp_station.specs.declared.config.StationConfig.{StationConfig}
 use Rattle.frame_fields.specs.declared.config.FrameFields.{FrameFields}
 use Rattle.aos_frame.specs.declared.config.LinkConfig.{LinkConfig}
@@ -16,7 +15,6 @@ use Rattle.link_sim.specs.Stations as sides
 use Rattle.link_sim.specs.declared.side.Side.{Side}
 use Rattle.link_sim.specs.declared.side.Side.TheVariants.{One, Two}
 use Rattle.link_sim.specs.declared.world_config.WorldConfig.{WorldConfig}
-use Rattle.cfdp_report.specs.declared.settings.table.NumberRange.{NumberRange}
 use Rattle.cfdp_report.specs.declared.settings.table.Row.{Row}
 use Rattle.cfdp_report.specs.declared.settings.Settings.{Settings}
 use Rattle.cfdp_report.specs.declared.settings.table.Setting.{Setting}
@@ -94,16 +92,10 @@ FitSending s = (s.id_width < 256) × (s.number_width < 256) × (s.segment < 2 ^ 
 abbrev pub FitFrames : Settings → Type 0
 FitFrames s = (s.insert_zone < 256) × (s.control_field < 2) × (s.error_control < 2)
 
--- Each value fits its field. That of the number of a station's first put has `number_width` octets,
--- 1 to 8 (CCSDS 727.0-B-5, 5.1).
+-- Each value fits its field. The number of a station's first put may be any: where its octets can't
+-- have it, each put is refused.
 abbrev pub FitFields : Settings → Type 0
 FitFields s = (s.zone < 2 ^ 16) × FitFrames s × FitSending s × FitPolicy s
-    × FitsWidth s.first_number s.number_width
-
--- The number of a station's first put is greater than the greatest that so many octets can have.
-abbrev pub IsWide : Settings → NumberRange → Type 0
-IsWide s range = (range.width ≡ s.number_width) × (range.most + 1 ≡ 256 ^ s.number_width)
-    × (range.most < s.first_number)
 
 -- ---- the configuration
 

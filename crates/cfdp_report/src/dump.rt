@@ -75,6 +75,7 @@ pub fn write_frame<W: Write>(
                 error,
                 shape,
                 count,
+                form,
             };
             writeln!(out, "{refusal}{}", form.end())
         }

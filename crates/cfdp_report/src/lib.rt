@@ -23,16 +23,14 @@ pub use dump::shape::{FrameShape, FrameShapes};
 pub use dump::{write_frame, write_pdu};
 pub use exit::{Exit, Fault};
 pub use input::Input;
-pub use line_error::{BadLine, Hint, LineError, Quote};
+pub use line_error::{BadLine, Hint, LineError, Quote, Reason};
 pub use nearest::Nearest;
 pub use number::{parse_hex_octet, parse_number};
 pub use report::answer::{Answer, Answered};
 pub use report::name::Name;
 pub use report::{own_completions, write_answer, write_answers, write_indications};
 pub use settings::Settings;
-pub use settings::table::{
-    Keys, NumberRange, Range, Setting, SettingsHelp, consider_keys, parse_setting,
-};
+pub use settings::table::{Keys, Range, Setting, SettingsHelp, consider_keys, parse_setting};
 pub use watch::kept::Kept;
 pub use watch::onlooker::{Onlooker, Summary};
 pub use watch::progress::{Progress, Reception};

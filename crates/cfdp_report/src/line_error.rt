@@ -1,9 +1,9 @@
 //! Why a line of a script is bad.
-ghost use Rattle.std.specs.Prelude.{◌≡◌};
+ghost use Rattle.std.specs.Prelude.{◌≡◌, Some};
+ghost use Rattle.cfdp_report.specs.Report.Lines.{bad_script_text};
 
 use crate::report::name::Name;
-use crate::settings::table::{Keys, NumberRange, Setting};
-use link_sim::Side;
+use crate::settings::table::{Keys, Setting};
 use std::fmt;
 
 /// A bad line of a script, by its number. The first line is 1.
@@ -33,11 +33,36 @@ impl BadLine {
     }
 }
 
-/// In one line, without its end: its number, the word that is wrong, what was expected, and a hint.
+impl BadLine {
+    /// Returns `true` if it is bad only because something is to be shown of the run.
+    pub fn is_unshown(&self) -> bool {
+        matches!(self.error, LineError::Unshown)
+    }
+}
+
+/// Says which line is bad, in one line without its end.
 impl fmt::Display for BadLine {
+    ghost output = { λ bad. Some (bad_script_text bad.line) };
+
     fn fmt<W: fmt::Write>(&self, f: &mut fmt::Formatter<W>) -> fmt::Result {
-        let (line, error, word, hint) = (self.line, self.error, self.word, self.hint);
-        write!(f, "line {line}: bad script: {word}{error}{hint}")
+        write!(f, "line {}: bad script", self.line)
+    }
+}
+
+/// Why a line is bad.
+#[derive(Clone, Copy)]
+pub struct Reason(pub BadLine);
+
+/// In one line, without its end: the word that is wrong, what was expected, and a hint.
+impl fmt::Display for Reason {
+    fn fmt<W: fmt::Write>(&self, f: &mut fmt::Formatter<W>) -> fmt::Result {
+        let BadLine {
+            error,
+            word,
+            hint,
+            ..
+        } = self.0;
+        write!(f, "{word}{error}{hint}")
     }
 }
 
@@ -145,8 +170,8 @@ pub enum LineError {
     BadNumber,
     /// What stands where a lane or a number can isn't `dir` or `data`, nor such a number.
     UnknownLane,
-    /// A number of frames is 0.
-    NoFrames,
+    /// The number of a frame is 0.
+    NoFrame,
     /// A transaction isn't two numbers with a colon between.
     BadId,
     /// What a prompt asks for isn't `nak` or `keep`.
@@ -157,13 +182,8 @@ pub enum LineError {
     BadOctet,
     /// `set`, `file` or `fill` stands behind another command.
     TooLate,
-    /// A line before gave this station a file of the same name. This is its number.
-    GivenAgain { at: Side, line: usize },
     /// The last `set` leaves a setting out of its range. This is the line that set that one.
     OutOfRange { setting: Setting, line: usize },
-    /// The last `set` leaves a number of a first put that its octets can't have. These are the
-    /// numbers that they can have, and the line that set that one.
-    WideNumber { range: NumberRange, line: usize },
     /// The last `set` leaves a configuration that isn't valid.
     BadConfiguration,
     /// Something is to be shown of the run, and the command is none of a link that keeps the order
@@ -189,9 +209,9 @@ impl fmt::Display for LineError {
                 f.write_str("a number is a whole one from 0 to 18446744073709551615")
             }
             LineError::UnknownLane => f.write_str(
-                "a lane is dir or data, and a number a whole one from 1 to 18446744073709551615",
+                "a lane is dir or data, and a number a whole one up to 18446744073709551615",
             ),
-            LineError::NoFrames => f.write_str("a number of frames is 1 at least"),
+            LineError::NoFrame => f.write_str("the number of a frame is 1 or more"),
             LineError::BadId => {
                 f.write_str("a transaction is two whole numbers with a colon between, as 1:7")
             }
@@ -199,19 +219,8 @@ impl fmt::Display for LineError {
             LineError::FileTooLong => f.write_str("a file to fill has at most 1,048,576 octets"),
             LineError::BadOctet => f.write_str("an octet is two hexadecimal digits, as 0A"),
             LineError::TooLate => f.write_str("set, file and fill stand before all other commands"),
-            LineError::GivenAgain { at, line } => {
-                let station = at.entity();
-                write!(
-                    f,
-                    "station {station} was given a file of this name before, in line {line}"
-                )
-            }
             LineError::OutOfRange { setting, line } => {
                 let (key, range) = (setting.key(), setting.range());
-                write!(f, "{key}, set in line {line}, is out of its range, {range}")
-            }
-            LineError::WideNumber { range, line } => {
-                let key = Setting::FirstNumber.key();
                 write!(f, "{key}, set in line {line}, is out of its range, {range}")
             }
             LineError::BadConfiguration => {

@@ -1,18 +1,16 @@
 //! What can be set of stations.
 ghost use Rattle.std.specs.Prelude.{◌≡◌, ◌==◌, ◌<◌, ◌^◌, ◌↔◌, IsSome, IfSome};
-ghost use Rattle.cfdp_header.specs.Header.{FitsWidth};
 ghost use Rattle.link_sim.specs.Stations.{IsWorldConfig};
 ghost use Rattle.cfdp_report.specs.Settings.{pair_of, world_of, station_of, entity_of, policy_of};
 ghost use Rattle.cfdp_report.specs.Settings.{limits_of, times_of, handlers_of, handler_of, link_of};
 ghost use Rattle.cfdp_report.specs.Settings.{FitFields, FitSending, FitPolicy, FitLimits, FitTimes};
-ghost use Rattle.cfdp_report.specs.Settings.{FitFrames, FitHandlers, IsWide, fields_of};
+ghost use Rattle.cfdp_report.specs.Settings.{FitFrames, FitHandlers, fields_of};
 
 pub mod table;
 
-use crate::settings::table::{NumberRange, Setting, TABLE};
+use crate::settings::table::{Setting, TABLE};
 use cfdp_directives::{ChecksumKind, Handler, Handlers, Limits, Policy, Times};
 use cfdp_entity::EntityConfig;
-use cfdp_header::fits_width;
 use cfdp_station::{FrameFields, LinkConfig, StationConfig};
 use link_sim::{Side, WorldConfig};
 use valid_config::{Config, Valid};
@@ -133,20 +131,6 @@ impl Settings {
         None
     }
 
-    /// The numbers that the octets of a number can have, where that of a station's first put is
-    /// none of them.
-    pub fn wide_number(&self) -> Option<NumberRange>
-        ensures { IfSome result (IsWide self.now) }
-    {
-        let width = octet(self.number_width)?;
-        let numbers = 256u64.checked_pow(u32::from(width))?;
-        if self.first_number < numbers {
-            return None;
-        }
-        let most = numbers.checked_sub(1)?;
-        Some(NumberRange { width, most })
-    }
-
     /// The configuration of both stations with these values, where each fits its field and the
     /// whole is valid.
     pub fn config(&self) -> Option<Valid<WorldConfig>>
@@ -194,12 +178,8 @@ impl Settings {
         ensures same { IfSome result (λ config. config ≡ station_of self.now side) }
     {
         let (zone, fields) = (u16::try_from(self.zone).ok()?, self.fields()?);
-        let entity = EntityConfig {
-            first_number: self.first_number()?,
-            ..self.entity(side)?
-        };
         Some(StationConfig::new(
-            entity,
+            self.entity(side)?,
             link(side, zone, fields),
             link(side.other(), zone, fields),
         ))
@@ -217,20 +197,8 @@ impl Settings {
         })
     }
 
-    /// The number of a station's first put, where the octets of a number can have it.
-    fn first_number(&self) -> Option<u64>
-        ensures some { IsSome result ↔ FitsWidth self.now.first_number self.now.number_width }
-        ensures same { IfSome result (λ number. number ≡ self.now.first_number) }
-    {
-        let width = octet(self.number_width)?;
-        if fits_width(self.first_number, width) {
-            Some(self.first_number)
-        } else {
-            None
-        }
-    }
-
-    /// A station's entity. Its first number isn't looked at.
+    /// A station's entity. Its first number may be one that its octets can't have: then each put is
+    /// refused.
     fn entity(&self, side: Side) -> Option<EntityConfig>
         ensures some { IsSome result ↔ (FitSending self.now × FitPolicy self.now) }
         ensures same { IfSome result (λ config. config ≡ entity_of self.now side) }

@@ -22,7 +22,7 @@ use Rattle.cfdp_script.specs.Script.Lines as scripts
 use Rattle.cfdp_script.specs.Script.Lines.{IsFirstBad, files_of, settings_of, steps_of}
 use Rattle.cfdp_report.specs.Settings.{world_of}
 use Rattle.cfdp_script.specs.Script.Simulated.{EndsFrom, EndsReading, EndsScript, EndsText, IsSilentAt, RunsScript}
-use Rattle.cfdp_script.specs.declared.script.GivenFile.{GivenFile}
+use Rattle.cfdp_script.specs.declared.script.command.FileLine.{FileLine}
 use Rattle.cfdp_script.specs.declared.script.Step.{Step}
 use Rattle.cfdp_report.specs.declared.settings.Settings.{Settings}
 use Rattle.cfdp_report.specs.declared.exit.Exit.{Exit}
@@ -156,7 +156,7 @@ module _ (text : List ℕ) (old new : Option (List ℕ)) (law : Promises (world_
       (λ ran. run_silent exit ran.0 ran.2) ends
 
 -- a script that was read as it is, and whose commands ended so
-pub read_commands_end : (text : List ℕ) (old new : Option (List ℕ)) (exit : Exit) (config : WorldConfig) (files : List GivenFile) (steps : List Step)
+pub read_commands_end : (text : List ℕ) (old new : Option (List ℕ)) (exit : Exit) (config : WorldConfig) (files : List FileLine) (steps : List Step)
     → Promises config → config ≡ world_of (settings_of text) → files ≡ files_of text → steps ≡ steps_of text → IsFirstBad text None
     → EndsFrom exit config files steps old new → EndsText exit text old new × IsSilentAt exit old new
 read_commands_end text old new exit config files steps law c f s good ends =

@@ -1,16 +1,15 @@
 -- What is gathered line by line is what the text says.
-use Rattle.std.proofs.Common.{◌≡◌, ◌∙◌, ℕ, List, [], ◌∷◌, ◌++◌, Bool, true, false, not, refl, ap, sym, append-nil, append_assoc, Option, Some, None, if◌then◌else◌}
+use Rattle.std.proofs.Common.{◌≡◌, ◌∙◌, ℕ, List, [], ◌∷◌, ◌++◌, not, refl, ap, append-nil, append_assoc, Option, Some, None, if◌then◌else◌}
 use Rattle.std.specs.Prelude.{fold}
 use Rattle.std.specs.Option.{option_or}
 use Rattle.std.specs.List.{filter_map, cons_option}
 use Rattle.cfdp_script.specs.declared.script.command.Line.{Line}
 use Rattle.cfdp_script.specs.declared.script.command.Line.TheVariants as line
-use Rattle.cfdp_script.specs.declared.script.GivenFile.{GivenFile}
 use Rattle.cfdp_script.specs.declared.script.Step.{Step}
 use Rattle.cfdp_report.specs.Settings.{set_value}
 use Rattle.cfdp_script.specs.Script.Words.{parts, without_return}
-use Rattle.cfdp_script.specs.Script.Lines.{ReadLine, read_line, numbered, line_of, lines_of, is_skipped, is_command, front, behind, first_where, first_wrong, file_in, files_in, step_in, set_in, is_set}
-use Rattle.cfdp_script.specs.Script.Gathering.{Gathered, at_start, noted, given, before, taken, gather}
+use Rattle.cfdp_script.specs.Script.Lines.{ReadLine, read_line, numbered, line_of, lines_of, is_skipped, is_command, front, first_where, misread, file_in, step_in, set_in, is_set}
+use Rattle.cfdp_script.specs.Script.Gathering.{Gathered, at_start, noted, before, taken, gather}
 use Rattle.cfdp_report.proofs.Numerals.{by_test}
 
 -- ---- lines that are skipped do nothing
@@ -58,7 +57,7 @@ late-step number (Some (line.Command command)) rs more_lines g first more some =
     let step : Step = record { line = number; command = command } in
     more_lines (record g { steps = g.steps ++ step ∷ [] }) first (more ++ step ∷ []) (ap (λ s. s ++ step ∷ []) some) ∙ rw append_assoc refl
 late-step number (Some (line.File file)) rs more_lines g first more some =
-    ap (λ h. gather_read h rs) (before-late g.steps first more (given g number file) (noted g number) some)
+    ap (λ h. gather_read h rs) (before-late g.steps first more (record g { files = g.files ++ file ∷ [] }) (noted g number) some)
     ∙ more_lines (noted g number) first more some ∙ rw or-some refl
 late-step number (Some (line.Set setting value)) rs more_lines g first more some =
     ap (λ h. gather_read h rs) (before-late g.steps first more (record g { settings = set_value g.settings setting value; last = number }) (noted g number) some)
@@ -73,57 +72,34 @@ late (l ∷ rs) g first more some = late-step l.0 l.1 rs (late rs) g first more 
 before-early : {A : Type 0} (steps : List Step) (a b : A) → steps ≡ [] → before steps a b ≡ a
 before-early steps a b none = rw none refl
 
--- the first line that is misread, of these behind those before
-abbrev pub misread_behind : List ReadLine → List ReadLine → Option ℕ
-misread_behind passed rs = option_or (first_wrong passed (front rs)) (first_where (λ meant. not (is_command meant)) (behind rs))
-
-abbrev pub early_of : List ReadLine → Gathered → List ReadLine → Gathered
-early_of passed g rs = record {
-  files = g.files ++ files_in (front rs);
+abbrev pub early_of : Gathered → List ReadLine → Gathered
+early_of g rs = record {
+  files = g.files ++ filter_map (λ l. file_in l.1) (front rs);
   steps = filter_map (λ l. step_in l.0 l.1) rs;
   settings = fold (λ s l. set_in s l.1) g.settings (front rs);
   last = fold (λ number l. if is_set l.1 then l.0 else number) g.last (front rs);
-  wrong = option_or g.wrong (misread_behind passed rs);
+  wrong = option_or g.wrong (misread rs);
 }
 
--- the lines that were passed gave the files that there are
 abbrev Early : List ReadLine → Type 0
-Early rs = (passed : List ReadLine) (g : Gathered) → g.files ≡ files_in passed → g.steps ≡ [] → gather_read g rs ≡ early_of passed g rs
-
-cons-more : (one : Option GivenFile) (xs ys all : List GivenFile) → all ≡ xs ++ ys → cons_option one all ≡ cons_option one xs ++ ys
-cons-more None xs ys all same = same
-cons-more (Some x) xs ys all same = ap (λ zs. x ∷ zs) same
-
-one-more : (passed : List ReadLine) (l : ReadLine) → files_in (passed ++ l ∷ []) ≡ files_in passed ++ files_in (l ∷ [])
-one-more [] l = refl
-one-more (p ∷ passed) l = cons-more (file_in p.0 p.1) (files_in passed) (files_in (l ∷ [])) (files_in (passed ++ l ∷ [])) (one-more passed l)
-
--- what was wrong first, where this line may be
-wrong-more : (again : Bool) (w : Option ℕ) (n : ℕ) (x y : Option ℕ) → option_or (if again then option_or w (Some n) else w) (option_or x y) ≡ option_or w (option_or (if again then Some n else x) y)
-wrong-more true w n x y = or-some w n (option_or x y)
-wrong-more false w n x y = refl
+Early rs = (g : Gathered) → g.steps ≡ [] → gather_read g rs ≡ early_of g rs
 
 early-step : (number : ℕ) (meant : Option Line) (rs : List ReadLine) → Early rs → Early ((number, meant) ∷ rs)
-early-step number None rs more_lines passed g same none =
-    more_lines (passed ++ (number, None) ∷ []) (noted g number) (same ∙ sym (one-more passed (number, None) ∙ append-nil (files_in passed))) none ∙ rw or-some refl
-early-step number (Some (line.Command command)) rs more_lines passed g same none =
+early-step number None rs more_lines g none = more_lines (noted g number) none ∙ rw or-some refl
+early-step number (Some (line.Command command)) rs more_lines g none =
     let step : Step = record { line = number; command = command } in
     late rs (record g { steps = g.steps ++ step ∷ [] }) step [] (ap (λ s. s ++ step ∷ []) none) ∙ rw (none, append-nil g.files) refl
-early-step number (Some (line.File file)) rs more_lines passed g same none =
-    let l : ReadLine = (number, Some (line.File file)) in
-    let one : GivenFile = record { line = number; file = file } in
-    ap (λ h. gather_read h rs) (before-early g.steps (given g number file) (noted g number) none)
-    ∙ more_lines (passed ++ l ∷ []) (given g number file) (ap (λ fs. fs ++ one ∷ []) same ∙ sym (one-more passed l)) none
-    ∙ rw (append_assoc, same, wrong-more) refl
-early-step number (Some (line.Set setting value)) rs more_lines passed g same none =
-    let l : ReadLine = (number, Some (line.Set setting value)) in
+early-step number (Some (line.File file)) rs more_lines g none =
+    ap (λ h. gather_read h rs) (before-early g.steps (record g { files = g.files ++ file ∷ [] }) (noted g number) none)
+    ∙ more_lines (record g { files = g.files ++ file ∷ [] }) none ∙ rw append_assoc refl
+early-step number (Some (line.Set setting value)) rs more_lines g none =
     ap (λ h. gather_read h rs) (before-early g.steps (record g { settings = set_value g.settings setting value; last = number }) (noted g number) none)
-    ∙ more_lines (passed ++ l ∷ []) (record g { settings = set_value g.settings setting value; last = number }) (same ∙ sym (one-more passed l ∙ append-nil (files_in passed))) none
+    ∙ more_lines (record g { settings = set_value g.settings setting value; last = number }) none
 
 early : (rs : List ReadLine) → Early rs
-early [] passed g same none = rw (append-nil g.files, or-none g.wrong) (ap (λ s. record g { steps = s }) none)
-early (l ∷ rs) passed g same none = early-step l.0 l.1 rs (early rs) passed g same none
+early [] g none = rw (append-nil g.files, or-none g.wrong) (ap (λ s. record g { steps = s }) none)
+early (l ∷ rs) g none = early-step l.0 l.1 rs (early rs) g none
 
 -- what a whole text gives
-pub gathers : (text : List ℕ) → gather at_start (numbered 1 (parts 10 text)) ≡ early_of [] at_start (lines_of text)
-gathers text = skipped at_start (numbered 1 (parts 10 text)) ∙ early (lines_of text) [] at_start refl refl
+pub gathers : (text : List ℕ) → gather at_start (numbered 1 (parts 10 text)) ≡ early_of at_start (lines_of text)
+gathers text = skipped at_start (numbered 1 (parts 10 text)) ∙ early (lines_of text) at_start refl

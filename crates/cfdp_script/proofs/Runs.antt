@@ -24,9 +24,8 @@ use Rattle.cfdp_report.proofs.TextLines.{lines-none, lines-more, lines_joined, l
 use Rattle.cfdp_script.specs.Dump.{TellsPiece, WritesPieces, WritesText, lines}
 use Rattle.cfdp_script.specs.Dump.Rows.{Bad, Octets, Piece, Step, ended, pieces, step}
 use Rattle.cfdp_script.specs.Dump.Stepping.{ended_pieces}
-use Rattle.cfdp_script.specs.Script.Words.{without_return}
 use Rattle.cfdp_report.specs.Dump.Shape.{channel_in}
-use Rattle.cfdp_report.specs.Dump.Refusal.{refusal_text}
+use Rattle.cfdp_report.specs.Dump.Refusal.{has_details, refusal_text}
 use Rattle.cfdp_report.specs.Dump.Told.{TellsAsFrame, TellsAsPdu, end_of}
 use Rattle.cfdp_report.specs.declared.dump.refusal.Refusal.TheVariants.{Hex}
 use Rattle.cfdp_script.specs.Dump.Told.{AsFrame, AsPdu, BadHex, IsSaidOf, Says, TellsTold, Told, carried_told, packet_remark, packet_told, pdu_in, place_text}
@@ -143,32 +142,32 @@ piece_bad request channels before digits (Ok x) old new wrote =
 -- of the lines in front of what is left all pieces are told that are whole
 pub record LinesFront (request : DumpRequest) (text rest : List ℕ) (begun : Option (List ℕ)) (after : List Channel) (old new : Option (List ℕ)) : Type 0 where
   pub front : List Piece
-  pub cut : pieces None (lines text) ≡ front ++ pieces begun (lines rest)
+  pub cut : pieces request.by_tools None (lines text) ≡ front ++ pieces request.by_tools begun (lines rest)
   pub told : WritesRun (TellsPiece request) request front after old new
 
 pub lines-front : (request : DumpRequest) (text : List ℕ) (out : Option (List ℕ)) → LinesFront request text text None [] out out
 lines-front request text out = record { front = []; cut = refl; told = writes-none (TellsPiece request) request out }
 
 -- one line more
-pieces-more : (begun : Option (List ℕ)) (all : List (List ℕ)) (line bare : List ℕ) (others : List (List ℕ)) (s : Step) → all ≡ line ∷ others → bare ≡ without_return line
-    → s ≡ step begun bare → pieces begun all ≡ s.whole ++ pieces s.begun others
+pieces-more : (by_tools : Bool) (begun : Option (List ℕ)) (all : List (List ℕ)) (line : List ℕ) (others : List (List ℕ)) (s : Step) → all ≡ line ∷ others
+    → s ≡ step by_tools begun line → pieces by_tools begun all ≡ s.whole ++ pieces by_tools s.begun others
 unfolding pieces
-pieces-more begun all line bare others s cut same is = rw (cut, is, same) refl
+pieces-more by_tools begun all line others s cut is = rw (cut, is) refl
 
-pub lines-behind : (request : DumpRequest) (text old_rest line bare rest : List ℕ) (begun : Option (List ℕ)) (s : Step) (mid after : List Channel) (old between new : Option (List ℕ))
-    → lines old_rest ≡ line ∷ lines rest → bare ≡ without_return line → s ≡ step begun bare → LinesFront request text old_rest begun mid old between
+pub lines-behind : (request : DumpRequest) (text old_rest line rest : List ℕ) (begun : Option (List ℕ)) (s : Step) (mid after : List Channel) (old between new : Option (List ℕ))
+    → lines old_rest ≡ line ∷ lines rest → s ≡ step request.by_tools begun line → LinesFront request text old_rest begun mid old between
     → WritesPieces request s.whole mid after between new → LinesFront request text rest s.begun after old new
-lines-behind request text old_rest line bare rest begun s mid after old between new cut same is before more = record {
+lines-behind request text old_rest line rest begun s mid after old between new cut is before more = record {
   front = before.front ++ s.whole;
-  cut = before.cut ∙ ap (λ l. before.front ++ l) (pieces-more begun (lines old_rest) line bare (lines rest) s cut same is)
-      ∙ sym (append_assoc before.front s.whole (pieces s.begun (lines rest)));
+  cut = before.cut ∙ ap (λ l. before.front ++ l) (pieces-more request.by_tools begun (lines old_rest) line (lines rest) s cut is)
+      ∙ sym (append_assoc before.front s.whole (pieces request.by_tools s.begun (lines rest)));
   told = run-more (TellsPiece request) request before.front mid s.whole after old between new before.told more;
 }
 
 -- the last one
-pieces-end : (begun : Option (List ℕ)) → pieces begun [] ≡ ended begun
+pieces-end : (by_tools : Bool) (begun : Option (List ℕ)) → pieces by_tools begun [] ≡ ended begun
 unfolding pieces
-pieces-end begun = refl
+pieces-end by_tools begun = refl
 
 -- a unit that is begun and ends
 pub ended_told : {E : Type 0} (request : DumpRequest) (begun : Option (Vec ℕ Global)) (mid after : List Channel) (r : Result (Unit {0}) E) (old new : Option (List ℕ))
@@ -181,7 +180,7 @@ pub lines-end : {E : Type 0} (request : DumpRequest) (text rest : List ℕ) (beg
     → OnOk r (WritesText request text old new)
 lines-end request text rest begun mid after (Err e) old between new none before more = tt
 lines-end request text rest begun mid after (Ok x) old between new none before more =
-    let whole = before.cut ∙ ap (λ l. before.front ++ l) (ap (pieces begun) none ∙ pieces-end begun) in
+    let whole = before.cut ∙ ap (λ l. before.front ++ l) (ap (pieces request.by_tools begun) none ∙ pieces-end request.by_tools begun) in
     record {
       after = after;
       written = subst (λ l. WritesRun (TellsPiece request) request l after old new) (sym whole)
@@ -309,14 +308,15 @@ places_more P n before now k below = elim (cases_Bool (k == n)) [
   | inr other ↦ (let apart = eqb-false k n other in before k (omega (arith, below, apart)))
 ]
 
-pub bad_line : {E : Type 0} (request : DumpRequest) (before : ℕ) (line : List ℕ) (column : Option ℕ) (end : List ℕ) (r : Result (Unit {0}) E) (old new : Option (List ℕ)) → IsSaidOf before line column
-    → end ≡ end_of request.form → OnOk r (Appends old new (refusal_text Hex ++ (place_text column ++ (end ++ 10 ∷ [])))) → OnOk r (WritesLine (TellsTold request (BadHex before line)) old new)
-bad_line request before line column end (Err e) old new said same written = tt
-bad_line request before line column end (Ok x) old new said same written = record {
-  text = refusal_text Hex ++ (place_text column ++ end);
-  such = record { column = column; said = said; words = ap (λ l. refusal_text Hex ++ (place_text column ++ l)) same };
+pub bad_line : {E : Type 0} (request : DumpRequest) (before : ℕ) (line : List ℕ) (column : Option ℕ) (told : Bool) (end : List ℕ) (r : Result (Unit {0}) E) (old new : Option (List ℕ)) → IsSaidOf request.by_tools before line column
+    → told ≡ has_details request.form → end ≡ end_of request.form → OnOk r (Appends old new (refusal_text Hex ++ (place_text told column ++ (end ++ 10 ∷ []))))
+    → OnOk r (WritesLine (TellsTold request (BadHex before line)) old new)
+bad_line request before line column told end (Err e) old new said details same written = tt
+bad_line request before line column told end (Ok x) old new said details same written = record {
+  text = refusal_text Hex ++ (place_text told column ++ end);
+  such = record { column = column; said = said; words = rw (details, same) refl };
   written = subst (λ l. Appends old new l)
-      (sym (append_assoc (refusal_text Hex) (place_text column ++ end) (10 ∷ []) ∙ ap (λ l. refusal_text Hex ++ l) (append_assoc (place_text column) end (10 ∷ [])))) written;
+      (sym (append_assoc (refusal_text Hex) (place_text told column ++ end) (10 ∷ []) ∙ ap (λ l. refusal_text Hex ++ l) (append_assoc (place_text told column) end (10 ∷ [])))) written;
 }
 
 -- ---- what can't be read of a capture

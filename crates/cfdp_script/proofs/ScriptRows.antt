@@ -127,15 +127,3 @@ last = refl
 bad : first_misread text ≡ Some 6
 unfolding first_misread parts onto_first
 bad = refl
-
--- a name at both stations, and then twice at one
-abbrev given : List ℕ
-given = codes "file 1 a x" ++ 10 ∷ codes "file 2 a y"
-
-both : first_misread given ≡ None
-unfolding first_misread parts onto_first
-both = refl
-
-twice : first_misread (given ++ 10 ∷ codes "fill 2 b 1 00" ++ 10 ∷ codes "fill 1 a 1 00") ≡ Some 4
-unfolding first_misread parts onto_first
-twice = refl

@@ -3,7 +3,7 @@ pub mod Rows
 pub mod Stepping
 pub mod Told
 pub mod Units
-use Rattle.std.specs.Prelude.{ℕ, ◌<◌, ◌≤◌, ◌==◌, List, [], ◌∷◌, length, if◌then◌else◌, Option, None, IfSome, MatchOption}
+use Rattle.std.specs.Prelude.{ℕ, ◌<◌, ◌≤◌, ◌==◌, ◌||◌, is_some, List, [], ◌∷◌, length, if◌then◌else◌, Option, None, IfSome, MatchOption}
 use Rattle.std.specs.Io.KnownBytes.{Keeps}
 use Rattle.captures.specs.Captures.{SpellsTo, start_of}
 use Rattle.captures.specs.Packets.{CaptureState, ItemText}
@@ -49,7 +49,8 @@ pub record WritesCapture (request : DumpRequest) (start : CaptureState) (file : 
 pub record WritesText (request : DumpRequest) (text : List ℕ) (old new : Option (List ℕ))
     : Type 0 where
   pub after : List Channel
-  pub written : WritesRun (TellsPiece request) request (pieces None (lines text)) after old new
+  pub written : WritesRun (TellsPiece request) request
+      (pieces request.by_tools None (lines text)) after old new
 
 -- A file is read as a capture where it begins as one, else as lines.
 abbrev pub WritesFile : DumpRequest → (file : List ℕ) → (old new : Option (List ℕ)) → Type 0
@@ -57,20 +58,25 @@ WritesFile request file old new =
     MatchOption (start_of file) (WritesText request file old new)
     (λ start. WritesCapture request start file old new)
 
+-- how many octets a file has at most: 64 MiB as a capture or as tools write it, else 1 MiB
+abbrev pub most_octets : DumpRequest → (file : List ℕ) → ℕ
+most_octets request file =
+    if request.by_tools || is_some (start_of file) then 67108864 else 1048576
+
 -- A file isn't too long to be read, where it is known.
-abbrev pub IsShort : Option (List ℕ) → Type 0
-IsShort left = IfSome left (λ file. length file ≤ 67108864)
+abbrev pub IsShort : DumpRequest → Option (List ℕ) → Type 0
+IsShort request left = IfSome left (λ file. length file ≤ most_octets request file)
 
 -- How a dump ends, by what the reader has left and what the writer holds before and after. Complete
 -- says that all was told. Where the lines couldn't be read, or are too many, nothing is
 -- written. Where a line couldn't be written, or there was no memory for it, all had been read; of
 -- what was written nothing is said, as no writer says what it took of a text before it failed.
 abbrev pub EndsDump : DumpRequest → (left old new : Option (List ℕ)) → Exit → Type 0
-EndsDump request left old new Complete = IsShort left
+EndsDump request left old new Complete = IsShort request left
     × IfSome left (λ file. WritesFile request file old new)
-EndsDump request left old new (Device Unwritable) = IsShort left
-EndsDump request left old new (Device NoMemory) = IsShort left
-EndsDump request left old new (Device TooLong) = IfSome left (λ file. 67108864 < length file)
-    × Keeps old new
+EndsDump request left old new (Device Unwritable) = IsShort request left
+EndsDump request left old new (Device NoMemory) = IsShort request left
+EndsDump request left old new (Device TooLong) =
+    IfSome left (λ file. most_octets request file < length file) × Keeps old new
 EndsDump request left old new (Device fault) = Keeps old new
 EndsDump request left old new _ = ⊥

@@ -1,5 +1,5 @@
 //! Dumps: what lines of hexadecimal digits spell, or what the packets of a capture carry.
-ghost use Rattle.std.specs.Prelude.{◌≡◌, ◌<◌, ◌∷◌, length, IfOk, OnOk};
+ghost use Rattle.std.specs.Prelude.{◌≡◌, ◌<◌, ◌≤◌, ◌∷◌, length, nat_le, IfOk, OnOk};
 ghost use Rattle.std.specs.Io.Buffered.{writer_buffer, writer_contents};
 ghost use Rattle.std.specs.Option.{option_map};
 ghost use Rattle.std.specs.Result.{result_ok};
@@ -7,6 +7,7 @@ ghost use Rattle.hex.specs.Hex.{decode_of};
 ghost use Rattle.cfdp_report.specs.Dump.Shape.{IsShape};
 ghost use Rattle.cfdp_report.specs.Exit.{IsFlushedAt};
 ghost use Rattle.cfdp_script.specs.Dump.{EndsDump, WritesFile, WritesPieces, WritesText};
+ghost use Rattle.cfdp_script.specs.Dump.{most_octets};
 ghost use Rattle.cfdp_script.specs.Dump.Rows.{hex_octets};
 ghost use Rattle.cfdp_script.specs.Dump.Rows as rows;
 ghost use Rattle.cfdp_script.specs.Dump.Stepping.{ended_pieces, piece_texts};
@@ -25,11 +26,10 @@ use crate::dump::bad_hex::BadPlace;
 use crate::dump::capture::write_capture;
 use crate::dump::step::{Piece, take_line};
 use crate::dump::unit::write_unit;
-use crate::input::{MAX_FILE, read_up_to, write_fault};
-use crate::script::without_return;
+use crate::input::{MAX_FILE, MAX_SCRIPT, read_up_to, write_fault};
 use crate::script::words::cut_at_first;
 use captures::Capture;
-use cfdp_report::{DumpForm, Exit, FrameShape, Refusal};
+use cfdp_report::{DumpForm, Exit, Fault, FrameShape, Refusal};
 use hex::FromHexError;
 use std::alloc::{AllocError, Global};
 use std::io;
@@ -57,16 +57,19 @@ pub struct DumpRequest {
     pub form: DumpForm,
     /// Whether what frames carry is told, too: their packets, and the PDUs in these.
     pub deep: bool,
+    /// Whether lines are read as tools write them that show octets.
+    pub by_tools: bool,
 }
 
-/// Reads a file to its end, and writes what it spells: a capture, where it begins as one, else
-/// lines of hexadecimal digits.
+/// Reads a file to its end, and writes what it spells: a capture if it begins as one, else lines of
+/// hexadecimal digits.
 ///
-/// Of a line it writes one that says what it spells, or with fields a line for each and an empty
-/// one. Lines end with a line feed, which the last needs not and which may have a carriage return
-/// in front; an empty line is no octets. Spaces may stand anywhere between the digits, and `0x`
-/// behind a space or at the line's beginning. Lines that begin with an offset, as `xxd`,
-/// `hexdump -C` and Wireshark write them, are read as one.
+/// For each line it writes one that says what the line spells, or with fields a line for each and an
+/// empty one. A line is pairs of digits, of either case, and ends with a line feed, which the last
+/// one may lack; an empty line is no octets. With `by_tools` spaces may stand anywhere between the
+/// digits, `0x` may stand after a space or at the line's beginning, a carriage return may stand at
+/// its end, and lines that begin with an offset, as `xxd`, `hexdump -C` and Wireshark write them,
+/// are read as one.
 ///
 /// Of a capture it does the same for the payload of each UDP datagram, or for what was captured
 /// as it is, and names what it can't read.
@@ -75,10 +78,10 @@ pub struct DumpRequest {
 /// and channel. Of PDUs `shape` says nothing. Where `deep` is true, behind a frame stands what it
 /// carries, by the frames before it.
 ///
-/// The answer is `Complete` whatever the lines say, once all have left the buffer. It is `Device`
-/// where they couldn't be read, as `read_up_to` says of 64 MiB, where a line couldn't be written,
-/// or where there was no memory. Nothing is written unless all was read, and nothing is written
-/// twice.
+/// The answer is `Complete` whatever the lines say, once all have left the buffer. It is `Device` if
+/// they couldn't be read, as `read_up_to` says, or are more than 1 MiB of digits alone or 64 MiB of
+/// anything else; if a line couldn't be written; or if there was no memory. Nothing is written
+/// unless all was read, and nothing is written twice.
 pub fn run_dump<R: Read + Drop, W: Write + Drop>(
     alloc: Global,
     request: DumpRequest,
@@ -108,10 +111,21 @@ pub fn dump_lines<R: Read + Drop, W: Write>(
         Ok(file) => file,
         Err(fault) => return Exit::Device(fault),
     };
+    if !is_short(alloc, request, file.as_slice()) {
+        return Exit::Device(Fault::TooLong);
+    }
     match write_dump(alloc, request, file.as_slice(), out) {
         Ok(()) => Exit::Complete,
         Err(error) => Exit::Device(write_fault(&error)),
     }
+}
+
+/// Returns `true` if a file has no more octets than are read of one of its kind.
+fn is_short(alloc: Global, request: DumpRequest, file: &[u8]) -> bool
+    requires { length file.now ≤ MAX_FILE }
+    ensures { result ≡ nat_le (length file.now) (most_octets request file.now) }
+{
+    request.by_tools || file.len() <= MAX_SCRIPT || Capture::of(alloc, file).is_some()
 }
 
 /// Writes what a file spells: a capture, where it begins as one, else lines.
@@ -155,7 +169,7 @@ fn write_lines<W: Write>(
     let mut rest = text;
     while !rest.is_empty() {
         let (line, behind) = cut_line(rest);
-        let step = take_line(alloc, begun, without_return(line))?;
+        let step = take_line(alloc, request.by_tools, begun, line)?;
         write_ended(request, step.ended, &mut channels, out)?;
         write_piece(request, step.piece, &mut channels, out)?;
         begun = step.begun;
@@ -235,7 +249,7 @@ fn write_bad_hex<W: Write>(
     ensures { OnOk result (WritesLine (TellsTold request (BadHex before digits.now))
         (W.contents out.old) (W.contents out.new)) }
 {
-    let place = BadPlace::of(before, digits);
+    let place = BadPlace::of(request, before, digits);
     writeln!(out, "{}{place}{}", Refusal::Hex, request.form.end())
 }
 

@@ -17,4 +17,4 @@ pub use script::perform::damaged;
 pub use script::report::{asked_puts, write_inbox};
 pub use script::sim::{run_sim, run_text};
 pub use script::words::{Words, cut_at_first};
-pub use script::{GivenFile, Script, Step};
+pub use script::{Script, Step};

@@ -1,13 +1,11 @@
 //! Scripts, from their text to their run.
-ghost use Rattle.std.specs.Prelude.{◌≡◌, ◌≤◌, None, Some, length, option_map, is_some};
-ghost use Rattle.std.specs.Prelude.{IfOk, IfErr, OnOk};
+ghost use Rattle.std.specs.Prelude.{◌≡◌, ◌≤◌, None, Some, length, option_map, IfOk, IfErr, OnOk};
 ghost use Rattle.cfdp_report.specs.Settings.{world_of};
 ghost use Rattle.cfdp_script.specs.Script.Words.{parts, without_return};
 ghost use Rattle.cfdp_script.specs.Script.Lines as scripts;
 ghost use Rattle.cfdp_script.specs.Script.Lines.{files_of, steps_of, settings_of, numbered};
-ghost use Rattle.cfdp_script.specs.Script.Lines.{IsFirst, is_among};
+ghost use Rattle.cfdp_script.specs.Script.Lines.{IsFirst};
 ghost use Rattle.cfdp_script.specs.Script.Gathering.{gathered, noted, taken, read_cut, gather};
-ghost use Rattle.cfdp_script.specs.Script.Gathering.{given};
 
 pub mod command;
 pub mod outboxes;
@@ -20,7 +18,7 @@ pub mod words;
 
 use crate::input::MAX_SCRIPT;
 use crate::script::command::{Command, FileLine, Line, Unread, parse_line};
-use crate::script::reason::{bad_line, given_again};
+use crate::script::reason::bad_line;
 use crate::script::words::cut_at_first;
 use cfdp_report::{BadLine, Hint, LineError, Quote, Setting, Settings};
 use link_sim::WorldConfig;
@@ -30,20 +28,13 @@ use valid_config::Valid;
 /// A script, read to its end.
 #[derive(Drop)]
 pub struct Script {
-    pub files: Vec<GivenFile>,
+    pub files: Vec<FileLine>,
     pub steps: Vec<Step>,
     settings: Settings,
     last_set: usize,
     // The line of the last `set` of each setting, in the order of `Setting`; 0 without one.
     set_lines: [usize; 20],
     first_bad: Option<BadLine>,
-}
-
-/// A file that a script gives a station, and the number of its line. The first line is 1.
-#[derive(Drop)]
-pub struct GivenFile {
-    pub line: usize,
-    pub file: FileLine,
 }
 
 /// A command and the number of its line. The first line is 1.
@@ -138,21 +129,10 @@ impl Script {
             ≡ taken (gathered self.old) line (Some (Line.File file))) }
     {
         if self.steps.is_empty() {
-            self.give(line, file)
+            self.files.push(file)?;
         } else {
             self.note(BadLine::whole(line, LineError::TooLate));
-            Ok(())
         }
-    }
-
-    /// Keeps a file. Its line is bad where one of its station and its name was given before.
-    fn give(&mut self, line: usize, file: FileLine) -> Result<(), AllocError>
-        ensures { OnOk result (gathered self.new ≡ given (gathered self.old) line file) }
-    {
-        if let Some(before) = line_that_gave(self.files.as_slice(), &file) {
-            self.note(given_again(line, &file, before));
-        }
-        self.files.push(GivenFile { line, file })?;
         Ok(())
     }
 
@@ -218,7 +198,7 @@ impl Script {
     }
 
     /// Why the configuration isn't valid: the first setting that is out of its range, and the line
-    /// that set it; where none is, the first number, which its octets can't have.
+    /// that set it.
     fn out_of_range(&self) -> LineError {
         if let Some(setting) = self.settings.out_of_range() {
             return LineError::OutOfRange {
@@ -226,27 +206,8 @@ impl Script {
                 line: set_line(&self.set_lines, setting),
             };
         }
-        match self.settings.wide_number() {
-            Some(range) => LineError::WideNumber {
-                range,
-                line: set_line(&self.set_lines, Setting::FirstNumber),
-            },
-            None => LineError::BadConfiguration,
-        }
+        LineError::BadConfiguration
     }
-}
-
-/// The line of the first of these files that is of the same station and the same name as another
-/// one; `None` where none is.
-pub fn line_that_gave(files: &[GivenFile], file: &FileLine) -> Option<usize>
-    ensures { is_some result ≡ is_among file.now files.now }
-{
-    for given in files {
-        if given.file.is_same_file(file) {
-            return Some(given.line);
-        }
-    }
-    None
 }
 
 /// Notes which line set a setting last.

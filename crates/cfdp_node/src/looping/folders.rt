@@ -5,9 +5,9 @@ ghost use Rattle.cfdp_node.specs.Looping.Asked.{AreAsked, AreFor};
 use crate::looping::telling::{LoopLookout, TellingInbox, TellingOutbox};
 use crate::looping::{LoopEnds, LoopOptions, run_loop};
 use crate::wire::udp::UdpWire;
-use cfdp_command_line::LoopRequest;
+use cfdp_command_line::{LoopRequest, LossRequest};
 use cfdp_host::{HeldFolder, fault_text};
-use cfdp_port::{Lookout, LossyWire, Wire};
+use cfdp_port::{FrameLosses, Lookout, LossyWire, Wire};
 use cfdp_report::{
     Exit, Fault, Input, Name, Onlooker, Progress, Ran, Screen, cause_text, shown_status,
 };
@@ -28,6 +28,9 @@ const MISTAKE: u8 = 2;
 
 /// The exit status where a folder, a file, a socket or memory failed.
 const DEVICE: u8 = 3;
+
+/// The most turns that may be asked for, by the grammar of `loop`.
+const MOST_TURNS: u64 = 1_000_000;
 
 /// Sends the file that is asked for, writes the report to standard output, and says on standard
 /// error what went wrong. Answers the exit status.
@@ -60,27 +63,34 @@ fn from_folder(
     }
 }
 
-/// The wires of both stations.
-type LossyWires = (LossyWire<UdpWire>, LossyWire<UdpWire>);
+/// The wire of a station, which loses frames by a count that both stations share.
+type SharedWire<'a> = LossyWire<UdpWire, &'a Cell<FrameLosses>>;
 
 /// The wires that the file goes over, and the folder that it goes into.
+type Way<'a> = ((SharedWire<'a>, SharedWire<'a>), HeldFolder);
+
+/// The wires that the file goes over, which lose frames by this count, and the folder that it goes
+/// into.
 ///
 /// # Errors
 ///
 /// The exit status, where something is wrong, which was told on standard error.
-fn way(rt: &HostRuntime, request: &LoopRequest) -> Result<(LossyWires, HeldFolder), u8> {
+fn way<'a>(
+    rt: &HostRuntime,
+    request: &LoopRequest,
+    losses: &'a Cell<FrameLosses>,
+) -> Result<Way<'a>, u8> {
     let from = folder(rt, request.from.as_str())?;
     let to = folder(rt, request.to.as_str())?;
     if from.dev() == to.dev() && from.ino() == to.ino() {
         let _ = eprintln!(rt; "error: {} and {} are one folder", request.from, request.to);
         return Err(MISTAKE);
     }
-    note_drops(rt, request.drop_every);
+    note_losses(rt, request.losses);
     let held = HeldFolder::take(rt, request.to.as_str())?;
     match UdpWire::pair(rt) {
         Ok((one, two)) => {
-            let every = request.drop_every;
-            let wires = (LossyWire::new(one, every), LossyWire::new(two, every));
+            let wires = (LossyWire::new(one, losses), LossyWire::new(two, losses));
             Ok((wires, held))
         }
         Err(error) => {
@@ -94,10 +104,18 @@ fn way(rt: &HostRuntime, request: &LoopRequest) -> Result<(LossyWires, HeldFolde
 }
 
 /// Says on standard error where no frame is left of those that are sent.
-pub fn note_drops(rt: &HostRuntime, drop_every: u64) {
-    if drop_every == 1 {
+pub fn note_losses(rt: &HostRuntime, losses: LossRequest) {
+    if losses.every == 1 {
         let _ = eprintln!(rt; "note: --drop 1 loses each frame; --drop 2 loses every second one");
+    } else if losses.percent == 100 {
+        let _ = eprintln!(rt; "note: --loss 100 loses each frame; --loss 50 loses half of them");
     }
+}
+
+/// The losses that are asked for, of which none was counted yet.
+pub fn frame_losses(losses: LossRequest) -> FrameLosses {
+    let percent = u32::try_from(losses.percent).unwrap_or(u32::MAX);
+    FrameLosses::new(losses.every, percent, losses.seed)
 }
 
 /// Looks whether a file in a folder may have this name.
@@ -209,7 +227,8 @@ fn sent_status<O: Outbox>(
     told: &Cell<bool>,
     progress: &Progress<'_>,
 ) -> u8 {
-    match way(rt, request) {
+    let losses = Cell::new(frame_losses(request.losses));
+    match way(rt, request, &losses) {
         Ok((wires, _held)) => {
             let ran = sent(rt, request, options, outbox, wires, told, progress);
             tell_untold(rt, ran.exit, told);
@@ -266,8 +285,11 @@ fn sent_over<O: Outbox, I: Inbox, W: Wire>(
     };
     match Onlooker::new(screen, options.config, &request.shown) {
         Ok(onlooker) => {
-            let mut lookout = LoopLookout { onlooker, progress };
+            let mut lookout = LoopLookout::new(onlooker, progress);
             let exit = reported(rt, options, ends, &mut lookout);
+            if let Some(turns) = lookout.used_up {
+                note_turns(rt, turns);
+            }
             Ran {
                 exit,
                 seen: lookout.onlooker.into_summary(),
@@ -275,6 +297,21 @@ fn sent_over<O: Outbox, I: Inbox, W: Wire>(
         }
         Err(AllocError) => Ran::unseen(Exit::Device(Fault::NoMemoryAtStart)),
     }
+}
+
+/// Says on standard error that so many turns were taken, and the transfer was not over.
+fn note_turns(rt: &HostRuntime, turns: u64) {
+    let noun = if turns == 1 { "turn" } else { "turns" };
+    let _ = if turns < MOST_TURNS {
+        eprintln!(rt;
+            "note: the transfer was not over after {turns} {noun}; --turns allows more, up to \
+             {MOST_TURNS}"
+        )
+    } else {
+        eprintln!(rt;
+            "note: the transfer was not over after {turns} {noun}, the most that --turns allows"
+        )
+    };
 }
 
 /// Sends the file, and writes the report to standard output. Its buffer is there before the first

@@ -14,6 +14,19 @@ use std::cell::Cell;
 pub struct LoopLookout<'a> {
     pub onlooker: Onlooker<'a>,
     pub progress: &'a Progress<'a>,
+    /// How many turns were taken, where those were all and the transfer wasn't over.
+    pub used_up: Option<u64>,
+}
+
+impl<'a> LoopLookout<'a> {
+    /// One who has seen nothing yet.
+    pub fn new(onlooker: Onlooker<'a>, progress: &'a Progress<'a>) -> LoopLookout<'a> {
+        LoopLookout {
+            onlooker,
+            progress,
+            used_up: None,
+        }
+    }
 }
 
 impl Lookout for LoopLookout<'_> {
@@ -32,6 +45,10 @@ impl Lookout for LoopLookout<'_> {
         }
         self.progress.goes_on();
         self.onlooker.sees(side, passed, station);
+    }
+
+    fn runs_out(&mut self, turns: u64) {
+        self.used_up = Some(turns);
     }
 
     fn yields(&mut self) {

@@ -1,5 +1,5 @@
 //! A station that serves its operator over its stores, from its first turn to its last.
-use crate::looping::folders::folder_outbox;
+use crate::looping::folders::{folder_outbox, frame_losses};
 use crate::looping::telling::{LoopLookout, TellingInbox, TellingNoInbox, TellingOutbox};
 use crate::station::exchange::Exchange;
 use crate::station::notices::Notices;
@@ -123,7 +123,7 @@ fn ran_over<'a, O: SeekingOutbox, I: Inbox, S: Spool>(
     match Onlooker::new(screen, config, &request.shown) {
         Ok(onlooker) => {
             let own = WorldConfig::station(config, side_of(request)).get();
-            let lookout = LoopLookout { onlooker, progress };
+            let lookout = LoopLookout::new(onlooker, progress);
             let mut notices = Notices::new(rt, lookout, exchange, own, request.to.as_str());
             let exit = wired(context, parts, stores, spool, &mut notices);
             Ran {
@@ -162,7 +162,7 @@ fn wired<'a, O: SeekingOutbox, I: Inbox, S: Spool, L: Lookout>(
         frame_count,
         side,
     };
-    let wire = LossyWire::new(socket, request.numbers.drop_every);
+    let wire = LossyWire::new(socket, frame_losses(request.numbers.losses));
     let (own, tally) = (options.config, &exchange.dropped);
     match CarrierWire::new(rt.alloc(), carrier, own, wire, tally) {
         Ok(wire) => {

@@ -1,9 +1,11 @@
 -- Why a line of a dump spells nothing, by number and name.
-use Rattle.std.specs.Prelude.{ℕ, Bool, true, false, List, ◌++◌, codes, decimal, if◌then◌else◌}
+use Rattle.std.specs.Prelude.{ℕ, Bool, true, false, ◌&&◌, List, ◌++◌, codes, decimal, if◌then◌else◌}
 use Rattle.cfdp_directives.specs.Pdu.Faults.{pdu_refusal_number, pdu_refusal_name}
 use Rattle.aos_frame.specs.Frame as frames
 use Rattle.aos_frame.specs.declared.error.FrameError.{FrameError}
 use Rattle.aos_frame.specs.declared.error.FrameError.TheVariants.{Length}
+use Rattle.cfdp_report.specs.declared.dump.form.DumpForm.{DumpForm}
+use Rattle.cfdp_report.specs.declared.dump.form.DumpForm.TheVariants.{Short, Long, Fields}
 use Rattle.cfdp_report.specs.declared.dump.refusal.Refusal.{Refusal}
 use Rattle.cfdp_report.specs.declared.dump.shape.FrameShape.{FrameShape}
 use Rattle.cfdp_report.specs.Dump.Shape.{frame_len}
@@ -31,11 +33,18 @@ abbrev pub is_length : FrameError → Bool
 is_length Length = true
 is_length _ = false
 
--- why so many octets are no frame that is made so; behind a refused length stands how many there
--- are, and how many such a frame has
-abbrev pub frame_fault_text : FrameError → FrameShape → (count : ℕ) → List ℕ
-frame_fault_text error shape count =
-    if is_length error
+-- whether what refuses a line is told with its details: a short line has its number and its name
+-- alone
+abbrev pub has_details : DumpForm → Bool
+has_details Short = false
+has_details Long = true
+has_details Fields = true
+
+-- Why so many octets are no frame that is made so. The details of a refused length are how many
+-- there are, and how many such a frame has.
+abbrev pub frame_fault_text : DumpForm → FrameError → FrameShape → (count : ℕ) → List ℕ
+frame_fault_text form error shape count =
+    if is_length error && has_details form
     then refusal_text (Frame error) ++ codes " " ++ decimal count ++ codes " octets, not "
     ++ decimal (frame_len shape)
     else refusal_text (Frame error)

@@ -72,7 +72,7 @@ pub record TellsFrameFault (form : DumpForm) (shape : FrameShape) (octets text :
   where
     pub error : FrameError
     pub fault : frame_fault octets (channel_in octets shape) ≡ Some error
-    pub words : text ≡ frame_fault_text error shape (length octets) ++ end_of form
+    pub words : text ≡ frame_fault_text form error shape (length octets) ++ end_of form
 
 -- This text is written for these octets, as a PDU.
 abbrev pub TellsAsPdu : DumpForm → List ℕ → List ℕ → Type 0

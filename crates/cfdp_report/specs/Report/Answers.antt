@@ -1,5 +1,5 @@
 -- What a command answers, in reports and for the exit status.
-use Rattle.std.specs.Prelude.{ℕ, ◌==◌, Bool, true, false, List, ◌++◌, codes, decimal, if◌then◌else◌, Option, Some}
+use Rattle.std.specs.Prelude.{ℕ, Bool, true, false, List, codes, Option, Some}
 use Rattle.cfdp_entity.specs.Errors.{put_name, call_name}
 use Rattle.link_sim.specs.Recovering.{recover_error_name}
 use Rattle.link_sim.specs.declared.event.Refusal.TheVariants.{Put, Call, LossRunTooLong, NotDamaged}
@@ -8,18 +8,16 @@ use Rattle.link_sim.specs.declared.settle_error.SettleError.TheVariants.{NoMemor
 use Rattle.cfdp_report.specs.declared.report.answer.Answer.{Answer}
 use Rattle.cfdp_report.specs.declared.report.answer.Answer.TheVariants.{Nothing, Refused, Ended}
 
--- the name of an answer; behind Nothing stands how many events of the command happened before, if
--- any did
+-- the name of an answer
 abbrev pub answer_name : Answer → List ℕ
-answer_name (Nothing after) = if after == 0 then codes "Nothing"
-    else codes "Nothing after " ++ decimal after
+answer_name (Nothing after) = codes "Nothing"
 answer_name (Refused (Put by)) = put_name by
 answer_name (Refused (Call by)) = call_name by
 answer_name (Refused LossRunTooLong) = codes "LossRunTooLong"
 answer_name (Refused NotDamaged) = codes "NotDamaged"
 answer_name (Ended error) = recover_error_name error
 
--- the answer of an event, of a command of which so many events happened before: only Nothing tells
+-- the answer of an event, of a command of which so many events happened before: only Nothing keeps
 -- how many
 abbrev pub answer_after : ℕ → Answer → Answer
 answer_after before (Nothing after) = Nothing before

@@ -48,6 +48,11 @@ answer_text line (Some answer) =
 abbrev pub answer_line : Answered → List ℕ
 answer_line done = answer_text done.line done.answer
 
+-- ---- a bad script
+-- what is said of it, by the number of its first bad line
+abbrev pub bad_script_text : ℕ → List ℕ
+bad_script_text line = codes "line " ++ decimal line ++ codes ": bad script"
+
 -- ---- the count of puts
 -- whether by this a station that sends a transaction is told that its file was delivered
 abbrev pub is_own_completion : ℕ → Indication → Bool

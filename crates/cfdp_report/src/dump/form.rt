@@ -1,6 +1,7 @@
 //! How much a dump tells.
 ghost use Rattle.std.specs.Prelude.{◌≡◌};
 ghost use Rattle.cfdp_report.specs.Dump.Told.{end_of};
+ghost use Rattle.cfdp_report.specs.Dump.Refusal as refusals;
 
 /// How a dump tells a PDU or a frame.
 #[derive(Clone, Copy)]
@@ -14,6 +15,16 @@ pub enum DumpForm {
 }
 
 impl DumpForm {
+    /// Returns `true` if a line that spells nothing says more of it than its number and its name.
+    pub fn has_details(self) -> bool
+        ensures { result ≡ refusals.has_details self }
+    {
+        match self {
+            DumpForm::Short => false,
+            DumpForm::Long | DumpForm::Fields => true,
+        }
+    }
+
     /// What stands behind all that is told of one PDU or frame, in front of the end of its last
     /// line.
     pub fn end(self) -> &'static str

@@ -2,6 +2,7 @@
 ghost use Rattle.std.specs.Prelude.{◌≡◌, Some};
 ghost use Rattle.cfdp_report.specs.Dump.Refusal.{refusal_text};
 
+use crate::dump::form::DumpForm;
 use crate::dump::shape::FrameShape;
 use aos_frame::FrameError;
 use cfdp_directives::PduError;
@@ -57,18 +58,20 @@ pub struct FrameRefusal {
     pub shape: FrameShape,
     /// How many octets there are.
     pub count: usize,
+    /// How it is told.
+    pub form: DumpForm,
 }
 
-/// The refusal; behind that of a length also how many octets there are, and how many such a frame
-/// has.
+/// Says why they are none. Where details are told, a refused length comes with how many octets there
+/// are and how many such a frame has.
 impl fmt::Display for FrameRefusal {
     ghost use Rattle.cfdp_report.specs.Dump.Refusal.{frame_fault_text};
 
-    ghost output = { λ it. Some (frame_fault_text it.error it.shape it.count) };
+    ghost output = { λ it. Some (frame_fault_text it.form it.error it.shape it.count) };
 
     fn fmt<W: fmt::Write>(&self, f: &mut fmt::Formatter<W>) -> fmt::Result {
         let refusal = Refusal::Frame(self.error);
-        if is_length(self.error) {
+        if is_length(self.error) && self.form.has_details() {
             let (count, whole) = (self.count, self.shape.frame_len());
             write!(f, "{refusal} {count} octets, not {whole}")
         } else {

@@ -7,7 +7,8 @@ use std::fmt;
 /// Why a command didn't do its work, or not all of it. The report tells it.
 #[derive(Clone, Copy)]
 pub enum Answer {
-    /// There was nothing to do, or nothing more after so many events of the command.
+    /// There was nothing to do, or nothing more after so many events of the command. The report
+    /// says only that.
     Nothing { after: u64 },
     /// It was refused.
     Refused(Refusal),
@@ -43,8 +44,8 @@ impl Answer {
     /// There was no memory for an event.
     pub const NO_MEMORY: Answer = Answer::Ended(RecoverError::Settle(SettleError::NoMemory));
 
-    /// This answer of an event, told of a command of which so many events happened before: only
-    /// Nothing tells how many.
+    /// This answer of an event, as that of a command of which so many events happened before: only
+    /// Nothing keeps how many.
     pub fn told_after(self, before: u64) -> Answer
         ensures { result ≡ answer_after before self }
     {
@@ -60,8 +61,7 @@ impl fmt::Display for Answer {
 
     fn fmt<W: fmt::Write>(&self, f: &mut fmt::Formatter<W>) -> fmt::Result {
         match *self {
-            Answer::Nothing { after: 0 } => f.write_str("Nothing"),
-            Answer::Nothing { after } => write!(f, "Nothing after {after}"),
+            Answer::Nothing { .. } => f.write_str("Nothing"),
             Answer::Refused(refusal) => f.write_str(refusal_name(refusal)),
             Answer::Ended(error) => f.write_str(error.name()),
         }

@@ -124,7 +124,7 @@ pub const TABLE: [Row; 20] = [
         key: "first_number",
         range: Range::Between(0, u64::MAX),
         default: 1,
-        help: "of a station's first transaction, below 256^number_width",
+        help: "of a station's first put, refused from 256^number_width",
     },
     Row {
         setting: Setting::Checksum,
@@ -241,23 +241,6 @@ impl fmt::Display for Range {
             Range::Between(least, most) => write!(f, "{least} to {most}"),
             Range::BetweenOr(least, most, other) => write!(f, "{least} to {most} or {other}"),
         }
-    }
-}
-
-/// The numbers that so many octets of a transaction's number can have: 0 to `most`.
-#[derive(Clone, Copy)]
-pub struct NumberRange {
-    /// How many octets: what `number_width` is.
-    pub width: u8,
-    /// The greatest number.
-    pub most: u64,
-}
-
-/// In words.
-impl fmt::Display for NumberRange {
-    fn fmt<W: fmt::Write>(&self, f: &mut fmt::Formatter<W>) -> fmt::Result {
-        let (width, most) = (self.width, self.most);
-        write!(f, "0 to {most} where number_width is {width}")
     }
 }
 

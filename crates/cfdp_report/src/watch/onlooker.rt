@@ -1,6 +1,7 @@
 //! One who looks on at a run: at a script's, or at turns over two wires.
 
 use crate::dump::shape::FrameShapes;
+use crate::report::answer::Answered;
 use crate::report::condition::{Cancels, Conditions};
 use crate::watch::dropped::Dropped;
 use crate::watch::frames::Watch;
@@ -114,6 +115,15 @@ pub struct Summary {
     pub showing: Showing,
     /// What passed in a script, where that was to be kept.
     pub kept: Option<Kept>,
+    /// What the commands of a script answered.
+    pub answered: Vec<Answered>,
+}
+
+impl Summary {
+    /// The same, of a script whose commands answered so.
+    pub fn answering(self, answered: Vec<Answered>) -> Summary {
+        Summary { answered, ..self }
+    }
 }
 
 /// What is known of a station of a run that is over.
@@ -184,7 +194,7 @@ impl<'a> Seen<'a> {
     /// What is known now that no more passes.
     fn into_summary(self) -> Summary {
         let Seen {
-            log: _,
+            log,
             mut recorder,
             kept,
             conditions,
@@ -202,6 +212,7 @@ impl<'a> Seen<'a> {
             two: two.into_summary(),
             showing: recorder.ends(),
             kept,
+            answered: Vec::new(log.alloc()),
         }
     }
 

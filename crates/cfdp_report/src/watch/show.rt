@@ -3,6 +3,7 @@ ghost use Rattle.std.specs.Prelude.{◌≡◌, ◌⊎◌, None};
 ghost use Rattle.cfdp_report.specs.Exit.{exit_status};
 
 use crate::exit::Exit;
+use crate::report::answer::{Answer, Answered};
 use crate::watch::onlooker::Summary;
 use crate::watch::recorder::Showing;
 use crate::watch::shown::Shown;
@@ -73,11 +74,25 @@ fn explain(rt: &HostRuntime, shown: &Shown, seen: &Summary) -> u8
     }
 }
 
-/// Writes what the conditions that were told say, and what the stations sent, lost and dropped.
+/// Writes which commands had nothing more to do before their end, what the conditions that were told
+/// say, and what the stations sent, lost and dropped.
 fn write_explanation(rt: &HostRuntime, seen: &Summary) -> io::Result<()> {
     let mut text = Vec::new(rt.alloc());
+    for done in seen.answered.iter() {
+        write_ended_early(*done, &mut text)?;
+    }
     seen.conditions.write(seen.cancels, &mut text)?;
     seen.one.write(&mut text)?;
     seen.two.write(&mut text)?;
     rt.stderr().write_all(text.as_slice())
+}
+
+/// Writes how many frames a command took, if then none waited though it asked for more.
+fn write_ended_early<W: Write>(done: Answered, out: &mut W) -> io::Result<()> {
+    match done.answer {
+        Some(Answer::Nothing { after }) if after > 0 => {
+            writeln!(out, "line {}: {after} taken, then none waited", done.line)
+        }
+        _ => Ok(()),
+    }
 }

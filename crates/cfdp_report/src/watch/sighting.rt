@@ -92,6 +92,11 @@ impl Log {
         }
     }
 
+    /// What gives it memory.
+    pub fn alloc(&self) -> Global {
+        self.alloc
+    }
+
     /// Comes to the step of this number: what is noted from here on is of it.
     pub fn comes_to(&mut self, step: usize)
         ensures { self.new ≡ record self.old { step = step } }

@@ -1,6 +1,6 @@
--- What lines of hexadecimal digits spell: units, one in a line, or one in several lines that begin
--- with their offsets, as tools write them that show octets.
-use Rattle.std.specs.Prelude.{ℕ, ◌+◌, ◌*◌, ◌==◌, ◌&&◌, nat_eq, nat_le, slice_index, drop, take, List, [], ◌∷◌, ◌++◌, codes, length, if◌then◌else◌, Option, Some, None, option_and_then, option_map}
+-- What lines of hexadecimal digits spell: units, one in a line; or, as tools write them that show
+-- octets, also one in several lines that begin with their offsets.
+use Rattle.std.specs.Prelude.{ℕ, Bool, true, false, ◌+◌, ◌*◌, ◌==◌, ◌&&◌, nat_eq, nat_le, slice_index, drop, take, List, [], ◌∷◌, ◌++◌, codes, length, if◌then◌else◌, Option, Some, None, option_and_then, option_map}
 use Rattle.std.specs.List.{flat_map, starts_with}
 use Rattle.std.specs.Option.{option_or}
 use Rattle.std.specs.Result.{result_ok}
@@ -93,7 +93,18 @@ more_of ended octets row None = record {
 abbrev pub row_step : (ended : List Piece) → (octets : List ℕ) → Row → Step
 row_step ended octets row = more_of ended octets row (hex_octets row.digits)
 
--- A line that isn't pairs of digits begins a unit, if it is a row of offset 0.
+-- A line of digits alone is a unit, if they are pairs.
+abbrev pub piece_of : (line : List ℕ) → Option (List ℕ) → Piece
+piece_of line (Some octets) = Octets octets
+piece_of line None = Bad 0 line
+
+abbrev pub bare_line : List ℕ → Step
+bare_line line = record {
+  whole = piece_of line (result_ok (decode_of line)) ∷ [];
+  begun = None;
+}
+
+-- As tools write it, a line that isn't pairs of digits begins a unit, if it is a row of offset 0.
 abbrev pub first_of : (line : List ℕ) → Option Row → Step
 first_of line None = record { whole = Bad 0 line ∷ []; begun = None }
 first_of line (Some row) = row_step [] [] row
@@ -118,17 +129,22 @@ abbrev pub behind_of : (octets line : List ℕ) → Option Row → Step
 behind_of octets line (Some row) = row_step (Octets octets ∷ []) octets row
 behind_of octets line None = after octets line
 
-abbrev pub step : Option (List ℕ) → List ℕ → Step
-step None line = alone line
-step (Some octets) line = behind_of octets line (row_at (length octets) line)
+abbrev pub row_or_alone : Option (List ℕ) → List ℕ → Step
+row_or_alone None line = alone line
+row_or_alone (Some octets) line = behind_of octets line (row_at (length octets) line)
+
+-- a line of digits alone, or one as tools write it, at whose end a carriage return doesn't count
+abbrev pub step : (by_tools : Bool) → Option (List ℕ) → List ℕ → Step
+step false begun line = bare_line line
+step true begun line = row_or_alone begun (without_return line)
 
 -- what ends with the last line
 abbrev pub ended : Option (List ℕ) → List Piece
 ended None = []
 ended (Some octets) = Octets octets ∷ []
 
--- what lines spell, where this is begun; a carriage return at the end of a line doesn't count
-unfoldable pub pieces : Option (List ℕ) → (lines : List (List ℕ)) → List Piece
-pieces begun [] = ended begun
-pieces begun (line ∷ rest) = (step begun (without_return line)).whole
-    ++ pieces (step begun (without_return line)).begun rest
+-- what lines spell, where this is begun
+unfoldable pub pieces : (by_tools : Bool) → Option (List ℕ) → (lines : List (List ℕ)) → List Piece
+pieces by_tools begun [] = ended begun
+pieces by_tools begun (line ∷ rest) = (step by_tools begun line).whole
+    ++ pieces by_tools (step by_tools begun line).begun rest

@@ -5,9 +5,8 @@ use Rattle.std.specs.List.{flat_map}
 use Rattle.captures.specs.Texts.{fault_text, passed_text}
 use Rattle.space_packet.specs.Packet.{apid_field, count_field, flags_field, secondary_field}
 use Rattle.vc_packets.specs.Carrying.{CarriedText}
-use Rattle.cfdp_report.specs.Dump.Refusal.{refusal_text}
+use Rattle.cfdp_report.specs.Dump.Refusal.{has_details, refusal_text}
 use Rattle.cfdp_report.specs.Dump.Told.{TellsAsFrame, TellsAsPdu, end_of}
-use Rattle.cfdp_report.specs.declared.dump.form.DumpForm.{DumpForm}
 use Rattle.cfdp_report.specs.declared.dump.refusal.Refusal.TheVariants.{Hex}
 use Rattle.cfdp_script.specs.declared.dump.DumpRequest.{DumpRequest}
 use Rattle.cfdp_script.specs.declared.dump.remark.Remark.{Remark}
@@ -34,41 +33,48 @@ remark_text (PassedBy passed) = passed_text passed
 remark_text (BadCapture cause place) =
     fault_text cause ++ (codes " at octet " ++ decimal place)
 
--- Whether the octet at a place of a text may stand there: it is a hexadecimal digit, a space, or
--- the x of 0x where a word begins.
+-- Whether the octet at a place of a text may stand there: it is a hexadecimal digit; or, in a line as
+-- tools write it, a space, or the x of 0x where a word begins.
 abbrev pub is_digit : ℕ → Bool
 is_digit octet = is_in_range 48 57 octet || (is_in_range 65 70 octet || is_in_range 97 102 octet)
 
 abbrev pub begins_word : List ℕ → ℕ → Bool
 begins_word line place = (place == 0) || (slice_index line (place - 1) == 32)
 
-abbrev pub may_stand : List ℕ → ℕ → Bool
-may_stand line place =
-    is_digit (slice_index line place) || (slice_index line place == 32)
-    || (slice_index line place == 120 && (nat_le 1 place
-    && (slice_index line (place - 1) == 48 && begins_word line (place - 1))))
+abbrev pub follows_zero : List ℕ → ℕ → Bool
+follows_zero line place = nat_le 1 place
+    && (slice_index line (place - 1) == 48 && begins_word line (place - 1))
+
+abbrev pub may_stand : (by_tools : Bool) → List ℕ → ℕ → Bool
+may_stand by_tools line place =
+    is_digit (slice_index line place) || (by_tools && ((slice_index line place == 32)
+    || (slice_index line place == 120 && follows_zero line place)))
 
 -- what is said of it: the column of the first octet that may not, from 1, in a line where so many
 -- octets stand before the text; if all may, the digits are odd in number
-pub record IsBadPlace (line : List ℕ) (place : ℕ) : Type 0 where
+pub record IsBadPlace (by_tools : Bool) (line : List ℕ) (place : ℕ) : Type 0 where
   pub inside : place < length line
-  pub bad : may_stand line place ≡ false
-  pub first : (k : ℕ) → k < place → may_stand line k ≡ true
+  pub bad : may_stand by_tools line place ≡ false
+  pub first : (k : ℕ) → k < place → may_stand by_tools line k ≡ true
 
-abbrev pub IsSaidOf : (before : ℕ) → List ℕ → Option ℕ → Type 0
-IsSaidOf before line None = (k : ℕ) → k < length line → may_stand line k ≡ true
-IsSaidOf before line (Some column) =
-    (place : ℕ) × IsBadPlace line place × (column ≡ before + place + 1)
+abbrev pub IsSaidOf : (by_tools : Bool) → (before : ℕ) → List ℕ → Option ℕ → Type 0
+IsSaidOf by_tools before line None =
+    (k : ℕ) → k < length line → may_stand by_tools line k ≡ true
+IsSaidOf by_tools before line (Some column) =
+    (place : ℕ) × IsBadPlace by_tools line place × (column ≡ before + place + 1)
 
-abbrev pub place_text : Option ℕ → List ℕ
-place_text None = codes " odd digits"
-place_text (Some column) = codes " column " ++ decimal column
+-- where details are told, and nothing else
+abbrev pub place_text : (details : Bool) → Option ℕ → List ℕ
+place_text false column = []
+place_text true None = codes " odd digits"
+place_text true (Some column) = codes " column " ++ decimal column
 
 -- The text tells it.
-pub record TellsBadHex (form : DumpForm) (before : ℕ) (digits text : List ℕ) : Type 0 where
+pub record TellsBadHex (request : DumpRequest) (before : ℕ) (digits text : List ℕ) : Type 0 where
   pub column : Option ℕ
-  pub said : IsSaidOf before digits column
-  pub words : text ≡ refusal_text Hex ++ (place_text column ++ end_of form)
+  pub said : IsSaidOf request.by_tools before digits column
+  pub words : text ≡ refusal_text Hex
+      ++ (place_text (has_details request.form) column ++ end_of request.form)
 
 -- the PDU of a packet: it has one if it is no segment and has no secondary header (CCSDS 133.0-B-2,
 -- 4.1.3.3.3, 4.1.3.4.2)
@@ -85,7 +91,7 @@ packet_remark packet = if nat_lt (length packet) 6 then Packet 0 0 (length packe
 
 -- This text is written for it.
 abbrev pub TellsTold : DumpRequest → Told → List ℕ → Type 0
-TellsTold request (BadHex before digits) text = TellsBadHex request.form before digits text
+TellsTold request (BadHex before digits) text = TellsBadHex request before digits text
 TellsTold request (AsPdu octets) text = TellsAsPdu request.form octets text
 TellsTold request (AsFrame octets) text = TellsAsFrame request.form request.shape octets text
 TellsTold request (Says remark) text = text ≡ remark_text remark

@@ -4,17 +4,16 @@ use Rattle.std.specs.Option.{option_or}
 use Rattle.cfdp_script.specs.declared.script.command.FileLine.{FileLine}
 use Rattle.cfdp_script.specs.declared.script.command.Line.{Line}
 use Rattle.cfdp_script.specs.declared.script.command.Line.TheVariants as line
-use Rattle.cfdp_script.specs.declared.script.GivenFile.{GivenFile}
 use Rattle.cfdp_script.specs.declared.script.Script.{Script}
 use Rattle.cfdp_script.specs.declared.script.Step.{Step}
 use Rattle.cfdp_report.specs.declared.settings.Settings.{Settings}
 use Rattle.cfdp_report.specs.Settings.{default_settings, set_value}
-use Rattle.cfdp_script.specs.Script.Lines.{is_among, is_skipped, line_of}
+use Rattle.cfdp_script.specs.Script.Lines.{is_skipped, line_of}
 use Rattle.cfdp_script.specs.Script.Words.{without_return}
 
 -- What was read so far.
 pub record Gathered : Type 0 where
-  pub files : List GivenFile
+  pub files : List FileLine
   pub steps : List Step
   pub settings : Settings
   pub last : ℕ
@@ -36,13 +35,6 @@ at_start = record { files = []; steps = []; settings = default_settings; last = 
 abbrev pub noted : Gathered → ℕ → Gathered
 noted g number = record g { wrong = option_or g.wrong (Some number) }
 
--- a file is given, again if one of its station and its name was: then its line is misread
-abbrev pub given : Gathered → ℕ → FileLine → Gathered
-given g number file = record g {
-  files = g.files ++ record { line = number; file = file } ∷ [];
-  wrong = if is_among file g.files then option_or g.wrong (Some number) else g.wrong;
-}
-
 -- what is so before the first command, and what behind it
 abbrev pub before : {A : Type 0} → List Step → A → A → A
 before [] a b = a
@@ -53,7 +45,7 @@ taken g number None = noted g number
 taken g number (Some (line.Command command)) =
     record g { steps = g.steps ++ record { line = number; command = command } ∷ [] }
 taken g number (Some (line.File file)) =
-    before g.steps (given g number file) (noted g number)
+    before g.steps (record g { files = g.files ++ file ∷ [] }) (noted g number)
 taken g number (Some (line.Set setting value)) =
     before g.steps (record g { settings = set_value g.settings setting value; last = number })
     (noted g number)

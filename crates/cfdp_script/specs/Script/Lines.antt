@@ -1,7 +1,7 @@
 -- What a script is: its lines, and what each means.
-use Rattle.std.specs.Prelude.{◌≡◌, ◌⊎◌, ◌+◌, ℕ, ◌==◌, Bool, true, false, ◌&&◌, ◌||◌, not, nat_lt, nat_le, List, [], ◌∷◌, ◌++◌, codes, length, min, if◌then◌else◌, Option, Some, None, is_none, is_some, option_map, option_and_then, fold, Result, Ok, Err, ⊤}
+use Rattle.std.specs.Prelude.{◌≡◌, ◌⊎◌, ◌+◌, ℕ, ◌==◌, Bool, true, false, ◌&&◌, not, nat_lt, nat_le, List, [], ◌∷◌, codes, length, min, if◌then◌else◌, Option, Some, None, is_none, is_some, option_map, option_and_then, fold, Result, Ok, Err, ⊤}
 use Rattle.std.specs.Option.{option_or}
-use Rattle.std.specs.List.{list_all, list_any, filter_map}
+use Rattle.std.specs.List.{list_all, filter_map}
 use Rattle.cfdp_header.specs.declared.value.TransactionId.{TransactionId}
 use Rattle.aos_frame.specs.declared.config.Lane.{Lane}
 use Rattle.aos_frame.specs.declared.config.Lane.TheVariants.{Directives, Data}
@@ -24,10 +24,9 @@ use Rattle.cfdp_script.specs.declared.script.command.Fate.TheVariants.{Arrives, 
 use Rattle.cfdp_script.specs.declared.script.command.Unread.{Unread}
 use Rattle.cfdp_script.specs.declared.script.command.Unread.TheVariants.{Bad, NoMemory}
 use Rattle.cfdp_script.specs.declared.script.command.FileLine.{FileLine}
-use Rattle.cfdp_script.specs.declared.script.GivenFile.{GivenFile}
 use Rattle.cfdp_script.specs.declared.script.Step.{Step}
 use Rattle.cfdp_report.specs.declared.settings.Settings.{Settings}
-use Rattle.link_sim.specs.Stations.{IsWorldConfig, entity_of}
+use Rattle.link_sim.specs.Stations.{IsWorldConfig}
 use Rattle.cfdp_report.specs.Settings.{FitFields, default_settings, is, set_value, setting_of, world_of}
 use Rattle.cfdp_report.specs.Numbers.{number_of, octet_of}
 use Rattle.cfdp_script.specs.Script.Words.{without_return, words_of, parts, next_word, nothing_of, text_of, one_of, two_of, three_of, four_of}
@@ -81,15 +80,10 @@ abbrev pub number_words : List (List ℕ) → Option (Side × ℕ)
 number_words words = option_and_then (λ w. both (λ at n. (at, n)) (station_of w.0) (number_of w.1))
     (two_of words)
 
--- how many frames: one at least
-abbrev pub frame_count : List ℕ → Option ℕ
-frame_count word = option_and_then (λ count. if nat_le 1 count then Some count else None)
-    (number_of word)
-
 -- how many: one where no number stands there
 abbrev pub count_of : List (List ℕ) → Option ℕ
 count_of words = if is_some (nothing_of words) then Some 1
-    else option_and_then frame_count (one_of words)
+    else option_and_then number_of (one_of words)
 
 -- the event in which that befalls the oldest waiting frame which a station sent in a lane
 abbrev pub befalls : Fate → Side → Lane → Event
@@ -102,7 +96,7 @@ abbrev pub which_by : Fate → Side → List ℕ → Option Lane → List (List 
 which_by fate from word (Some lane) words = option_map (Repeat (befalls fate from lane))
     (count_of words)
 which_by fate from word None words = both (λ _ count. First fate from count) (nothing_of words)
-    (frame_count word)
+    (number_of word)
 
 -- of the one sent first, where nothing stands there
 abbrev pub which_of : Fate → Side → List (List ℕ) → Option Command
@@ -148,15 +142,20 @@ prompt_of words =
     option_and_then (λ w. both (λ of keep_alive. Once (event.Prompt of.0 of.1 keep_alive))
     (transaction_at w.0 w.1) (asked_of w.2)) (three_of words)
 
+-- which frame: 1 is the first
+abbrev pub frame_number : List ℕ → Option ℕ
+frame_number word = option_and_then (λ number. if nat_le 1 number then Some number else None)
+    (number_of word)
+
 -- one frame of a station, where this word, which is the name of a lane or of none, stands there: of
 -- the lane, or of both
 abbrev pub pick_by : Side → List ℕ → Option Lane → List (List ℕ) → Option Pick
 pick_by from word (Some lane) words =
     option_and_then (λ w. option_map (λ n. record { from = from; lane = Some lane; number = n })
-    (frame_count w)) (one_of words)
+    (frame_number w)) (one_of words)
 pick_by from word None words =
     both (λ _ n. record { from = from; lane = None; number = n }) (nothing_of words)
-    (frame_count word)
+    (frame_number word)
 
 abbrev pub pick_at : Side → List (List ℕ) → Option Pick
 pick_at from words = option_and_then (λ w. pick_by from w.0 (lane_of w.0) w.1) (next_word words)
@@ -312,39 +311,14 @@ abbrev pub first_where : (Option Line → Bool) → List ReadLine → Option ℕ
 first_where test [] = None
 first_where test (l ∷ rest) = if test l.1 then Some l.0 else first_where test rest
 
-abbrev pub file_in : ℕ → Option Line → Option GivenFile
-file_in number (Some (line.File file)) = Some (record { line = number; file = file })
-file_in number _ = None
-
--- the files that lines give, in order
-abbrev pub files_in : List ReadLine → List GivenFile
-files_in lines = filter_map (λ l. file_in l.0 l.1) lines
-
--- two files are of one station and of one name
-abbrev pub is_same_file : FileLine → FileLine → Bool
-is_same_file a b = (entity_of a.at == entity_of b.at) && is a.name b.name
-
--- one of these is of a file's station and of its name
-abbrev pub is_among : FileLine → List GivenFile → Bool
-is_among file given = list_any (λ g. is_same_file g.file file) given
-
--- a line gives a file of a station and a name of which some line before it gave one
-abbrev pub is_given_again : List ReadLine → Option Line → Bool
-is_given_again before (Some (line.File file)) = is_among file (files_in before)
-is_given_again before _ = false
-
--- the number of the first of these lines, behind those before, that means nothing or gives a file
--- again
-abbrev pub first_wrong : (before lines : List ReadLine) → Option ℕ
-first_wrong before [] = None
-first_wrong before (l ∷ rest) = if is_none l.1 || is_given_again before l.1 then Some l.0
-    else first_wrong (before ++ l ∷ []) rest
-
--- A line is misread that means nothing, that gives a file again, or that is no command and stands
--- behind one.
+-- A line is misread that means nothing, or that is no command and stands behind one.
 abbrev pub misread : List ReadLine → Option ℕ
-misread all = option_or (first_wrong [] (front all))
+misread all = option_or (first_where is_none (front all))
     (first_where (λ meant. not (is_command meant)) (behind all))
+
+abbrev pub file_in : Option Line → Option FileLine
+file_in (Some (line.File file)) = Some file
+file_in _ = None
 
 abbrev pub step_in : ℕ → Option Line → Option Step
 step_in number (Some (line.Command command)) = Some (record { line = number; command = command })
@@ -361,8 +335,8 @@ is_set _ = false
 -- ---- what a script's text says
 
 -- the files that it makes, in order
-unfoldable pub files_of : List ℕ → List GivenFile
-files_of text = files_in (front (lines_of text))
+unfoldable pub files_of : List ℕ → List FileLine
+files_of text = filter_map (λ l. file_in l.1) (front (lines_of text))
 
 -- its commands, in order
 unfoldable pub steps_of : List ℕ → List Step

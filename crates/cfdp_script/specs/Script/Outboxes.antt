@@ -7,26 +7,23 @@ use Rattle.link_sim.specs.declared.side.Side.TheVariants.{One, Two}
 use Rattle.cfdp_script.specs.declared.script.command.Contents.{Contents}
 use Rattle.cfdp_script.specs.declared.script.command.Contents.TheVariants.{Text, Fill}
 use Rattle.cfdp_script.specs.declared.script.command.FileLine.{FileLine}
-use Rattle.cfdp_script.specs.declared.script.GivenFile.{GivenFile}
 
 -- what is in a file
 abbrev pub octets_of : Contents → List ℕ
 octets_of (Text text) = text
 octets_of (Fill count octet) = replicate count octet
 
--- a station's files with one more, where it is for that station; no good script gives it two of one
--- name
+-- a station's files with one more, where it is for that station, in the place of one of its name
 abbrev pub with_file : Side → Side → FileLine → FileMap → FileMap
 with_file One One file files = map.insert files file.name (octets_of file.contents)
 with_file Two Two file files = map.insert files file.name (octets_of file.contents)
 with_file _ _ file files = files
 
 -- a station's files with those of these lines, in order
-abbrev pub with_files : Side → FileMap → List GivenFile → FileMap
+abbrev pub with_files : Side → FileMap → List FileLine → FileMap
 with_files s files [] = files
-with_files s files (given ∷ rest) =
-    with_files s (with_file s given.file.at given.file files) rest
+with_files s files (file ∷ rest) = with_files s (with_file s file.at file files) rest
 
 -- all that a station has to send
-abbrev pub outbox_of : Side → List GivenFile → FileMap
+abbrev pub outbox_of : Side → List FileLine → FileMap
 outbox_of s lines = with_files s map.empty lines

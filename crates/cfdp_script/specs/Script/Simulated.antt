@@ -14,11 +14,11 @@ use Rattle.cfdp_script.specs.Script.Report.{puts_asked, puts_completed}
 use Rattle.cfdp_script.specs.Script.Run.{AreAccepted}
 use Rattle.cfdp_script.specs.Script.Lines.{IsFirstBad, files_of, settings_of, steps_of}
 use Rattle.cfdp_report.specs.Settings.{world_of}
+use Rattle.cfdp_script.specs.declared.script.command.FileLine.{FileLine}
 use Rattle.cfdp_report.specs.declared.exit.Exit.{Exit}
 use Rattle.cfdp_report.specs.declared.exit.Exit.TheVariants.{Complete, Incomplete, BadScript, Device}
 use Rattle.cfdp_report.specs.declared.exit.Fault.{Fault}
 use Rattle.cfdp_report.specs.declared.exit.Fault.TheVariants.{Unreadable, TooLong, Unwritable, NoMemoryAtStart, NoMemory}
-use Rattle.cfdp_script.specs.declared.script.GivenFile.{GivenFile}
 use Rattle.cfdp_script.specs.declared.script.Step.{Step}
 
 -- The script is good. From the first world of its settings and its files its commands ran to the
@@ -68,7 +68,7 @@ EndsScript exit text old new = EndsText exit text old new
 
 -- Two stations were made so, with these files, and these commands ended so from there; or there was
 -- no memory for the stations, and nothing is written.
-abbrev pub EndsFrom : Exit → WorldConfig → List GivenFile → List Step
+abbrev pub EndsFrom : Exit → WorldConfig → List FileLine → List Step
     → (old new : Option (List ℕ)) → Type 0
 EndsFrom exit config files steps old new =
     ((exit ≡ Device NoMemoryAtStart) × Keeps old new)

@@ -4,8 +4,9 @@ ghost use Rattle.std.specs.Option.{option_map};
 ghost use Rattle.cfdp_script.specs.Dump.Rows as spelled;
 ghost use Rattle.cfdp_script.specs.Dump.Stepping.{row_text, step_text};
 
-use crate::dump::parse_hex;
 use crate::dump::rows::{Row, row_at};
+use crate::dump::{parse_digits, parse_hex};
+use crate::script::without_return;
 use std::alloc::{AllocError, Global};
 
 /// What a line spells that is no row of a unit which goes on.
@@ -41,14 +42,46 @@ impl<'a> Step<'a> {
     }
 }
 
-/// What a line is, where these octets of a unit are begun, or none is.
+/// What a line is, where these octets of a unit are begun, or none is: digits alone, or as tools
+/// write it.
 pub(crate) fn take_line<'a>(
+    alloc: Global,
+    by_tools: bool,
+    begun: Option<Vec<u8>>,
+    line: &'a [u8],
+) -> Result<Step<'a>, AllocError>
+    ensures { IfOk result (λ step. step_text step
+        ≡ spelled.step by_tools (option_map (λ v. v.items) begun) line.now) }
+{
+    if by_tools {
+        take_row(alloc, begun, without_return(line))
+    } else {
+        bare_line(alloc, line)
+    }
+}
+
+/// What a line of digits alone is.
+fn bare_line<'a>(alloc: Global, line: &'a [u8]) -> Result<Step<'a>, AllocError>
+    ensures { IfOk result (λ step. step_text step ≡ spelled.bare_line line.now) }
+{
+    let piece = match parse_digits(alloc, line)? {
+        Some(octets) => Piece::Octets(octets),
+        None => Piece::Bad {
+            before: 0,
+            digits: line,
+        },
+    };
+    Ok(Step::whole(piece))
+}
+
+/// What a line is as tools write it, where these octets of a unit are begun, or none is.
+fn take_row<'a>(
     alloc: Global,
     begun: Option<Vec<u8>>,
     line: &'a [u8],
 ) -> Result<Step<'a>, AllocError>
     ensures { IfOk result (λ step. step_text step
-        ≡ spelled.step (option_map (λ v. v.items) begun) line.now) }
+        ≡ spelled.row_or_alone (option_map (λ v. v.items) begun) line.now) }
 {
     let Some(octets) = begun else {
         return alone(alloc, line);

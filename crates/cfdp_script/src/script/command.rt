@@ -6,7 +6,7 @@ ghost use Rattle.cfdp_script.specs.Script.Lines.{Reads, both, line_of, meaning, 
 ghost use Rattle.cfdp_script.specs.Script.Lines.{fill_of, fill_count, command_of, put_of, call_of};
 ghost use Rattle.cfdp_script.specs.Script.Lines.{motion_of, round_of, station_words};
 ghost use Rattle.cfdp_script.specs.Script.Lines.{transaction_words, number_words, frames_of};
-ghost use Rattle.cfdp_script.specs.Script.Lines.{which_of, count_of, frame_count, lane_of};
+ghost use Rattle.cfdp_script.specs.Script.Lines.{which_of, count_of, frame_number, lane_of};
 ghost use Rattle.cfdp_script.specs.Script.Lines.{prompt_of, asked_of};
 ghost use Rattle.cfdp_script.specs.Script.Lines.{damage_at, damage_of, damaged_of, id_of};
 ghost use Rattle.cfdp_script.specs.Script.Lines.{disorder_of, pick_at, pick_of};
@@ -42,17 +42,6 @@ pub struct FileLine {
     pub at: Side,
     pub name: Octets,
     pub contents: Contents,
-}
-
-impl FileLine {
-    ghost use Rattle.cfdp_script.specs.Script.Lines.{is_same_file};
-
-    /// Whether this is a file of the same station and the same name as another one.
-    pub fn is_same_file(&self, other: &FileLine) -> bool
-        ensures { result ≡ is_same_file self.now other.now }
-    {
-        self.at.entity() == other.at.entity() && self.name.as_slice() == other.name.as_slice()
-    }
 }
 
 /// What is in a file that a script makes.
@@ -385,12 +374,12 @@ fn parse_pick_at(from: Side, mut words: Words<'_>) -> Result<Pick, LineError>
     match parse_lane(word) {
         Some(lane) => {
             let word = words.one()?;
-            let (lane, number) = (Some(lane), parse_frame_count(word, LineError::BadNumber)?);
+            let (lane, number) = (Some(lane), parse_frame_number(word, LineError::BadNumber)?);
             Ok(Pick { from, lane, number })
         }
         None => {
             words.end()?;
-            let (lane, number) = (None, parse_frame_count(word, LineError::UnknownLane)?);
+            let (lane, number) = (None, parse_frame_number(word, LineError::UnknownLane)?);
             Ok(Pick { from, lane, number })
         }
     }
@@ -443,7 +432,7 @@ fn parse_which(fate: Fate, from: Side, mut words: Words<'_>) -> Result<Command, 
         Some(lane) => Ok(Command::Repeat(fate.event(from, lane), parse_count(words)?)),
         None => {
             words.end()?;
-            let count = parse_frame_count(word, LineError::UnknownLane)?;
+            let count = parse_number(word).ok_or(LineError::UnknownLane)?;
             Ok(Command::First { fate, from, count })
         }
     }
@@ -493,18 +482,18 @@ fn parse_count(words: Words<'_>) -> Result<u64, LineError>
     if words.is_empty() {
         return Ok(1);
     }
-    parse_frame_count(words.one()?, LineError::BadNumber)
+    parse_value(words.one()?)
 }
 
-/// How many frames this word says: one at least. The error tells that it is no number.
-fn parse_frame_count(word: &[u8], no_number: LineError) -> Result<u64, LineError>
-    ensures { result_ok result ≡ frame_count word.now }
+/// Which frame this word says: 1 is the first. The error tells that it is no number.
+fn parse_frame_number(word: &[u8], no_number: LineError) -> Result<u64, LineError>
+    ensures { result_ok result ≡ frame_number word.now }
 {
-    let count = parse_number(word).ok_or(no_number)?;
-    if count < 1 {
-        return Err(LineError::NoFrames);
+    let number = parse_number(word).ok_or(no_number)?;
+    if number < 1 {
+        return Err(LineError::NoFrame);
     }
-    Ok(count)
+    Ok(number)
 }
 
 /// The lane of this name.

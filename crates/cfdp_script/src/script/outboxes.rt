@@ -3,26 +3,25 @@ ghost use Rattle.std.specs.Prelude.{◌≡◌, IfOk, OnOk};
 ghost use Rattle.link_sim.specs.declared.side.Side.TheVariants as sides;
 ghost use Rattle.cfdp_script.specs.Script.Outboxes.{octets_of, outbox_of, with_file};
 
-use crate::script::GivenFile;
 use crate::script::command::{Contents, FileLine};
 use cfdp_store::Files;
 use link_sim::Side;
 use std::alloc::{AllocError, Global};
 
-/// The files of both stations, those of station 1 first. A good script gives a station no two files
-/// of one name.
+/// The files of both stations, those of station 1 first. One that comes later takes the place of an
+/// earlier one of its name.
 ///
 /// # Errors
 ///
 /// `AllocError` where there is no memory for them.
-pub fn outboxes(alloc: Global, files: &[GivenFile]) -> Result<(Files, Files), AllocError>
+pub fn outboxes(alloc: Global, files: &[FileLine]) -> Result<(Files, Files), AllocError>
     ensures one { IfOk result (λ both. both.0 ≡ outbox_of sides.One files.now) }
     ensures two { IfOk result (λ both. both.1 ≡ outbox_of sides.Two files.now) }
 {
     let mut one = Files::new(alloc);
     let mut two = Files::new(alloc);
-    for given in files {
-        add_file(alloc, &given.file, &mut one, &mut two)?;
+    for file in files {
+        add_file(alloc, file, &mut one, &mut two)?;
     }
     Ok((one, two))
 }

@@ -1,7 +1,6 @@
 //! What is wrong with a line of a script, as it is told.
 ghost use Rattle.std.specs.Prelude.{◌≡◌, ◌<◌};
 
-use crate::script::command::FileLine;
 use crate::script::words::cut_at_first;
 use cfdp_report::{BadLine, Hint, LineError, Nearest, Quote, consider_keys, parse_setting};
 use std::alloc::{AllocError, Global};
@@ -112,21 +111,6 @@ pub fn bad_line(alloc: Global, line: usize, text: &[u8], error: LineError) -> Ba
         error,
         word: Quote::of(word),
         hint: hint(alloc, text, word, error).unwrap_or(Hint::Nothing),
-    }
-}
-
-/// A line that gives a file which a line before it gave.
-pub fn given_again(line: usize, file: &FileLine, before: usize) -> BadLine
-    ensures { result.line ≡ line }
-{
-    BadLine {
-        line,
-        error: LineError::GivenAgain {
-            at: file.at,
-            line: before,
-        },
-        word: Quote::of(file.name.as_slice()),
-        hint: Hint::Nothing,
     }
 }
 

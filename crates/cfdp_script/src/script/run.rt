@@ -16,6 +16,13 @@ use std::alloc::Global;
 use std::io;
 use std::io::Write;
 
+/// How the commands of a script ended, and what they answered.
+#[derive(Drop)]
+pub struct Ended {
+    pub exit: Exit,
+    pub answered: Vec<Answered>,
+}
+
 /// Does all commands at these stations, and writes the report. There is memory for what they answer
 /// before the first of them, or none is done. The writer isn't flushed.
 pub fn run_steps<S: Stations, W: Write>(
@@ -23,18 +30,22 @@ pub fn run_steps<S: Stations, W: Write>(
     stations: &mut S,
     steps: &[Step],
     out: &mut W,
-) -> Exit
-    ensures { EndsRun result steps.now (S.world stations.old)
+) -> Ended
+    ensures { EndsRun result.exit steps.now (S.world stations.old)
         (W.contents out.old) (W.contents out.new) }
 {
     let Ok(mut answered) = Vec::with_capacity(alloc, steps.len()) else {
-        return Exit::Device(Fault::NoMemoryAtStart);
+        return Ended {
+            exit: Exit::Device(Fault::NoMemoryAtStart),
+            answered: Vec::new(alloc),
+        };
     };
     perform_all(alloc, stations, steps, &mut answered);
-    match report(stations, steps, answered.as_slice(), out) {
+    let exit = match report(stations, steps, answered.as_slice(), out) {
         Ok(exit) => exit,
         Err(_) => Exit::Device(Fault::Unwritable),
-    }
+    };
+    Ended { exit, answered }
 }
 
 /// Does all commands in turn, and keeps what each answered.

@@ -10,9 +10,10 @@ ghost use Rattle.cfdp_report.specs.Exit.{IsFlushedAt};
 ghost use Rattle.cfdp_script.specs.Script.Simulated.{EndsFrom, EndsScript, EndsText, IsSilentAt};
 
 use crate::input::{MAX_SCRIPT, read_script};
+use crate::script::command::FileLine;
 use crate::script::outboxes::outboxes;
-use crate::script::run::run_steps;
-use crate::script::{GivenFile, Script, Step};
+use crate::script::run::{Ended, run_steps};
+use crate::script::{Script, Step};
 use cfdp_report::{Exit, Fault, Onlooker, Ran, Screen, Shown};
 use cfdp_store::{MemoryInbox, MemoryOutbox};
 use link_sim::{World, WorldConfig, worlds_keep_the_promises};
@@ -90,7 +91,7 @@ fn run_commands<W: Write>(
     rt: &HostRuntime,
     shown: &Shown,
     config: Valid<WorldConfig>,
-    files: &[GivenFile],
+    files: &[FileLine],
     steps: &[Step],
     out: &mut W,
 ) -> Ran
@@ -112,7 +113,7 @@ fn first_world<'a>(
     rt: &'a HostRuntime,
     shown: &'a Shown,
     config: Valid<WorldConfig>,
-    files: &[GivenFile],
+    files: &[FileLine],
 ) -> Result<Watched<'a>, AllocError>
     ensures { IfOk result (IsFirst config
         (outbox_of sides.One files.now, outbox_of sides.Two files.now) (map.empty, map.empty)) }
@@ -133,9 +134,10 @@ fn run_world<W: Write>(alloc: Global, mut world: Watched<'_>, steps: &[Step], ou
     ensures { EndsRun result.exit steps.now world.entry
         (W.contents out.old) (W.contents out.new) }
 {
-    let exit = run_steps(alloc, &mut world, steps, out);
-    Ran {
-        exit,
-        seen: world.into_witness().into_summary(),
-    }
+    let Ended { exit, answered } = run_steps(alloc, &mut world, steps, out);
+    let seen = match world.into_witness().into_summary() {
+        Some(seen) => Some(seen.answering(answered)),
+        None => None,
+    };
+    Ran { exit, seen }
 }

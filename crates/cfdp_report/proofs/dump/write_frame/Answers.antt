@@ -17,5 +17,5 @@ returns-in-Ok g c =
 
 pub returns-in-Err : goal.returns-in-Err
 returns-in-Err g c =
-    line_with_end (TellsAsFrame c.args.form c.args.shape c.args.octets.now) _ (frame_fault_text c.in-Err.error c.args.shape (length c.args.octets.now)) (end_of c.args.form) c.end.result.now _ _
+    line_with_end (TellsAsFrame c.args.form c.args.shape c.args.octets.now) _ (frame_fault_text c.args.form c.in-Err.error c.args.shape (length c.args.octets.now)) (end_of c.args.form) c.end.result.now _ _
     (inr (record { error = c.in-Err.error; fault = sym c.in-Err.ensures.refused; words = refl })) c.end.ensures c.writeln-in-Err.ensures.bytes

@@ -12,8 +12,8 @@ loop-rest-init g c = rw c.new-channels.ensures (lines-front _ _ _)
 pub loop-rest-preserved : goal.loop-rest-preserved
 loop-rest-preserved g c =
     let r = c.args.request in
-    lines-behind r c.args.text.now c.loop-rest.rest.now c.cut_line.result.0.now c.without_return.result.now c.cut_line.result.1.now _ (step_text c.in_ok-step.step) _ _ _ _ _
-    c.cut_line.ensures.lines c.without_return.ensures c.in_ok-step.ensures c.loop-rest.invariant
+    lines-behind r c.args.text.now c.loop-rest.rest.now c.cut_line.result.0.now c.cut_line.result.1.now _ (step_text c.in_ok-step.step) _ _ _ _ _
+    c.cut_line.ensures.lines c.in_ok-step.ensures c.loop-rest.invariant
     (more-joined (TellsPiece r) r _ (ended_pieces c.in_ok-step.step.ended) _ (piece_texts c.in_ok-step.step.piece) _ _ _ _ c.in_ok-write_ended.ensures c.in_ok-write_piece.ensures)
 
 pub returns : goal.returns

@@ -1,4 +1,4 @@
-use Rattle.std.proofs.Common.{◌≡◌, ◌∙◌, [], ap}
+use Rattle.std.proofs.Common.{◌≡◌, ◌∙◌, ap}
 use Rattle.cfdp_script.specs.Script.Lines.{lines_of, files_of, steps_of, settings_of, last_set, first_misread}
 use Rattle.cfdp_script.specs.Script.Gathering.{gathered, at_start}
 use Rattle.cfdp_script.proofs.Gathers.{gathers, early_of}
@@ -6,7 +6,7 @@ use Rattle.cfdp_script.proofs.script.Script.parse.Goals as goal
 use Rattle.cfdp_script.proofs.script.Script.parse.Goals.{In_ok-read_lines}
 
 -- what was gathered is what the text says
-all : (c : In_ok-read_lines) → gathered c.read_lines.new.self ≡ early_of [] at_start (lines_of c.args.text.now)
+all : (c : In_ok-read_lines) → gathered c.read_lines.new.self ≡ early_of at_start (lines_of c.args.text.now)
 all c = rw (c.new.ensures.items, c.new-2.ensures.items) at c.in_ok-read_lines.ensures ∙ gathers c.args.text.now
 
 pub returns-clause-files : goal.returns-clause-files

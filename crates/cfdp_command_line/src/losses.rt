@@ -1,0 +1,79 @@
+//! The words that say which frames are lost, to try what losses do.
+ghost use Rattle.std.specs.Prelude.{◌≡◌, false, IfOk};
+ghost use Rattle.clap.specs.Matches.{found_of};
+ghost use Rattle.clap.specs.Simple.{app_of};
+ghost use Rattle.clap.specs.Walk.{rows_of, rule_of};
+ghost use Rattle.cfdp_command_line.specs.Looping.{drop_rule, loss_rule, seed_rule, with_losses};
+ghost use Rattle.cfdp_command_line.specs.Looping as requests;
+ghost use Rattle.cfdp_command_line.specs.Request.{HasNoGlobals, IsCommand};
+
+use crate::arguments::with_argument;
+use crate::looping::{number_in, tuned};
+use clap::{Arg, ArgMatches, Command, value_parser};
+use std::alloc::{AllocError, Global};
+
+/// Which frames are lost: one is if either the count or chance takes it.
+#[derive(Clone, Copy)]
+pub struct LossRequest {
+    /// Each frame of that number is lost, up to 1,000,000; with 0 none is.
+    pub every: u64,
+    /// Each frame is lost with a probability of so many percent, up to 100.
+    pub percent: u64,
+    /// Where the random numbers begin: with the same seed they are the same.
+    pub seed: u64,
+}
+
+/// A subcommand with the arguments that say which frames are lost.
+pub fn losses_command<'a>(alloc: Global, command: Command<'a>) -> Result<Command<'a>, AllocError>
+    requires { HasNoGlobals command }
+    ensures { IfOk result (IsCommand (with_losses (app_of command.entry))) }
+{
+    let counted = with_argument(command, drop_argument(alloc))?;
+    let random = with_argument(counted, loss_argument(alloc))?;
+    with_argument(random, seed_argument(alloc))
+}
+
+fn drop_argument<'a>(alloc: Global) -> Arg<'a>
+    ensures { (rule_of result ≡ drop_rule) × (result.global ≡ false) }
+{
+    tuned(
+        alloc,
+        "drop",
+        "K",
+        "0",
+        "Loses each Kth frame, up to 1000000; 0 loses none",
+    )
+}
+
+fn loss_argument<'a>(alloc: Global) -> Arg<'a>
+    ensures { (rule_of result ≡ loss_rule) × (result.global ≡ false) }
+{
+    Arg::new(alloc, "loss")
+        .long("loss")
+        .value_name("P")
+        .help("Loses each frame with a probability of P percent, 0 to 100")
+        .value_parser(value_parser!(u64).range(0..=100))
+        .default_value("0")
+}
+
+fn seed_argument<'a>(alloc: Global) -> Arg<'a>
+    ensures { (rule_of result ≡ seed_rule) × (result.global ≡ false) }
+{
+    Arg::new(alloc, "seed")
+        .long("seed")
+        .value_name("N")
+        .help("Where the random numbers of --loss begin")
+        .value_parser(value_parser!(u64))
+        .default_value("1")
+}
+
+/// What the words behind a subcommand say of the frames that are lost.
+pub fn losses_of(arguments: &ArgMatches<'_>) -> Option<LossRequest>
+    ensures { result ≡ requests.losses_of (rows_of (found_of arguments.now)) }
+{
+    Some(LossRequest {
+        every: number_in(arguments, "drop", 0, 1_000_000)?,
+        percent: number_in(arguments, "loss", 0, 100)?,
+        seed: number_in(arguments, "seed", 0, u64::MAX)?,
+    })
+}
