@@ -21,7 +21,7 @@ HERE = os.path.dirname(os.path.abspath(__file__))
 TOP = os.path.dirname(HERE)
 C, OUT = f"{TOP}/bindings/c", f"{TOP}/crates/cfdp_c/out"
 TARGET = "aarch64-unknown-linux-gnu"
-SECONDS = 300
+SECONDS = 1200
 
 TOOLS = ("aarch64-linux-gnu-gcc", "qemu-aarch64")
 PACKAGES = ("gcc-aarch64-linux-gnu", "libc6-dev-arm64-cross", "qemu-user")

@@ -7,9 +7,10 @@ and run up to there: as many lines as a station told then are those of its lives
 import random
 import subprocess
 
+import stations
 from sweeps import checksum_of, files_of
 
-SCRIPTS = 120
+SCRIPTS, SECONDS = 120, 600
 
 SETUPS = [
     "set segment 4\nset on_inactivity 2\n",
@@ -63,7 +64,8 @@ def script_of(seed):
 
 def report_of(program, script):
     """The lines of a script's report."""
-    ran = subprocess.run([program, "sim"], input=script, capture_output=True, text=True, timeout=60)
+    how = {"capture_output": True, "text": True, "timeout": SECONDS}
+    ran = subprocess.run([program, "sim"], input=script, **how)
     if ran.returncode > 1 or ran.stderr:
         raise ValueError(f"status {ran.returncode}, {ran.stderr!r}")
     return ran.stdout.splitlines()
@@ -168,7 +170,7 @@ def faults_of(program, script):
 def trials(program):
     """All scripts: a name, and what is wrong with it."""
     complete = 0
-    for seed in range(SCRIPTS):
+    for seed in stations.seeds(SCRIPTS):
         try:
             wrong, count = faults_of(program, script_of(seed))
         except Exception as error:  # pylint: disable=broad-except

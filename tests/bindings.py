@@ -22,7 +22,7 @@ import tempfile
 HERE = os.path.dirname(os.path.abspath(__file__))
 TOP = os.path.dirname(HERE)
 CRATE, C, RUST = f"{TOP}/crates/cfdp_c", f"{TOP}/bindings/c", f"{TOP}/bindings/rust"
-SECONDS = 300
+SECONDS = 1200
 
 sys.path.insert(0, HERE)
 sys.dont_write_bytecode = True
@@ -278,7 +278,7 @@ class Bindings:
     def folders_mistakes(self):
         """What is wrong where the example sends a file from a folder into another one."""
         outbox, inbox = self.empty_folder(), self.empty_folder()
-        octets = os.urandom(700_001)
+        octets = stations.chance_of(70).randbytes(700_001)
         with open(f"{outbox}/a.bin", "wb") as it:
             it.write(octets)
         example = [f"{C}/examples/folders.c", f"{C}/heap.c"]
@@ -411,7 +411,7 @@ class Bindings:
         ports, octets = stations.free_ports(2), 300_000
         with tempfile.TemporaryDirectory(dir=self.room) as folder:
             words = ["--listen", f"127.0.0.1:{ports[1]}", "--to", f"127.0.0.1:{ports[0]}"]
-            ids = ["--id", "2", "--peer", "1", "--inbox", folder, "--idle", "4"]
+            ids = ["--id", "2", "--peer", "1", "--inbox", folder, "--idle", "20"]
             settings = stations.PATIENT.items()
             sets = [it for key, value in settings for it in ("--set", key, str(value))]
             node = [self.program, "station", "--no-time", *ids, *words, *sets]

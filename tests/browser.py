@@ -18,7 +18,7 @@ import time
 BROWSERS = ("chromium", "chromium-browser", "google-chrome", "google-chrome-stable")
 
 # For how many seconds an answer of the browser is waited for.
-PATIENCE = 30
+PATIENCE = 120
 
 # Starts the words behind two descriptors with these as 3 and 4: a browser reads the one and writes
 # the other.
@@ -119,7 +119,7 @@ class Browser:
             raise OSError(f"{script}: {found['exceptionDetails']}")
         return found["result"].get("value")
 
-    def awaits(self, script, seconds=10):
+    def awaits(self, script, seconds=60):
         """Waits until an expression in the page is true; whether it is at last."""
         stop = time.monotonic() + seconds
         while True:

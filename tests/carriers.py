@@ -1,6 +1,5 @@
 """What a datagram carries: stations that send each other Space Packets or PDUs, and a plain peer
 that speaks CFDP by itself."""
-import random
 import select
 import socket
 import struct
@@ -30,7 +29,7 @@ WHOLE_HEARD = bytes([ACK, FINISHED << 4 | 1, 2])
 
 def octets_of(size):
     """Octets of which no two blocks are alike."""
-    return random.Random(size).randbytes(size)
+    return stations.chance_of(size).randbytes(size)
 
 
 def header_of(kind, from_receiver, source, number, destination, length):
@@ -71,7 +70,7 @@ class Peer:
         if self.carrier == "packets":
             count, header = 0xC000 | self.sent % 16384, self.form["peer_secondary_header"]
             first = APIDS[self.own] | 0x1000 * (self.sent % 2) | (0x0800 if header else 0)
-            body = random.Random(self.sent).randbytes(header) + pdu
+            body = stations.chance_of(self.sent).randbytes(header) + pdu
             pdu = struct.pack(">HHH", first, count, len(body) - 1) + body
         self.sent += 1
         self.socket.sendto(pdu, self.to)
@@ -171,7 +170,7 @@ def pair_mistakes(program, carrier, words, settings, sizes):
     with tempfile.TemporaryDirectory(dir=program.room) as folder:
         ports = dict(zip((1, 2), stations.free_ports(2)))
         for own in (1, 2):
-            said = ["--carrier", carrier, "--inbox", "to", "--outbox", "from", "--idle", "4"]
+            said = ["--carrier", carrier, "--inbox", "to", "--outbox", "from", "--idle", "20"]
             for name, size in sizes.items():
                 sent[own][f"{name}{own}"] = octets_of(size + own if size > 1 else size)
                 stations.put(folder, own, name, sent[own][f"{name}{own}"])
@@ -190,13 +189,18 @@ def pair_mistakes(program, carrier, words, settings, sizes):
                 yield f"what came to station {own} isn't what was sent: {sorted(came)}"
 
 
-def pace_mistakes(program, carrier, zone, segment, size, rate):
+def pace_mistakes(program, *those):
+    """What is wrong with the pace of a station, in one of some trials."""
+    yield from stations.in_one_of(links.TRIALS, lambda: pace_trial_mistakes(program, *those))
+
+
+def pace_trial_mistakes(program, carrier, zone, segment, size, rate):
     """What is wrong where a station sends a file at a rate: each datagram counts, however many PDUs
     end in a frame, or frames belong to a PDU."""
     relay = links.Relay()
     with links.Link(program, relay) as link:
         settings = {"zone": zone, "segment": segment}
-        words = ["--carrier", carrier, "--inbox", "to", "--idle", "4"]
+        words = ["--carrier", carrier, "--inbox", "to", "--idle", "20"]
         receiver = link.starts(2, words, settings)
         words = ["--carrier", carrier, "--rate", str(rate), "--idle", "2"]
         sender = link.starts(1, [*words, *link.puts(1, {"a": octets_of(size)})], settings)
@@ -213,10 +217,10 @@ def pace_mistakes(program, carrier, zone, segment, size, rate):
         yield f"{len(times)} datagrams left, and not {pdus}"
     crowd = max(sum(1 for it in times if when <= it < when + 1) for when in times)
     if crowd > rate + 9:
-        yield f"{crowd} datagrams left in a second"
+        yield stations.Timed(f"{crowd} datagrams left in a second")
     longest = max(after - before for before, after in zip(times, times[1:-1]))
     if longest > 3 / rate + 0.6:
-        yield f"for {longest:.2f} s none left"
+        yield stations.Timed(f"for {longest:.2f} s none left")
 
 
 def plain_mistakes(program, carrier, own, form=None):
@@ -276,7 +280,7 @@ FORMS = [
 
 def foreign_datagrams(carrier):
     """What isn't a datagram of the link, with how often each note is to count: none publishes."""
-    chance, told = random.Random(51), {}
+    chance, told = stations.chance_of(51), {}
     if carrier == "packets":
         for note, those in MISFITS.items():
             for digits in those:
@@ -299,7 +303,7 @@ def chance_mistakes(program, carrier):
     with tempfile.TemporaryDirectory(dir=program.room) as folder:
         ports = dict(zip((1, 2), stations.free_ports(2)))
         peer = Peer(carrier, 2, ports)
-        words = ["--carrier", carrier, "--inbox", "to", "--idle", "3"]
+        words = ["--carrier", carrier, "--inbox", "to", "--idle", "15"]
         station = stations.Station(program, folder, 1, 2, ports, words, {})
         station.comes_up()
         for place, octets in enumerate(foreign_datagrams(carrier)):

@@ -1,9 +1,10 @@
-"""Scripts that chance makes, always the same ones, each of which has to complete all of its puts.
+"""Scripts that chance makes, the same ones for each SEED. Each has to complete all of its puts.
 
 Twenty lose nothing and settle. Twenty lose frames, from 10 to 70 of a hundred, and recover. Four
 settle, lose only what belongs to two last puts, and recover with limits of which some are zero. Of
 the frames that arrive or are lost some are those sent first, and some the oldest of one lane.
 """
+import stations
 
 MASK = 2**64 - 1
 
@@ -134,9 +135,9 @@ def late(seed):
 
 def scripts():
     """All of them: a name, the script, and how many puts it has."""
-    for seed in range(20):
+    for seed in stations.seeds(20):
         yield f"script {seed} without losses", *settling(seed)
-    for seed in range(20):
+    for seed in stations.seeds(20):
         yield f"script {seed} with losses", *losing(seed)
-    for seed in range(4):
+    for seed in stations.seeds(4):
         yield f"script {seed} with limits of zero", *late(seed)

@@ -4,6 +4,7 @@ import calendar
 import json
 import os
 import re
+import select
 import subprocess
 import threading
 import time
@@ -13,9 +14,9 @@ import journal
 import links
 import stations
 from control import asked, controlled
-from links import Link, Relay
-from relay import INBOX, SPOOL, Spool, drop, names_in, spool_of, waits_for
-from stations import PATIENT
+from links import SLACK, TRIALS, Link, Relay
+from relay import INBOX, SPOOL, Spool, drop, names_in, spool_of
+from stations import PATIENT, waits_for
 
 # A sender gives up within two seconds of its EOF.
 HASTY = {"eof_time": 1, "eof_limit": 0}
@@ -43,13 +44,13 @@ def retries_mistakes(program):
     with spool_of(program) as (link, spool):
         spool.drops({"a": b"hello"})
         sender = link.starts(1, [*SPOOL, "--retries", "2"], HASTY)
-        if not waits_for(lambda: spool.in_folder(".failed") == {"a": b"hello"}, 40):
+        if not waits_for(lambda: spool.in_folder(".failed") == {"a": b"hello"}):
             yield f"it isn't in .failed: {sender.text('stdout')!r}"
         times = begun(sender)
         if len(times) != 3:
             yield f"it was sent {len(times)} times, and not 3"
         if any(after - before < AGAIN for before, after in zip(times, times[1:])):
-            yield f"it was sent again too soon: {times}"
+            yield stations.Timed(f"it was sent again too soon: {times}")
 
 
 def once_mistakes(program):
@@ -59,14 +60,14 @@ def once_mistakes(program):
         spool = Spool(link)
         spool.drops({"a": b"hello"})
         sender, port = controlled(link, 1, SPOOL, PATIENT)
-        sender.comes_to("eof-sent", 20)
+        sender.comes_to("eof-sent")
         found = re.search(r"transaction (\S+)", sender.text("stdout"))
         answer = asked(program, port, "cancel", found[1] if found else "1:1")
         link.relay.passes = lambda own, frame: True
         link.starts(2, INBOX, PATIENT)
         if answer[:2] != (0, "ok\n"):
             yield f"cancel is answered {answer}"
-        if not waits_for(lambda: spool.in_folder(".failed") == {"a": b"hello"}, 20):
+        if not waits_for(lambda: spool.in_folder(".failed") == {"a": b"hello"}):
             yield f"it isn't in .failed: {sender.text('stdout')!r}"
         time.sleep(AGAIN + 1)
         if len(begun(sender)) != 1:
@@ -79,6 +80,7 @@ def at_once_mistakes(program):
         spool = Spool(link)
         spool.drops({f"f{number}": b"hello" for number in range(6)})
         sender = link.starts(1, [*SPOOL, "--at-once", "2"], PATIENT)
+        waits_for(lambda: len(begun(sender)) >= 2)
         time.sleep(3)
         if len(begun(sender)) != 2:
             yield f"{len(begun(sender))} puts are open, and not 2"
@@ -93,7 +95,7 @@ def size_mistakes(program):
         receiver = link.starts(2, [*INBOX, "--most-size", "1000"], PATIENT)
         link.starts(1, ["--spool", "from", "--no-time", "--rate", "10"], PATIENT)
         over = lambda: names_in(spool.folder) == set()
-        if not waits_for(over, 20):
+        if not waits_for(over):
             yield f"there stay {names_in(spool.folder)}: {receiver.text('stdout')!r}"
         if spool.came() != {"most": files["most"]}:
             yield f"there came {sorted(spool.came())}"
@@ -110,7 +112,7 @@ def quick_size_mistakes(program):
         receiver = link.starts(2, ["--inbox", "to", "--most-size", "1000", *words], PATIENT)
         words += ["--spool", "from", "--retries", "0"]
         link.starts(1, words, PATIENT)
-        if not waits_for(lambda: names_in(spool.folder) == set(), 20):
+        if not waits_for(lambda: names_in(spool.folder) == set()):
             yield f"there stay {names_in(spool.folder)}: {receiver.text('stdout')!r}"
         if spool.came() != {"most": files["most"]}:
             yield f"there came {sorted(spool.came())}"
@@ -128,18 +130,18 @@ def most_open_mistakes(program):
         sender = link.starts(1, SPOOL, PATIENT)
         for name in ("a", "b", "c"):
             drop(spool.folder, name, b"hello")
-            sender.comes_to(f"eof-sent|{name}", 10)
-            time.sleep(1.5)
-        if not waits_for(lambda: spool.in_folder(".failed") == {"c": b"hello"}, 20):
+            if name != "c":
+                receiver.comes_to(f"metadata .* {name} ")
+        if not waits_for(lambda: spool.in_folder(".failed") == {"c": b"hello"}):
             yield f"in .failed lie {spool.in_folder('.failed')}: {receiver.text('stdout')!r}"
         relay.passes = lambda own, frame: True
-        waits_for(lambda: spool.in_folder(".sent").keys() == {"a", "b"}, 20)
+        waits_for(lambda: spool.in_folder(".sent").keys() == {"a", "b"})
         sender.killed()
         link.starts(1, ["--spool", "from", "--no-time", "--rate", "10"], PATIENT)
         for name in ("d", "e"):
             drop(spool.folder, name, bytes(1000))
-            waits_for(lambda: re.search(f" {name} 1000\n", receiver.text("stdout")), 20)
-        waits_for(lambda: receiver.text("stdout").count("retained") == 4, 20)
+            waits_for(lambda: re.search(f" {name} 1000\n", receiver.text("stdout")))
+        waits_for(lambda: receiver.text("stdout").count("retained") == 4)
         if spool.came().keys() != {"a", "b", "d", "e"}:
             yield f"there came {sorted(spool.came())}: {receiver.text('stdout')!r}"
 
@@ -158,9 +160,9 @@ def first_mistakes(program):
             answer = asked(program, port, "put", *said)
             if answer[:2] != (0, "ok\n"):
                 yield f"put {said} is answered {answer}"
-            sender.comes_to("transaction", 10)
+            sender.comes_to("transaction")
         link.relay.passes = lambda own, frame: True
-        waits_for(lambda: receiver.text("stdout").count("finished") == 3, 30)
+        waits_for(lambda: receiver.text("stdout").count("finished") == 3)
         order = re.findall(r"metadata \S+ (\S+)", receiver.text("stdout"))
         if order != ["a", "c", "b"]:
             yield f"they came in the order {order}"
@@ -175,16 +177,16 @@ def stop_mistakes(program):
         spool.drops(files)
         receiver, there = controlled(link, 2, INBOX, PATIENT)
         sender, here = controlled(link, 1, [*SPOOL, "--at-once", "2"], PATIENT)
-        waits_for(lambda: len(begun(sender)) == 2, 10)
+        waits_for(lambda: len(begun(sender)) == 2)
         asked(program, here, "stop")
         time.sleep(1.2)
         link.relay.passes = lambda own, frame: True
-        status, out, err = sender.ended(20)
+        status, out, err = sender.ended()
         if status or not out.endswith("complete 2 of 2\n"):
             yield f"status {status}, {out!r}, {err!r}"
         if len(spool.in_folder(".sent")) != 2 or len(names_in(spool.folder)) != 2:
             yield f"{names_in(spool.folder)} stay"
-        time.sleep(0.3)
+        waits_for(lambda: asked(program, there, "list")[1].startswith("open 0 "))
         told = asked(program, there, "list")
         if not told[1].startswith("open 0 "):
             yield f"at the receiver it is {told[1]!r}: {receiver.text('stdout')!r}"
@@ -221,7 +223,7 @@ def moves_mistakes(program):
     with spool_of(program) as (link, spool):
         with open(f"{spool.folder}/.sent", "wb"):
             pass
-        status, out, err = link.starts(1, [*SPOOL, "--remove-sent", "--idle", "1"]).ended(20)
+        status, out, err = link.starts(1, [*SPOOL, "--remove-sent", "--idle", "1"]).ended()
         if status or not out.endswith("complete 0 of 0\n"):
             yield f"where .sent isn't wanted: status {status}, {out!r}, {err!r}"
 
@@ -231,7 +233,7 @@ def kept_mistakes(program):
     with spool_of(program) as (link, spool):
         spool.drops({"a": b"hello"})
         link.starts(1, [*SPOOL, "--remove-sent", "--retries", "0"], HASTY)
-        if not waits_for(lambda: spool.in_folder(".failed") == {"a": b"hello"}, 20):
+        if not waits_for(lambda: spool.in_folder(".failed") == {"a": b"hello"}):
             yield f"it lies in none of {sorted(os.listdir(spool.folder))}"
 
 
@@ -243,10 +245,10 @@ def replaced_mistakes(program):
         spool.drops({"a": b"older"})
         receiver = link.starts(2, INBOX, PATIENT)
         link.starts(1, SPOOL, PATIENT)
-        receiver.comes_to("finished", 20)
+        receiver.comes_to("finished")
         spool.drops({"a": b"newer"})
         link.relay.passes = lambda own, frame: True
-        waits_for(lambda: receiver.text("stdout").count("finished") == 2, 20)
+        waits_for(lambda: receiver.text("stdout").count("finished") == 2)
         yield from spool.mistakes({"a": b"newer"})
 
 
@@ -265,6 +267,15 @@ def points_mistakes(program):
             yield f"there lie {os.listdir(spool.folder)}"
 
 
+# The calls by which a file leaves its spool.
+LEAVES = (
+    r"rename from/a from/\.leaving/a\n"
+    r"rename from/\.leaving/a from/\.sent/a\n"
+    r"fsync \S*/from/\.sent\n"
+    r"fsync \S*/from\n"
+)
+
+
 def order_mistakes(program):
     """What is wrong with the order in which a file leaves its spool: by a folder of its own, and
     then both folders are flushed; and in which numbers are written: flushed, given their name, and
@@ -274,21 +285,14 @@ def order_mistakes(program):
         link.starts(1, SPOOL, PATIENT, faults="order")
         spool.drops({"a": b"hello"})
         yield from spool.mistakes({"a": b"hello"})
-        time.sleep(1)
-        with open(f"{link.folder}/1/order", encoding="utf-8") as it:
-            calls = it.read()
-    wanted = (
-        r"rename from/a from/\.leaving/a\n"
-        r"rename from/\.leaving/a from/\.sent/a\n"
-        r"fsync \S*/from/\.sent\n"
-        r"fsync \S*/from\n"
-    )
-    if not re.search(wanted, calls):
+        calls = lambda: stations.read(f"{link.folder}/1/order").decode()
+        waits_for(lambda: re.search(LEAVES, calls()))
+        calls = calls()
+    if not re.search(LEAVES, calls):
         yield f"the calls were {calls!r}"
     numbers = r"fsync (\S*)/from\.state\.new\nrename \1/from\.state\.new \1/from\.state\nfsync \1\n"
     if not re.search(numbers, calls):
         yield f"of numbers the calls were {calls!r}"
-
 
 def numbers_mistakes(program, width):
     """What is wrong where a station with a spool is killed, and started anew with its clock set
@@ -301,7 +305,7 @@ def numbers_mistakes(program, width):
         for run, clock in enumerate((0, -86_400, -172_800)):
             spool.drops({f"f{run}{number}": b"hello" for number in range(4)})
             sender = link.starts(1, SPOOL, settings, faults=f"clock={clock}")
-            if not waits_for(lambda: sender.text("stdout").count("finished") >= 4, 20):
+            if not waits_for(lambda: sender.text("stdout").count("finished") >= 4):
                 yield f"not all was sent: {sender.text('stdout')!r}, {receiver.text('stdout')!r}"
             told += sender.killed()
     # A file that was told complete may lie in the spool still where its station is killed.
@@ -320,7 +324,7 @@ def eldest_mistakes(program):
             os.utime(f"{spool.folder}/{name}", (9000 - number, 9000 - number))
         receiver = link.starts(2, INBOX, PATIENT)
         link.starts(1, [*SPOOL, "--at-once", "1"], PATIENT)
-        waits_for(lambda: receiver.text("stdout").count("metadata") >= 3, 30)
+        waits_for(lambda: receiver.text("stdout").count("metadata") >= 3)
         order = re.findall(r"metadata \S+ (\S+)", receiver.text("stdout"))[:3]
     if order != ["f1099", "f1098", "f1097"]:
         yield f"the first that came are {order}"
@@ -346,7 +350,7 @@ def causes_mistakes(program):
         receiver = link.starts(2, ["--inbox", "to"], PATIENT)
         os.makedirs(f"{link.folder}/2/to/there/in the way")
         sender = link.starts(1, [*words, "--idle", "1"], PATIENT)
-        status, out, err = sender.ended(30)
+        status, out, err = sender.ended()
         told = re.sub(r"\d{6,}", "N", receiver.text("stderr"))
         receiver.killed()
     wanted = [
@@ -364,7 +368,7 @@ def no_inbox_mistakes(program):
     with Link(program) as link:
         receiver = link.starts(2, [], PATIENT)
         words = [*link.puts(1, {"a": b"hello", "b": b"hello"}), "--idle", "1"]
-        status, out, err = link.starts(1, words, PATIENT).ended(30)
+        status, out, err = link.starts(1, words, PATIENT).ended()
         told = stations.unheard(receiver.text("stderr"))
     wanted = r"error: a file came, and there is no --inbox \(transaction 1:\d+\)\n"
     if not re.fullmatch(wanted, told):
@@ -385,10 +389,10 @@ def json_mistakes(program):
     with Link(program) as link:
         words = [*link.puts(1, {"a": b"hello", "b": bytes(3000)}), "--idle", "2", "--json"]
         words[4:5], words[-1:] = [ODD], ["--json", "--no-time"]
-        receiver = link.starts(2, ["--inbox", "to", "--idle", "8", "--json"], PATIENT)
+        receiver = link.starts(2, ["--inbox", "to", "--idle", "20", "--json"], PATIENT)
         sender = link.starts(1, words, PATIENT)
         for it in (sender, receiver):
-            status, out, _ = it.ended(60)
+            status, out, _ = it.ended()
             if status not in (1, 3):
                 yield f"station {it.own} ended with status {status}"
             yield from journal.object_mistakes(out, it.own, it.own == 2)
@@ -403,15 +407,15 @@ def stamps_mistakes(program):
     with Link(program) as link:
         words = [*link.puts(1, {"a": b"hello"}), "--idle", "2"]
         began = time.time()
-        receiver = link.starts(2, ["--inbox", "to", "--idle", "8", "--json"], PATIENT)
+        receiver = link.starts(2, ["--inbox", "to", "--idle", "20", "--json"], PATIENT)
         command = [program.path, "station", "--id", "1", "--peer", "2", *words]
         command += ["--listen", f"127.0.0.1:{link.ports[1]}", "--to", f"127.0.0.1:{link.ports[2]}"]
         with stations.ALONE:
             how = {"cwd": f"{link.folder}/1", "env": {"PATH": "/usr/bin:/bin"}}
             pipes = {"stdout": subprocess.PIPE, "stderr": subprocess.PIPE}
             sender = subprocess.Popen(command, **how, **pipes)
-        out = sender.communicate(timeout=60)[0].decode()
-        told = receiver.ended(60)[1]
+        out = sender.communicate(timeout=stations.SECONDS)[0].decode()
+        told = receiver.ended()[1]
         over = time.time()
     if journal.unstamped(out):
         yield f"these lines have no time: {journal.unstamped(out)}"
@@ -445,7 +449,7 @@ def counters_mistakes(program):
         files = {"a": bytes(3000), "b": bytes(1), "c": bytes(0)}
         receiver, there = controlled(link, 2, ["--inbox", "to"], PATIENT)
         sender, here = controlled(link, 1, link.puts(1, files), PATIENT)
-        waits_for(lambda: sender.text("stdout").count("finished") == 3, 30)
+        waits_for(lambda: sender.text("stdout").count("finished") == 3)
         time.sleep(0.5)
         sent, received = (counted(asked(program, it, "counters")[1]) for it in (here, there))
     for name, wanted in (("files_sent", 3), ("octets_sent", 3001), ("puts_made", 3)):
@@ -466,9 +470,11 @@ def late_mistakes(program):
         receiver, port = controlled(link, 2, ["--inbox", "to"])
         for count in (0, 5, 3):
             link.relay.give(2, links.frame_of(links.DIRECTIVES, count, links.filled(b"")))
+        is_so = lambda told: (told.get("frame_gaps"), told.get("frames_missing")) == (1, 4)
+        waits_for(lambda: is_so(counted(asked(program, port, "counters")[1])))
         time.sleep(1)
         told = counted(asked(program, port, "counters")[1])
-    if (told.get("frame_gaps"), told.get("frames_missing")) != (1, 4):
+    if not is_so(told):
         yield f"it counts {told}"
 
 
@@ -477,7 +483,7 @@ def meanings_mistakes(program):
     with Link(program, Relay(deaf_to_answers)) as link:
         receiver = link.starts(2, ["--inbox", "to", "--json"], {"inactivity_time": 1})
         link.relay.give(2, links.frame_of(links.FILE_DATA, 0, packet_of_piece(7)))
-        receiver.comes_to('"event":"fault"', 10)
+        receiver.comes_to('"event":"fault"')
         time.sleep(0.3)
         found = [json.loads(line) for line in receiver.text("stdout").splitlines()]
     told = {(it.get("condition"), it.get("meaning")) for it in found if it["event"] == "fault"}
@@ -500,7 +506,7 @@ def unwritable_mistakes(program):
         with stations.ALONE:
             it = subprocess.Popen(words, **how)
         try:
-            told = it.communicate(timeout=15)[1].decode()
+            told = it.communicate(timeout=stations.SECONDS)[1].decode()
         except subprocess.TimeoutExpired:
             it.kill()
             told = "nothing, and didn't end"
@@ -529,12 +535,12 @@ def list_mistakes(program):
     with Link(program, Relay(deaf_to_answers)) as link:
         words = [*link.puts(2, {"a": bytes(5000)}), "--inbox", "to", "--at-once", "9"]
         station, port = controlled(link, 2, words, {**PATIENT, "eof_time": 30})
-        station.comes_to("eof-sent", 10)
+        station.comes_to("eof-sent")
         time.sleep(2)
         for number in (9, 7):
             zone = next(iter(links.zones_of([links.eof(number)])))
             link.relay.give(2, links.frame_of(links.DIRECTIVES, number - 7, zone))
-            station.comes_to(f"eof-recv 1:{number}", 10)
+            station.comes_to(f"eof-recv 1:{number}")
         status, out, _ = asked(program, port, "list")
     ids = re.findall(r"(?m)^(\d+:\d+) ", out)
     if status or ids[:2] != ["1:7", "1:9"] or len(ids) != 3 or not ids[2].startswith("2:"):
@@ -569,7 +575,7 @@ def frozen_mistakes(program):
     told of that."""
     with Link(program, Relay(deaf_to_answers)) as link:
         sender, port = controlled(link, 1, link.puts(1, {"a": b"hello"}), {"eof_time": 100})
-        sender.comes_to("eof-sent", 10)
+        sender.comes_to("eof-sent")
         time.sleep(0.5)
         asked(program, port, "freeze")
         time.sleep(13)
@@ -584,13 +590,17 @@ def stuck_mistakes(program):
         _, port = controlled(link, 2, ["--inbox", "to"])
         with control.Client(port, is_deaf=True) as client:
             client.babbles(2)
-            time.sleep(33)
+            ends, most = select.poll(), 33 + SLACK
+            ends.register(client.socket, select.POLLRDHUP)
+            if not ends.poll(most * 1000):
+                yield f"after {most} s such a client's connection is there"
+                return
             client.socket.settimeout(2)
             try:
                 client.says(b"help\n" * 100_000)
-                yield "after 33 s it takes more of such a client"
+                yield "after that it takes more of such a client"
             except TimeoutError:
-                yield "after 33 s such a client's connection is there"
+                yield "such a client's connection has ended, and is there"
             except ConnectionError:
                 pass
 
@@ -598,7 +608,8 @@ def stuck_mistakes(program):
 def all_mistakes(program):
     """What is tried, with what is wrong in it; first what takes longest."""
     yield "a client that reads nothing for half a minute", stuck_mistakes(program)
-    yield "how often a file is sent again", retries_mistakes(program)
+    retries = stations.in_one_of(TRIALS, lambda: retries_mistakes(program))
+    yield "how often a file is sent again", retries
     yield "a link that is down by plan for long", frozen_mistakes(program)
     yield "a file whose sending is cancelled", once_mistakes(program)
     yield "how many puts are open at once", at_once_mistakes(program)

@@ -27,8 +27,8 @@ import types
 import browser
 import console_page
 import control
-import links
-from links import SLACK, Link, Relay
+import stations
+from links import SLACK, TRIALS, Link, Relay
 from stations import PATIENT
 
 TOP = os.path.dirname(os.path.dirname(os.path.abspath(__file__)))
@@ -39,8 +39,8 @@ MOST_OPEN, MOST_OCTETS, PATIENCE = 16, 65536, 10
 TOKEN = "0123456789abcdef-token"
 
 # The most by which frames may be late for a console, in seconds, and the share of them that counts:
-# the rest are late for what else runs on the machine.
-LATE, SHARE = 0.001, 0.95
+# the rest are late for what else runs on the machine. With SLACK=1 it is a millisecond.
+LATE, SHARE = 0.001 * SLACK, 0.95
 
 # A client that asks for all that there is, again and again, and tells how many answers it had.
 CLIENT = """
@@ -73,16 +73,12 @@ class Console:
                 it.write(token + "\n")
             words += ["--console-token", "token"]
         self.station = link.starts(end, words, settings, **ways)
-        stop = time.monotonic() + 10
-        while time.monotonic() < stop:
-            with contextlib.suppress(OSError):
-                socket.create_connection(("127.0.0.1", self.port), timeout=1).close()
-                break
-            time.sleep(0.02)
+        ended = lambda: self.station.process.poll() is not None
+        stations.waits_for(lambda: control.is_answered(self.port) or ended())
 
     def asks(self, method, path, headers=(), body=None):
         """The status of an answer, its fields and its body."""
-        it = http.client.HTTPConnection("127.0.0.1", self.port, timeout=PATIENCE + 5)
+        it = http.client.HTTPConnection("127.0.0.1", self.port, timeout=stations.SECONDS)
         with contextlib.closing(it):
             it.request(method, path, body=body, headers=dict(headers))
             answer = it.getresponse()
@@ -106,14 +102,14 @@ class Console:
         status, _, text = self.asks("POST", path, self.shown(), octets)
         return status, json.loads(text)
 
-    def says(self, octets, seconds=PATIENCE + 5):
+    def says(self, octets, seconds=PATIENCE + 5 + SLACK):
         """What comes for these octets, until the connection is closed."""
         with socket.create_connection(("127.0.0.1", self.port), timeout=seconds) as it:
             with contextlib.suppress(ConnectionError):
                 it.sendall(octets)
             return all_of(it)
 
-    def awaits(self, path, is_so, seconds=20):
+    def awaits(self, path, is_so, seconds=stations.SECONDS):
         """Asks for an object until this is so of it; what it is at last."""
         stop = time.monotonic() + seconds
         while True:
@@ -380,7 +376,7 @@ def token_mistakes(program):
             with open(f"{link.folder}/2/token", "w", encoding="ascii") as it:
                 it.write(token)
             it = link.starts(2, ["--inbox", "to", *words], waits=False)
-            status, out, err = it.ended(10)
+            status, out, err = it.ended()
         if status not in (2, 3) or out or not err.startswith("error: --console"):
             yield f"{words}: status {status}, {out!r}, {err!r}"
 
@@ -389,7 +385,7 @@ def address_mistakes(program):
     """What is wrong where the console's address is in use."""
     with Link(program) as link, socket.create_server(("127.0.0.1", 0)) as taken:
         words = ["--inbox", "to", "--console", f"127.0.0.1:{taken.getsockname()[1]}"]
-        status, out, err = link.starts(2, words, waits=False).ended(10)
+        status, out, err = link.starts(2, words, waits=False).ended()
         if status != 3 or out or not re.fullmatch("error: --console [0-9.:]+: .* in use.*\n", err):
             yield f"{words}: status {status}, {out!r}, {err!r}"
 
@@ -433,7 +429,7 @@ def request_mistakes(program):
 
 def in_parts(it, octets, cut):
     """What comes for octets that are sent in parts of this length."""
-    with socket.create_connection(("127.0.0.1", it.port), timeout=PATIENCE) as end:
+    with socket.create_connection(("127.0.0.1", it.port), timeout=PATIENCE + SLACK) as end:
         end.setsockopt(socket.IPPROTO_TCP, socket.TCP_NODELAY, 1)
         for place in range(0, len(octets), cut):
             end.sendall(octets[place : place + cut])
@@ -446,7 +442,7 @@ def kept_mistakes(program):
     with Link(program) as link:
         it = Console(link, 2, ["--inbox", "to"])
         head, own = f"Host: 127.0.0.1:{it.port}\r\n", it.shown()
-        kept = http.client.HTTPConnection("127.0.0.1", it.port, timeout=PATIENCE)
+        kept = http.client.HTTPConnection("127.0.0.1", it.port, timeout=PATIENCE + SLACK)
         with contextlib.closing(kept):
             ends = set()
             for path in ("/status", "/nothing", "/transactions", "/", "/freeze", "/status"):
@@ -464,7 +460,7 @@ def kept_mistakes(program):
             ("HTTP/1.0", f"GET /status HTTP/1.0\r\n{head}Connection: keep-alive\r\n\r\n", 1),
         )
         for what, text, wanted in rows:
-            found = it.says(text.encode(), 5)
+            found = it.says(text.encode())
             if found is None or found.count(b"HTTP/1.1 200 ") != wanted:
                 yield f"{what}: {found}"
 
@@ -477,7 +473,8 @@ def slow_mistakes(program):
         with contextlib.ExitStack() as stack:
             slow = []
             for _ in range(MOST_OPEN):
-                one = socket.create_connection(("127.0.0.1", it.port), timeout=PATIENCE + 5)
+                most = PATIENCE + 5 + SLACK
+                one = socket.create_connection(("127.0.0.1", it.port), timeout=most)
                 slow.append(stack.enter_context(one))
                 one.sendall(b"GET /status HTTP/1.1\r\n")
             time.sleep(0.5)
@@ -491,7 +488,7 @@ def slow_mistakes(program):
                 if all_of(one) != b"":
                     yield "a slow one was answered"
             took = time.monotonic() - began
-            asking.join(PATIENCE)
+            asking.join(stations.SECONDS)
         if not PATIENCE - 1 < took < PATIENCE + 3 + SLACK:
             yield f"slow ones were left after {took:.1f} s"
         if beside.get("station") != 2:
@@ -520,17 +517,22 @@ def control_mistakes(program):
 
 
 def late_mistakes(program):
+    """What is wrong with the times of frames, in one of some trials."""
+    yield from stations.in_one_of(TRIALS, lambda: late_trial_mistakes(program))
+
+
+def late_trial_mistakes(program):
     """What is wrong with the times at which frames leave a station while 16 clients ask its console
     all that they can, beside those where they ask its peer's."""
     for how in ("over new connections", "over one connection each"):
         try:
             beside, own = (lateness(program, end, how) for end in (2, 1))
         except OSError as error:
-            yield f"{how}: {error}"
+            yield stations.Timed(f"{how}: {error}")
             continue
         if own - beside > LATE:
-            yield (f"{how}: frames are {own * 1e3:.2f} ms apart, and {beside * 1e3:.2f} ms where "
-                   "the peer is asked")
+            apart = f"{own * 1e3:.2f} ms apart, and {beside * 1e3:.2f} ms where the peer is asked"
+            yield stations.Timed(f"{how}: frames are {apart}")
 
 
 def lateness(program, end, how):

@@ -77,7 +77,7 @@ ALONE = threading.Lock()
 @contextlib.contextmanager
 def opened(program, make, words=(), token=None, files=None):
     """A station with a console, whose page a browser shows, and the link to its peer."""
-    files = {"long.bin": bytes(400_000), "short.bin": b"short"} if files is None else files
+    files = {"long.bin": bytes(4_000_000), "short.bin": b"short"} if files is None else files
     with ALONE, links.Link(program, links.Relay()) as link, Browser() as page:
         link.puts(1, files)
         link.starts(2, ["--inbox", "to"], PATIENT)
@@ -101,8 +101,8 @@ def put_mistakes(program, make):
                 yield f"a put of {name}: the page says {page.finds(TEXT_OF.format('said'))}"
         if not page.awaits("document.querySelectorAll('#closed tr').length === 1", SOON):
             yield "the short file isn't shown as closed"
-        if not page.awaits(text_has("closed", "short.bin"), 1) or not page.awaits(
-                text_has("closed", "sent"), 1):
+        if not page.awaits(text_has("closed", "short.bin"), SOON) or not page.awaits(
+                text_has("closed", "sent"), SOON):
             yield f"closed: {page.finds(TEXT_OF.format('closed'))}"
         if links.stations.files_at(link.folder, 2).get("short.bin") != b"short":
             yield "the short file isn't at the peer"
@@ -111,7 +111,8 @@ def put_mistakes(program, make):
         page.clicks("document.querySelector('#open .harm')")
         if not page.awaits("document.querySelectorAll('#closed tr').length === 2", SOON):
             yield "cancel didn't end the file"
-        if not page.awaits("document.querySelector('#closed .bad')?.textContent === 'failed'", 2):
+        failed = "document.querySelector('#closed .bad')?.textContent === 'failed'"
+        if not page.awaits(failed, SOON):
             yield f"closed: {page.finds(TEXT_OF.format('closed'))}"
         if "long.bin" in links.stations.files_at(link.folder, 2):
             yield "a file that was cancelled is at the peer"
@@ -167,7 +168,7 @@ def kept_mistakes(program, make):
     with opened(program, make, files={f"f{number}": b"x" for number in range(60)}) as (_, it, page):
         for number in range(60):
             it.does("/puts", {"source": f"f{number}"})
-        if not page.awaits("document.querySelectorAll('#closed tr').length === 60", 20):
+        if not page.awaits("document.querySelectorAll('#closed tr').length === 60", 2 * SOON):
             yield "the files aren't shown as closed"
         page.finds("(document.getElementById('log-box').scrollTop = 40, 0)")
         page.finds("(document.getElementById('closed-box').scrollTop = 50, 0)")
@@ -201,7 +202,7 @@ def markup_mistakes(program, make):
             page.finds("document.getElementById('token').focus()")
             page.types(text)
             page.presses("Enter", "Enter", "\r")
-            if page.awaits(text_is("state", "link up"), 3) != is_let_in:
+            if page.awaits(text_is("state", "link up"), SOON if is_let_in else 3) != is_let_in:
                 yield f"the page with the token {text}: {page.finds(TEXT_OF.format('state'))}"
         name = "<b>x</b><img/src=x/onerror=alert(1)>"
         it.does("/puts", {"source": "plain", "destination": name})
@@ -209,7 +210,7 @@ def markup_mistakes(program, make):
             yield "the file isn't shown"
         if page.finds("document.querySelectorAll('main b, main img').length"):
             yield "a name is markup in the page"
-        if not page.finds(text_has("lines", "finished")):
+        if not page.awaits(text_has("lines", "finished"), SOON):
             yield f"the log: {page.finds(TEXT_OF.format('lines'))}"
 
 

@@ -2,7 +2,6 @@
 import fcntl
 import os
 import pty
-import random
 import re
 import select
 import signal
@@ -14,7 +13,7 @@ import time
 
 import links
 import stations
-from links import SLACK, Link, Relay
+from links import SLACK, TRIALS, Link, Relay
 from stations import PATIENT
 
 # A station at rest wakes less often than so many times a second.
@@ -24,10 +23,18 @@ MOST_WAKES = 20
 SOON = 0.3 + SLACK
 
 
+# Sockets that keep the ports that were given out. They don't listen, and a station may listen at
+# such a port beside them; but the system gives it to no connection that begins meanwhile.
+KEPT = []
+
+
 def free_port():
-    """A port of 127.0.0.1 for connections that nobody has."""
-    with stations.ALONE, socket.socket() as it:
+    """A port of 127.0.0.1 for connections that nobody has, and that nobody else is given."""
+    with stations.ALONE:
+        it = socket.socket()
+        it.setsockopt(socket.SOL_SOCKET, socket.SO_REUSEADDR, 1)
         it.bind(("127.0.0.1", 0))
+        KEPT.append(it)
         return it.getsockname()[1]
 
 
@@ -38,7 +45,7 @@ class Client:
         self.socket, self.rest = socket.socket(), b""
         if is_deaf:
             self.socket.setsockopt(socket.SOL_SOCKET, socket.SO_RCVBUF, 4096)
-        self.socket.settimeout(10)
+        self.socket.settimeout(stations.SECONDS)
         self.socket.connect(("127.0.0.1", port))
 
     def __enter__(self):
@@ -95,14 +102,29 @@ def controlled(link, end, words, settings=None, **ways):
     """A station that takes commands at an address, and the port of that."""
     port = free_port()
     it = link.starts(end, [*words, "--control", f"127.0.0.1:{port}"], settings, **ways)
-    stop = time.monotonic() + 10
-    while time.monotonic() < stop:
-        try:
-            socket.create_connection(("127.0.0.1", port), timeout=1).close()
-            break
-        except OSError:
-            time.sleep(0.02)
+    stations.waits_for(lambda: is_answered(port) or it.process.poll() is not None)
     return it, port
+
+
+def is_answered(port):
+    """Whether somebody takes connections at this port."""
+    try:
+        socket.create_connection(("127.0.0.1", port), timeout=1).close()
+        return True
+    except OSError:
+        return False
+
+
+def let_in(port):
+    """A client that a station has taken on, and its first answer: so it has left those before."""
+    stop = time.monotonic() + stations.SECONDS
+    while True:
+        client = Client(port)
+        answer = client.asks("counters")
+        if fits(answer, "ok|") or time.monotonic() > stop:
+            return client, answer
+        client.socket.close()
+        time.sleep(0.05)
 
 
 def asked(program, port, *words):
@@ -110,7 +132,7 @@ def asked(program, port, *words):
     whole = [program.path, "ask", f"127.0.0.1:{port}", *words]
     with stations.ALONE:
         it = subprocess.Popen(whole, stdout=subprocess.PIPE, stderr=subprocess.PIPE)
-    out, err = it.communicate(timeout=30)
+    out, err = it.communicate(timeout=stations.SECONDS)
     return it.returncode, out.decode(), err.decode()
 
 
@@ -167,7 +189,7 @@ def address_mistakes(program):
     for address in ("0.0.0.0:0", "[::]:0", "192.0.2.1:5000", "nonsense"):
         with Link(program) as link:
             it = link.starts(2, ["--inbox", "to", "--control", address], waits=False)
-            status, out, err = it.ended(10)
+            status, out, err = it.ended()
         if status not in (2, 3) or out or not err.startswith("error: --control"):
             yield f"{address}: status {status}, {out!r}, {err!r}"
     with Link(program) as link, socket.socket() as other:
@@ -175,7 +197,7 @@ def address_mistakes(program):
         other.listen()
         address = f"127.0.0.1:{other.getsockname()[1]}"
         it = link.starts(2, ["--inbox", "to", "--control", address], waits=False)
-        status, out, err = it.ended(10)
+        status, out, err = it.ended()
     if status not in (2, 3) or out or not err.startswith("error: --control"):
         yield f"one in use: status {status}, {out!r}, {err!r}"
 
@@ -246,8 +268,10 @@ def input_mistakes(program):
             it.process.stdin.flush()
             time.sleep(0.2)
         it.process.stdin.close()
+        answers = lambda: re.findall(r"(?m)^(?:ok$|error: .*)", it.text("stdout"))
+        stations.waits_for(lambda: len(answers()) >= 5)
         time.sleep(1)
-        found = re.findall(r"(?m)^(?:ok$|error: .*)", it.text("stdout"))
+        found = answers()
         wanted = ["ok", "error: ", "error: the line isn't", "error: the line has more", "ok"]
         if len(found) != 5 or not all(it.startswith(to) for it, to in zip(found, wanted)):
             yield f"its answers: {found}"
@@ -258,14 +282,16 @@ def input_mistakes(program):
             lines.write(text)
             lines.seek(0)
             it = link.starts(2, words, stdin=lines)
+            stations.waits_for(lambda: it.text("stdout").count("ok\n") >= text.count("\n"))
             time.sleep(0.5)
             found = it.text("stdout").count("ok\n")
             if found != text.count("\n") or it.process.poll() is not None:
                 yield f"a file of commands: {found} answers, {it.process.poll()}"
 
 
-# A shell that has a station in the background of its terminal for three seconds, then before it.
-BACKGROUND = "set -m; {} & sleep 3; fg"
+# A shell that has a station in the background of its terminal until there is a file `go`, and then
+# in front of it.
+BACKGROUND = "set -m; {} & until [ -e go ]; do sleep 0.1; done; fg"
 
 
 def takes_terminal():
@@ -273,6 +299,24 @@ def takes_terminal():
     runs all this ignores one."""
     signal.signal(signal.SIGINT, signal.SIG_DFL)
     fcntl.ioctl(0, termios.TIOCSCTTY, 0)
+
+
+def ports_in_use():
+    """What the system tells of the sockets for datagrams."""
+    with open("/proc/net/udp", encoding="ascii") as it:
+        return it.read()
+
+
+def told_until(output, word):
+    """What comes from an output until it has this word."""
+    told, stop = b"", time.monotonic() + stations.SECONDS
+    while word not in told and time.monotonic() < stop:
+        if select.select([output], [], [], 1)[0]:
+            octets = os.read(output.fileno(), 4096)
+            told += octets
+            if not octets:
+                break
+    return told
 
 
 def interrupted(process, terminal):
@@ -294,7 +338,7 @@ def terminal_mistakes(program):
     first: it isn't stopped for reading there, and what is typed is taken once it is before it."""
     with Link(program) as link:
         words = [program.path, "station", "--id", "2", "--peer", "1", "--inbox", ".", "--commands"]
-        for option, port in zip(("--listen", "--to"), stations.free_ports(2)):
+        for option, port in zip(("--to", "--listen"), stations.free_ports(2)):
             words += [option, f"127.0.0.1:{port}"]
         outer, inner = pty.openpty()
         ways = {"stdin": inner, "stderr": inner, "stdout": subprocess.PIPE}
@@ -302,13 +346,15 @@ def terminal_mistakes(program):
         with stations.ALONE:
             shell = ["bash", "-c", BACKGROUND.format(" ".join(words))]
             it = subprocess.Popen(shell, cwd=link.folder, start_new_session=True, **ways)
-        time.sleep(1)
+        is_up = lambda: f":{int(words[-1].rpartition(':')[2]):04X} " in ports_in_use()
+        stations.waits_for(is_up)
         os.write(outer, b"counters\n")
         time.sleep(1)
         if select.select([it.stdout], [], [], 0)[0]:
             yield f"in the background it writes {os.read(it.stdout.fileno(), 4096)!r}"
-        time.sleep(3)
-        out = interrupted(it, outer)
+        with open(f"{link.folder}/go", "wb"):
+            out = told_until(it.stdout, b"ok\n")
+        out += interrupted(it, outer)
         if not out.decode().endswith("ok\n") or b"topped" in out:
             yield f"in front it writes {out!r}"
         for fd in (outer, inner):
@@ -323,9 +369,8 @@ def crowd_mistakes(program):
     another one ends."""
     with Link(program) as link:
         _, port = controlled(link, 2, ["--inbox", "to"])
-        time.sleep(0.2)
-        clients = [Client(port) for _ in range(8)]
-        told = [it.asks("counters") for it in clients]
+        clients, told = zip(*(let_in(port) for _ in range(8)))
+        clients = list(clients)
         if not all(fits(it, "ok|") for it in told):
             yield f"eight connections are told {told}"
         for _ in range(20):
@@ -334,11 +379,10 @@ def crowd_mistakes(program):
                 if not fits(answer, "error: 8 connections"):
                     yield f"the ninth is told {answer!r}"
         clients.pop().socket.close()
-        time.sleep(0.2)
-        with Client(port) as more:
-            answer = more.asks("counters")
-            if not fits(answer, "ok|"):
-                yield f"where one has ended the next is told {answer!r}"
+        more, answer = let_in(port)
+        more.socket.close()
+        if not fits(answer, "ok|"):
+            yield f"where one has ended the next is told {answer!r}"
         told = [it.asks("counters") for it in clients]
         if not all(fits(it, "ok|") for it in told):
             yield f"the seven that are left are told {told}"
@@ -349,6 +393,7 @@ def crowd_mistakes(program):
 def deaf_mistakes(program):
     """What is wrong where clients never read, close in the midst of an answer, or are reset: others
     are answered all the same, and little memory is taken."""
+    chance = stations.chance_of(46)
     with Link(program) as link:
         it, port = controlled(link, 2, ["--inbox", "to"])
         deaf = [Client(port, is_deaf=True) for _ in range(4)]
@@ -364,7 +409,7 @@ def deaf_mistakes(program):
                 if not fits(answer, "ok|") or took > SOON:
                     yield f"beside clients that don't read: {answer!r} after {took:.2f} s"
                 client.says(b"help\n" * 100)
-                if random.random() < 0.5:
+                if chance.random() < 0.5:
                     client.breaks_off()
         for thread in babblers:
             thread.join()
@@ -381,9 +426,14 @@ def deaf_mistakes(program):
 
 
 def burst_mistakes(program):
+    """What is wrong in a burst of commands, in one of some trials."""
+    yield from stations.in_one_of(TRIALS, lambda: burst_trial_mistakes(program))
+
+
+def burst_trial_mistakes(program):
     """What is wrong where 10,000 lines come in a burst as a file is sent: each is answered, in
     order, and frames leave all the while."""
-    octets = random.Random(43).randbytes(1_000_000)
+    octets = stations.chance_of(43).randbytes(1_000_000)
     with Link(program, Relay()) as link:
         receiver = link.starts(2, ["--inbox", "to"], PATIENT)
         words = link.puts(1, {"a": octets}) + ["--rate", "1000"]
@@ -396,7 +446,7 @@ def burst_mistakes(program):
         wrong = [it for at, it in enumerate(answers) if not fits(it, ("ok|", "error: ")[at % 2])]
         if wrong or len(answers) != 10_000:
             yield f"{len(answers)} answers, of which {len(wrong)} are others: {wrong[:2]}"
-        if receiver.comes_to("finished .* 0 complete retained", 30) is None:
+        if receiver.comes_to("finished .* 0 complete retained") is None:
             yield "the file didn't come"
         times = sorted(when for when, own, _ in list(link.relay.came) if own == 1)
         yield from links.silence_mistakes(times[:4000], 1000)
@@ -437,7 +487,7 @@ def rest_mistakes(program):
         clients[6].socket.shutdown(socket.SHUT_WR)
         clients[7].babbles(2)
         # What was asked so far is answered as far as there is room for that.
-        stop = time.monotonic() + 40
+        stop = time.monotonic() + stations.SECONDS
         while wakes(it.process, 0.5)[1] > 0.05 and time.monotonic() < stop:
             pass
         for what in ("as it is", "while it is frozen"):
@@ -461,9 +511,9 @@ def rest_mistakes(program):
 def freeze_mistakes(program):
     """What is wrong where a link is down by plan for longer than all timers: no frame leaves, no
     timer runs, what comes is thrown away, and once it is up again all goes on."""
-    octets = random.Random(44).randbytes(60_000)
-    soon = {"eof_time": 1, "eof_limit": 2, "nak_time": 1, "nak_limit": 2, "finished_time": 1}
-    soon |= {"finished_limit": 2, "inactivity_time": 4}
+    octets = stations.chance_of(44).randbytes(60_000)
+    soon = {"eof_time": 5, "eof_limit": 2, "nak_time": 5, "nak_limit": 2, "finished_time": 5}
+    soon |= {"finished_limit": 2, "inactivity_time": 15}
     with Link(program, Relay()) as link:
         receiver, there = controlled(link, 2, ["--inbox", "to", "--idle", "3"], soon)
         words = link.puts(1, {"a": octets}) + ["--rate", "100", "--idle", "3"]
@@ -478,7 +528,8 @@ def freeze_mistakes(program):
         began = time.time()
         for count in range(50):
             link.relay.give(1, links.idle_frame(count))
-        time.sleep(7)
+        time.sleep(20)
+        link.relay.catches_up()
         late = link.relay.first(began)
         if late is not None:
             yield f"a frame left {late - began:.2f} s after the link was down"
@@ -491,9 +542,9 @@ def freeze_mistakes(program):
         for port in (there, here):
             if asked(program, port, "thaw")[:2] != (0, "ok\n"):
                 yield "thaw isn't answered ok"
-        if receiver.comes_to("finished .* 0 complete retained", 20) is None:
+        if receiver.comes_to("finished .* 0 complete retained") is None:
             yield f"the file didn't come: {receiver.text('stdout')!r}"
-        ends = sender.ended(20), receiver.ended(20)
+        ends = sender.ended(), receiver.ended()
         if any(status or "fault" in out for status, out, _ in ends):
             yield f"they ended so: {ends}"
         if stations.files_at(link.folder, 2) != {"a": octets}:
@@ -504,14 +555,13 @@ def list_mistakes(program):
     """What is wrong with what `list` tells of a file on its way: how far both ends are, of which a
     frame is lost, and for what each waits; and with what a Keep Alive adds."""
     lost = lambda own, frame: own != 1 or len(link.relay.came) != 40
-    line = r"open 1 waiting 0 timeout \S+\n(1:\d+) (\w+) a b 60000 (\d+) (\S+) (\S+)\nok\n"
+    line = r"open 1 waiting 0 timeout \S+\n(1:\d+) (\w+) a b 2000000 (\d+) (\S+) (\S+)\nok\n"
     with Link(program, Relay(lost)) as link:
         _, there = controlled(link, 2, ["--inbox", "to"], PATIENT)
-        stations.put(link.folder, 1, "a", random.Random(45).randbytes(60_000))
+        stations.put(link.folder, 1, "a", stations.chance_of(45).randbytes(2_000_000))
         words = ["--outbox", "from", "--put", "a", "b", "--rate", "100"]
         _, here = controlled(link, 1, words, PATIENT)
-        while len(link.relay.came) < 100:
-            time.sleep(0.02)
+        stations.waits_for(lambda: len(link.relay.came) >= 100)
         told = [asked(program, port, "list")[1] for port in (here, there)]
         found = [re.fullmatch(line, it) for it in told]
         if not all(found):
@@ -519,16 +569,13 @@ def list_mistakes(program):
             return
         # A sender waits for nothing before its EOF.
         for it, phase, timer in zip(found, ("sending", "receiving"), ("-", "inactivity")):
-            if it[2] != phase or it[5] != timer or not 5_000 < int(it[3]) < 60_000:
+            if it[2] != phase or it[5] != timer or not 5_000 < int(it[3]) < 2_000_000:
                 yield f"of a file on its way it is told {it[0]!r}"
         if found[0][4] != "-" or not 90 < int(found[1][4]) <= 100:
             yield f"the next time-outs are in {[it[4] for it in found]}"
         asked(program, here, "prompt", found[0][1], "keep")
         is_held = lambda: " held " in asked(program, here, "list")[1]
-        stop = time.monotonic() + 10
-        while not is_held() and time.monotonic() < stop:
-            time.sleep(0.05)
-        if not is_held():
+        if not stations.waits_for(is_held):
             yield "a Keep Alive isn't told"
 
 
@@ -540,14 +587,14 @@ def stop_mistakes(program):
         sender, port = controlled(link, 1, words, PATIENT)
         if asked(program, port, "stop")[0] != 0:
             yield "stop isn't answered ok"
-        status, out, err = sender.ended(20)
+        status, out, err = sender.ended()
         if status or not out.endswith("complete 1 of 1\n"):
             yield f"stop: status {status}, {out!r}, {err!r}"
         slow = link.puts(1, {"b": bytes(500_000)}) + ["--rate", "10"]
         sender, port = controlled(link, 1, slow, PATIENT)
         began = time.monotonic()
         asked(program, port, "stop", "now")
-        status, out, err = sender.ended(20)
+        status, out, err = sender.ended()
         if time.monotonic() - began > 2 + SLACK or not out.endswith("complete 0 of 1\n"):
             yield f"stop now: status {status}, {out!r}, {err!r}"
 

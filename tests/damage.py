@@ -1,6 +1,5 @@
 """Frames with the fields that links have, over a link that turns bits on the way."""
 import binascii
-import random
 import time
 
 import links
@@ -45,7 +44,7 @@ class Damaging(links.Relay):
     """A relay that turns bits at this rate; `damaged` has how many frames it changed."""
 
     def __init__(self, rate, seed):
-        self.chance, self.rate, self.damaged = random.Random(seed), rate, 0
+        self.chance, self.rate, self.damaged = stations.chance_of(seed), rate, 0
         super().__init__()
 
     def give(self, own, frame):
@@ -63,11 +62,11 @@ class Damaging(links.Relay):
 
 def damage_mistakes(program, rate, zone, count):
     """What is wrong where so many files go each way over a link that turns bits."""
-    chance = random.Random(64)
+    chance = stations.chance_of(64)
     with links.Link(program, Damaging(rate, 64)) as link:
         files = {own: {f"{own}{number}": chance.randbytes(chance.randrange(1, 40_000))
                        for number in range(count)} for own in (1, 2)}
-        words = {own: link.puts(own, files[own]) + ["--inbox", "to", "--idle", "3"]
+        words = {own: link.puts(own, files[own]) + ["--inbox", "to", "--idle", "20"]
                  for own in (1, 2)}
         sets = {own: {**settings_of(own, FIELDS), "zone": zone} for own in (1, 2)}
         both = [link.starts(own, words[own], sets[own]) for own in (1, 2)]

@@ -7,7 +7,7 @@ import re
 import subprocess
 
 TOP = os.path.dirname(os.path.dirname(os.path.abspath(__file__)))
-SECONDS = 60
+SECONDS = 600
 SCRIPT, CHART = "examples/lost_frame.script", "examples/lost_frame.mmd"
 FOLDERS = "tests|tools|examples|packaging|bindings|crates|docs|\\.ci"
 

@@ -40,10 +40,12 @@ def keys_mistakes(program):
         for number, (spacecraft, channel, apid) in enumerate(COMING, 7):
             zone = packet_of(links.eof(number), apid)
             link.relay.give(2, links.frame_of(channel, 0, zone, spacecraft))
-        if station.comes_to("eof-recv 1:8", 10) is None or station.comes_to("eof-sent", 10) is None:
+        if station.comes_to("eof-recv 1:8") is None or station.comes_to("eof-sent") is None:
             yield f"it told {station.text('stdout')!r}"
+        seen = lambda: {fields(frame)[:2] for _, own, frame in list(link.relay.came)}
+        stations.waits_for(lambda: {(43, 10), (43, 11)} <= seen())
         time.sleep(0.5)
-        left = {fields(frame)[:2] for _, own, frame in list(link.relay.came)}
+        left = seen()
         # a frame that tells how the station is set up
         left -= {(43, links.ONLY_IDLE)}
         apids = {fields(frame)[3] for _, own, frame in list(link.relay.came)[:2]}
@@ -52,6 +54,21 @@ def keys_mistakes(program):
         taken = re.findall(r"eof-recv 1:(\d+)", station.text("stdout"))
         if sorted(taken) != ["7", "8"]:
             yield f"the PDUs of frames {sorted(taken)} were taken"
+
+
+def sent_and_lost(station):
+    """The frames that a station sends by its trace, and those of them that it loses."""
+    sent, lost, trace = [], [], station.text("stderr")
+    frames = re.findall(r" (sends|loses) (?:dir|data) frame 42 (\d+) (\d+) ", trace)
+    for deed, channel, count in frames:
+        (sent if deed == "sends" else lost).append((int(channel), int(count) % (1 << 24)))
+    return sent, lost
+
+
+def left_of(station):
+    """How many frames left a station by its trace."""
+    sent, lost = sent_and_lost(station)
+    return len(sent) - len(lost)
 
 
 def thrown(seed):
@@ -71,14 +88,11 @@ def lost_mistakes(program, every=0, percent=0, seed=1):
     with Link(program, Relay(lambda own, frame: False)) as link:
         words = ["--drop", str(every), "--loss", str(percent), "--seed", str(seed), "--trace"]
         station = link.starts(1, [*link.puts(1, {"a": bytes(20_000)}), *words])
-        station.comes_to("eof-sent", 10)
+        station.comes_to("eof-sent")
         time.sleep(1)
+        stations.waits_for(lambda: len(link.relay.came) == left_of(station), links.SLACK)
+        sent, lost = sent_and_lost(station)
         left = [fields(frame)[1:3] for _, _, frame in list(link.relay.came)]
-    sent, lost = [], []
-    for deed, channel, count in re.findall(
-        r" (sends|loses) (?:dir|data) frame 42 (\d+) (\d+) ", station.text("stderr")
-    ):
-        (sent if deed == "sends" else lost).append((int(channel), int(count) % (1 << 24)))
     numbers = zip(range(1, len(sent) + 1), sent, thrown(seed))
     is_lost = lambda turn, it: every and turn % every == 0 or it * 100 < percent << 32
     wanted = [frame for turn, frame, it in numbers if is_lost(turn, it)]
@@ -89,18 +103,17 @@ def lost_mistakes(program, every=0, percent=0, seed=1):
 
 
 def heard_mistakes(program):
-    """What is wrong where frames of the link come to a station that may end after 2 s, though they
-    begin nothing: it has to stay as long as they come, and for 2 s."""
+    """What is wrong where frames of the link come to a station that may end after 8 s, though they
+    begin nothing: it has to stay as long as they come, and for 8 s."""
     with Link(program, Relay()) as link:
-        station = link.starts(2, ["--inbox", "to", "--idle", "2"])
-        for count in range(10):
-            zone = links.filled(b"")
+        station = link.starts(2, ["--inbox", "to", "--idle", "8"])
+        for count in range(12):
+            zone, last = links.filled(b""), time.time()
             link.relay.give(2, links.frame_of(links.DIRECTIVES, count, zone))
-            last = time.time()
-            time.sleep(0.5)
-        status, out, err = station.ended(10)
+            time.sleep(1)
+        status, out, err = station.ended()
         stayed = time.time() - last
-    if status or out != "complete 0 of 0\n" or not 1.5 < stayed < 4 + links.SLACK:
+    if status or out != "complete 0 of 0\n" or not 7.5 < stayed < 10 + links.SLACK:
         yield f"it ended {stayed:.1f} s after the last one: status {status}, {out!r}, {err!r}"
 
 
@@ -111,7 +124,7 @@ def junk_mistakes(program):
         station = link.starts(2, ["--inbox", "to", "--carrier", "packets", "--idle", "2"])
         packet = struct.pack(">HHH", 77, 0xC000, 0) + b"A"
         with links.Flood(packet, 10, [(link.relay.sockets[2], link.relay.listens[2])]):
-            status, out, err = station.ended(10)
+            status, out, err = station.ended()
     if status or out != "complete 0 of 0\n" or "of another APID" not in err:
         yield f"status {status}, {out!r}, {err!r}"
 
@@ -129,16 +142,22 @@ def foreign_mistakes(program):
             yield f"it sent {[frame.hex() for _, _, frame in link.relay.came]}"
 
 
+def offsets_in(relay):
+    """The offsets of the PDUs with file data that left station 1."""
+    left = [frame for _, own, frame in list(relay.came) if own == 1]
+    return sorted(int.from_bytes(it[16:20], "big") for it in left if it[0] & 16)
+
+
 def kept_mistakes(program, turn):
     """What is wrong where the system has no room for a PDU that is longer than a frame: it leaves
     all the same, and none is missing though nothing is asked for again."""
     with Link(program, Relay(lambda own, frame: own == 1)) as link:
         words = [*link.puts(1, {"a": bytes(5000)}), "--carrier", "pdus"]
         sender = link.starts(1, words, {"eof_time": 100}, faults=f"send={turn}")
-        sender.comes_to("eof-sent", 10)
+        sender.comes_to("eof-sent")
+        stations.waits_for(lambda: len(offsets_in(link.relay)) >= 5)
         time.sleep(2)
-        left = [frame for _, own, frame in list(link.relay.came) if own == 1]
-    offsets = sorted(int.from_bytes(it[16:20], "big") for it in left if it[0] & 16)
+        offsets = offsets_in(link.relay)
     if offsets != [0, 1024, 2048, 3072, 4096]:
         yield f"file data left from the offsets {offsets}"
 
@@ -155,7 +174,7 @@ def beacon_mistakes(program):
     with Link(program, Relay(passes)) as link:
         receiver = link.starts(2, ["--inbox", "to"], stations.PATIENT)
         link.starts(1, link.puts(1, {"a": bytes(30_000)}), stations.PATIENT)
-        if receiver.comes_to("finished .* 0 complete retained", 30) is None:
+        if receiver.comes_to("finished .* 0 complete retained") is None:
             yield f"the file didn't come: {receiver.text('stdout')!r}"
         told = [frame.hex() for frame in seen if fields(frame)[1] == links.ONLY_IDLE]
     if told:
@@ -170,8 +189,9 @@ def timer_mistakes(program):
         sender = link.starts(1, words, {"eof_time": 8, "eof_limit": 0})
         ways = [(link.relay.sockets[1], link.relay.listens[1])]
         with links.Flood(links.idle_frame(0), 100, ways):
-            began = sender.comes_to("eof-sent", 10)
-            expired = sender.comes_to("fault", 20)
+            sender.comes_to("eof-sent")
+            expired = sender.comes_to("fault")
+            began = link.relay.first()
     took = (expired or 0) - (began or 0)
     if not 6.5 < took < 10 + links.SLACK:
         yield f"it expired after {took:.1f} s"

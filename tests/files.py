@@ -2,7 +2,6 @@
 import contextlib
 import itertools
 import os
-import random
 import re
 import resource
 import shutil
@@ -20,7 +19,7 @@ SIZES = (0, 1, BLOCK - 1, BLOCK, BLOCK + 1, 1 << 20, (1 << 20) + 1, 20_000_000)
 
 # How long the file is that changes, and how many frames of 1,024 octets leave in a second: it takes
 # five seconds, of which the first is over when it changes. That of `loop` has 20 MB.
-CHANGED, RATE = 1_000_000, 200
+CHANGED, RATE = 4_000_000, 200
 
 # What is told of a file that changed.
 TOLD = "error: from/a: it changed while it was sent\n"
@@ -30,7 +29,7 @@ FILES, MOST_OPEN = 200, 40
 
 # How long a long file is, and where the disk has no room for three; what it may take, and what
 # memory a station may have.
-LONG, LESS_LONG, LONG_SECONDS, MOST_MEMORY = (4 << 30) + 1, (1 << 30) + 1, 600, 16 << 20
+LONG, LESS_LONG, LONG_SECONDS, MOST_MEMORY = (4 << 30) + 1, (1 << 30) + 1, 3600, 16 << 20
 
 # The settings of a station that sends much.
 WIDE = {**stations.PATIENT, "zone": 2040, "segment": 4096}
@@ -38,14 +37,14 @@ WIDE = {**stations.PATIENT, "zone": 2040, "segment": 4096}
 
 def octets_of(size):
     """Octets of which no two blocks are alike."""
-    return random.Random(60).randbytes(size)
+    return stations.chance_of(60).randbytes(size)
 
 
 def sizes_mistakes(program):
     """What is wrong where files of these lengths go from one station to another: none is cut."""
     sent = {f"f{size}": octets_of(size) for size in SIZES}
     with links.Link(program) as link:
-        receiver = link.starts(2, ["--inbox", "to", "--idle", "6"], WIDE)
+        receiver = link.starts(2, ["--inbox", "to", "--idle", "20"], WIDE)
         words = [*link.puts(1, sent), "--idle", "3", "--rate", "20000"]
         status, out, err = link.starts(1, words, WIDE, waits=False).ended()
         if status or stations.unheard(err) or not out.endswith("complete 8 of 8\n"):
@@ -106,7 +105,7 @@ def change_mistakes(program, change):
     says why, nothing is published, and the next put is complete."""
     settings = {**stations.PATIENT, "zone": 1024}
     with links.Link(program) as link:
-        receiver = link.starts(2, ["--inbox", "to", "--idle", "6"], settings)
+        receiver = link.starts(2, ["--inbox", "to", "--idle", "20"], settings)
         words = link.puts(1, {"a": octets_of(CHANGED), "b": b"hello"})
         words += ["--rate", str(RATE), "--idle", "3", "--first-number", "7"]
         sender = link.starts(1, words, settings, waits=False)
@@ -221,14 +220,14 @@ def again_mistakes(program):
         how = {"preexec_fn": stations.many_words}
         sender = link.starts(1, words, settings, waits=False, **how)
         for number in (1, 2):
-            if receiver.comes_to(f"finished 1:{number} 0 complete", 60) is None:
+            if receiver.comes_to(f"finished 1:{number} 0 complete") is None:
                 yield f"file {number} didn't come: {receiver.text('stderr')!r}"
         stations.put(link.folder, 1, "a", b"what it is now")
         stations.put(link.folder, 1, "late", b"here")
         for number in (1, 2):
             zone = next(links.zones_of([links.finished(number)], 101))
             link.relay.give(1, links.frame_of(links.PEER_DIRECTIVES, next(counts), zone))
-            if receiver.comes_to(f"finished 1:{3072 + number} 0 complete", 60) is None:
+            if receiver.comes_to(f"finished 1:{3072 + number} 0 complete") is None:
                 yield f"put {3072 + number} isn't complete: {sender.text('stdout')[-300:]!r}"
         came = stations.files_at(link.folder, 2)
         # It notes that one file isn't there yet, and on a slow machine that no answer comes, since

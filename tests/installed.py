@@ -20,7 +20,7 @@ import tempfile
 
 HERE = os.path.dirname(os.path.abspath(__file__))
 TOP = os.path.dirname(HERE)
-SECONDS = 120
+SECONDS = 1200
 
 WANTED = """
 bin/cfdp_node include/cfdp.h lib/libcfdp_c.a lib/libcfdp_heap.a lib/pkgconfig/cfdp.pc

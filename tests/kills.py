@@ -3,13 +3,13 @@ and some late; and a disk that loses what wasn't flushed to it."""
 import contextlib
 import heapq
 import os
-import random
 import re
 import threading
 import time
 
 import links
 import relay
+import stations
 from relay import HASTY, names_in, octets_of
 
 # How many kills there are in all, of either station, and how many files go meanwhile.
@@ -19,7 +19,7 @@ KILLS, CUTS, FILES = 500, 200, 120
 LOST, TWICE, LATE, DELAY = 0.05, 0.05, 0.1, 0.05
 
 # How long all of it may take, in seconds, once nothing is killed any more.
-LONGEST = 120
+LONGEST = 600
 
 WORDS = {1: ["--spool", "from", "--at-once", "8", "--retries", "1000"], 2: ["--inbox", "to"]}
 
@@ -28,7 +28,7 @@ class Shuffling(links.Relay):
     """A link that loses frames, gives some twice, and some late: behind frames sent after them."""
 
     def __init__(self, seed):
-        self.chance, self.late, self.number = random.Random(seed), [], 0
+        self.chance, self.late, self.number = stations.chance_of(seed), [], 0
         self.done = {"lost": 0, "twice": 0, "late": 0}
         super().__init__()
 
@@ -200,7 +200,7 @@ def left_mistakes(spool, files, cuts):
     """What is wrong with what lies in the folders in the end. A power cut between the renaming into
     `.sent` and its flush may lose that copy, not the file: this is in the inbox."""
     if not cuts:
-        yield from spool.mistakes(files, 5)
+        yield from spool.mistakes(files)
         return
     if names_in(spool.folder):
         yield f"{sorted(names_in(spool.folder))[:9]} stay in the spool"
@@ -215,11 +215,11 @@ def left_mistakes(spool, files, cuts):
 def kill_mistakes(program, kills, cuts=False, seed=66):
     """What is wrong where files go from a spool to an inbox over such a link, and either station is
     killed at random moments, so many times in all, or its power is cut."""
-    chance = random.Random(seed)
+    chance = stations.chance_of(seed)
     files = many_files(chance)
     with links.Link(program, Shuffling(seed)) as link:
         spool = relay.Spool(link)
-        ends, begins = Ends(link, cuts), time.monotonic()
+        ends = Ends(link, cuts)
         waiting = sorted(files)
         for number in range(kills):
             ends.tends(chance.uniform(0, 0.24))
@@ -240,7 +240,6 @@ def kill_mistakes(program, kills, cuts=False, seed=66):
         end = time.monotonic() + LONGEST
         while names_in(spool.folder) and time.monotonic() < end:
             ends.tends(0.2)
-        took = time.monotonic() - begins
         yield from left_mistakes(spool, files, cuts)
         yield from ends.odd[:5]
         ends.kill(1, chance)
@@ -249,8 +248,6 @@ def kill_mistakes(program, kills, cuts=False, seed=66):
             yield f"of {len(ends.ids)} numbers these came again: {twice[:9]}"
         if not all(link.relay.done.values()):
             yield f"the link did no harm: {link.relay.done}"
-        if took > kills * 0.4 + LONGEST:
-            yield f"it took {took:.0f} s"
 
 
 def lone_mistakes(program):

@@ -15,7 +15,7 @@ PUTS, NAMES, EARLY = 100_000, 100, 5_000
 
 # What memory may grow by after that, in octets, and what all may take, in seconds: on a busy
 # machine many times what it takes alone.
-GROWTH, SECONDS = 2 << 20, 900
+GROWTH, SECONDS = 2 << 20, 3600
 
 
 class Counted(stations.Station):
@@ -80,7 +80,7 @@ def started(program, link, puts):
     stations.put(link.folder, 1, "f", b"hello\n")
     ports, how = dict(zip((1, 2), stations.free_ports(2))), {"preexec_fn": stations.many_words}
     words = [it for number in range(puts) for it in ("--put", "f", f"d{number % NAMES}")]
-    receiver = Counted(program, link.folder, 2, 1, ports, ["--inbox", "to", "--idle", "5"], {})
+    receiver = Counted(program, link.folder, 2, 1, ports, ["--inbox", "to", "--idle", "15"], {})
     receiver.comes_up()
     words = ["--outbox", "from", "--idle", "2", *words]
     sender = Counted(program, link.folder, 1, 2, ports, words, stations.PATIENT, **how)

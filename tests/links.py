@@ -4,7 +4,6 @@ import bisect
 import contextlib
 import itertools
 import os
-import random
 import re
 import select
 import signal
@@ -21,8 +20,15 @@ from stations import PATIENT, SECONDS
 
 HERE = os.path.dirname(os.path.abspath(__file__))
 
-# What a busy machine may take beyond a rule of time, in seconds.
-SLACK = 1.0
+# What a busy machine may take beyond a rule of time, in seconds. Where nothing else runs, SLACK=1
+# shows that stations keep these rules. What waits goes on at once when it has what it waits for.
+SLACK = float(os.environ.get("SLACK", "30"))
+
+# In one of so many trials a rule has to hold that SLACK doesn't ease.
+TRIALS = 5
+
+# What a relay is sent to see what came before.
+MARK = b"what came before?"
 
 # The option of a socket by which the kernel tells when each datagram came.
 SO_TIMESTAMPNS = 35
@@ -44,7 +50,7 @@ class Relay:
         self.listens = dict(zip((1, 2), ports[:2]))
         self.faces = dict(zip((1, 2), ports[2:]))
         self.passes, self.holds, self.is_over = passes, False, False
-        self.came, self.held, self.lock = [], [], threading.Lock()
+        self.came, self.held, self.lock, self.marked = [], [], threading.Lock(), []
         self.sockets = {own: bound(self.faces[own]) for own in (1, 2)}
         self.thread = threading.Thread(target=self.run, daemon=True)
         self.thread.start()
@@ -66,6 +72,9 @@ class Relay:
                 frame, more, _, _ = self.sockets[own].recvmsg(65536, 64)
             except BlockingIOError:
                 return
+            if frame == MARK:
+                self.marked.append(own)
+                continue
             self.came.append((time_of(more), own, frame))
             with self.lock:
                 if self.holds:
@@ -83,6 +92,13 @@ class Relay:
             self.holds = False
             for own, frame in self.held:
                 self.give(3 - own, frame)
+
+    def catches_up(self):
+        """Waits until it has noted all that was sent to it so far."""
+        seen = len(self.marked)
+        for own, it in self.sockets.items():
+            it.sendto(MARK, ("127.0.0.1", self.faces[own]))
+        stations.waits_for(lambda: len(self.marked) >= seen + 2)
 
     def first(self, since=0.0):
         """When the first frame came since then, or None."""
@@ -296,8 +312,10 @@ def named_files(run, count):
 def numbers_mistakes(program, kills):
     """What is wrong where senders are killed soon after they began, and started anew with the clock
     set back, while the receiver stays: a number that comes back shows as a file of another. Each
-    second one finds the clock as it was when the one before began."""
-    chance, puts, began, ids = random.Random(39), min(30, 4000 // (kills + 1)), 1_700_000_000, []
+    second one finds the clock as it was when the one before began. The first is killed once it has
+    begun all of its files and one is complete."""
+    chance, ids = stations.chance_of(39), []
+    puts, began = min(30, 4000 // (kills + 1)), 1_700_000_000
     last = named_files(kills, puts)
     with Link(program) as link:
         slow = {"inactivity_time": 100, "nak_time": 2, "nak_limit": 255, "finished_time": 2}
@@ -306,6 +324,9 @@ def numbers_mistakes(program, kills):
             words = link.puts(1, named_files(run, puts)) + ["--rate", "1000"]
             clock = f"clock=at:{began - run // 2 * 3600}"
             sender = link.starts(1, words, PATIENT, waits=False, faults=clock)
+            if run == 0:
+                sender.comes_to("finished .* 0 complete")
+                stations.waits_for(lambda: sender.text("stdout").count("transaction") >= puts)
             time.sleep(chance.uniform(0, 0.6))
             ids += re.findall(r"transaction (\S+)", sender.killed())
         words = link.puts(1, last) + ["--idle", "3"]
@@ -338,7 +359,7 @@ def named_mistakes(came, last):
 
 def refused_mistakes(station, pattern):
     """What is wrong with a station that is to end at once, with an error of this pattern."""
-    status, out, err = station.ended(10)
+    status, out, err = station.ended()
     if status != 3 or not re.fullmatch(rf"error: [^\n]*({pattern})[^\n]*\n", err):
         yield f"it ended with status {status} and not with 3, {out!r}, {err!r}"
     if "transaction" in out:
@@ -362,8 +383,8 @@ def state_mistakes(program):
             station = link.starts(1, words, once, faults=fault)
             yield from (f"{fault}: {it}" for it in refused_mistakes(station, "from.state"))
         station = link.starts(1, words, once)
-        if station.comes_to("transaction", 10) is None or not os.path.exists(path):
-            yield f"it keeps no numbers: {station.ended(10)}"
+        if station.comes_to("transaction") is None or not os.path.exists(path):
+            yield f"it keeps no numbers: {station.ended()}"
             return
         station.killed()
         with open(path, "rb") as it:
@@ -378,7 +399,7 @@ def state_mistakes(program):
 
 def idle_mistakes(station):
     """What is wrong with a station without puts that hears nothing, and is to end so."""
-    status, out, err = station.ended(20)
+    status, out, err = station.ended()
     if (status, out, err) != (0, "complete 0 of 0\n", ""):
         yield f"without a put: status {status}, {out!r}, {err!r}"
 
@@ -389,10 +410,10 @@ def place_mistakes(program):
         folder, once = f"{link.folder}/1", {"eof_time": 1, "eof_limit": 0}
         words = link.puts(1, {"a": b"hello"}) + ["--idle", "1"]
         left = lambda: sorted(set(os.listdir(folder)) - {"from", "to"})
-        link.starts(1, ["--first-number", "7", *words], once).ended(20)
+        link.starts(1, ["--first-number", "7", *words], once).ended()
         if left():
             yield f"with --first-number 7 it left {left()}"
-        ended = link.starts(1, ["--inbox", "to", *words], once).ended(20)
+        ended = link.starts(1, ["--inbox", "to", *words], once).ended()
         if ended[0] != 1 or stations.unheard(ended[2]) or left() != ["from.state"]:
             yield f"it left {left()} beside the folders, {ended}"
         plain = ["--inbox", "to", "--idle", "1"]
@@ -407,7 +428,7 @@ def place_mistakes(program):
 
 def numbers_of(station):
     """The number of the one transaction of a station, which is killed then."""
-    station.comes_to("transaction", 10)
+    station.comes_to("transaction")
     return [int(it) for it in re.findall(r"transaction \d+:(\d+)", station.killed())]
 
 
@@ -423,7 +444,7 @@ def clock_mistakes(program):
         numbers = [it for _, it in runs]
         if len(numbers) != 5 or numbers != sorted(set(numbers)):
             yield f"with the clocks the numbers were {runs}"
-        if any(not 0 <= number - clock * 10**6 < 10**7 for clock, number in runs[:4:3]):
+        if any(not 0 <= number - clock * 10**6 < 10**8 for clock, number in runs[:4:3]):
             yield f"they don't begin at the clock: {runs}"
 
 
@@ -442,7 +463,7 @@ def many_mistakes(program):
         once = {"number_width": 1, "eof_time": 1, "eof_limit": 0}
         words = link.puts(1, {"a": b"hello"}) + ["--put", "a", "a"] * 84
         words += ["--idle", "1", "--at-once", "3072"]
-        texts = [link.starts(1, words, once).ended(30)[1] for _ in range(4)]
+        texts = [link.starts(1, words, once).ended()[1] for _ in range(4)]
         used = [int(it) for it in re.findall(r"transaction 1:(\d+)", "".join(texts))]
         if used != list(range(1, 256)) or texts[3].count(" NumbersSpent\n") != 85:
             yield f"with numbers of an octet: {len(used)} of {used[-1:]}, {texts[3][:200]!r}"
@@ -456,7 +477,7 @@ def shared_mistakes(program):
         words = [*state, *first.puts(1, files)]
         second.puts(1, files)
         begun = first.starts(1, words)
-        if begun.comes_to("transaction", 10) is None:
+        if begun.comes_to("transaction") is None:
             yield f"the first never began: {begun.text('stderr')!r}"
         yield from refused_mistakes(second.starts(1, words), "in use|another station runs")
         before = numbers_of(begun)
@@ -494,16 +515,16 @@ def behind_mistakes(program):
     the last one that was reserved, so the first frame of the new one is to have a later one."""
     with Link(program, Relay()) as link:
         words, came = link.puts(1, {"a": b"hello"}), link.relay.came
-        link.starts(1, words).comes_to("eof-sent", 10)
+        link.starts(1, words).comes_to("eof-sent")
         time.sleep(0.3)
+        stations.waits_for(lambda: came)
         link.started[0].killed()
         with open(f"{link.folder}/1/from.state", encoding="ascii") as it:
             reserved = int(re.search(r"frames (\d+)\n", it.read())[1]) % (1 << 24)
-        time.sleep(0.3)
-        before, stop = len(came), time.monotonic() + 10
+        link.relay.catches_up()
+        before = len(came)
         link.starts(1, words)
-        while len(came) == before and time.monotonic() < stop:
-            time.sleep(0.05)
+        stations.waits_for(lambda: len(came) > before)
         first = {int.from_bytes(frame[2:5], "big") for _, _, frame in came[before : before + 1]}
         if not before or first != {(reserved + 1) % (1 << 24)}:
             yield f"behind {before} frames, and {reserved} as reserved, came the count {first}"
@@ -526,8 +547,8 @@ def stop_mistakes(program):
 
 
 def flooded(program, flood, seconds):
-    """How long a file of 1 MB takes, at any rate, while a flood reaches both stations; None where
-    it isn't complete in so many seconds, and what both told."""
+    """How long a file of 1 MB takes, at any rate, while a flood reaches both stations; None if it
+    isn't complete in so many seconds; and what both told."""
     with Link(program, Relay()) as link, bound(stations.free_ports(1)[0]) as stranger:
         listens, sockets = link.relay.listens.values(), link.relay.sockets.values()
         floods = {
@@ -535,7 +556,7 @@ def flooded(program, flood, seconds):
             "strange": lambda: Flood(b"x", 1000, [(stranger, port) for port in listens]),
             "no": contextlib.nullcontext,
         }
-        words = link.puts(1, {"a": random.Random(40).randbytes(1_000_000)})
+        words = link.puts(1, {"a": stations.chance_of(40).randbytes(1_000_000)})
         receiver = link.starts(2, ["--inbox", "to", "--rate", "0"], PATIENT)
         with floods[flood]():
             time.sleep(0.2)
@@ -548,7 +569,7 @@ def flooded(program, flood, seconds):
 
 def flood_mistakes(program):
     """What is wrong where 1,000 datagrams a second come that carry nothing."""
-    plain, told = flooded(program, "no", 30)
+    plain, told = flooded(program, "no", SECONDS)
     if plain is None:
         yield f"without a flood the file doesn't come: {told}"
         return
@@ -556,7 +577,8 @@ def flood_mistakes(program):
     for flood in ("idle", "strange"):
         took, told = flooded(program, flood, most)
         if took is None:
-            yield f"in a flood ({flood}) no file in {most:.1f} s, and {plain:.1f} without: {told}"
+            text = f"in a flood ({flood}) no file in {most:.1f} s, and {plain:.1f} without: {told}"
+            yield stations.Timed(text)
 
 
 def burst_mistakes(program):
@@ -569,7 +591,7 @@ def burst_mistakes(program):
             zone = next(zones_of([eof(count)]))
             link.relay.give(2, frame_of(DIRECTIVES, count, zone))
         receiver.process.send_signal(signal.SIGCONT)
-        runs, stop = [], time.monotonic() + 10
+        runs, stop = [], time.monotonic() + SECONDS
         while sum(runs) < 256 and time.monotonic() < stop:
             time.sleep(0.2)
             zones = b"".join(frame[8:] for _, _, frame in list(link.relay.came))
@@ -598,7 +620,7 @@ def full_mistakes(program):
                 time.sleep(0.005)
 
         begun = lambda: len(re.findall("eof-recv", receiver.text("stdout")))
-        stop = time.monotonic() + 60
+        stop = time.monotonic() + SECONDS
         while begun() < 4096 and time.monotonic() < stop:
             forge(DIRECTIVES, ends)
             time.sleep(1)
@@ -628,7 +650,7 @@ def strange_mistakes(program):
     sends once more. But its table has room, so that it tells of no full one."""
     with Link(program, Relay()) as link:
         sender = link.starts(1, link.puts(1, {"a": b"hello"}), PATIENT)
-        if sender.comes_to("eof-sent", 20) is None:
+        if sender.comes_to("eof-sent") is None:
             yield f"it sent no file: {sender.text('stderr')!r}"
         sender.process.send_signal(signal.SIGSTOP)
         counts = itertools.count()
@@ -636,9 +658,7 @@ def strange_mistakes(program):
             for zone in zones_of([finished(number) for number in numbers], 101):
                 link.relay.give(1, frame_of(PEER_DIRECTIVES, next(counts), zone))
             sender.process.send_signal(signal.SIGCONT)
-            stop = time.monotonic() + 10
-            while len(answered(link.relay)) < count and time.monotonic() < stop:
-                time.sleep(0.05)
+            stations.waits_for(lambda: len(answered(link.relay)) >= count)
         missing = set(range(1, 101)) - answered(link.relay)
         if missing:
             yield f"it never answered to the Finisheds of {sorted(missing)}"
@@ -660,8 +680,7 @@ def misfit_mistakes(program, key, values, word):
         receiver = link.starts(2, ["--inbox", "to"], settings.get(2), **ids)
         since = time.time()
         sender = link.starts(1, words, settings.get(1))
-        while link.relay.first(since) is None and time.time() < since + 5:
-            time.sleep(0.01)
+        stations.waits_for(lambda: link.relay.first(since) is not None)
         first = link.relay.first(since) or since
         wanted = rf"(?=.*\b{word}\b)" + "".join(rf"(?=.*\b{it}\b)" for it in values)
         for it in (sender, receiver):
@@ -690,7 +709,8 @@ def crowd_mistakes(times, rate):
     for at, start in enumerate(times):
         count = bisect.bisect_left(times, start + 1) - at
         if count > rate + 8 + rate // 200:
-            yield f"{count} frames in a second, {start - times[0]:.2f} s after the first"
+            after = start - times[0]
+            yield stations.Timed(f"{count} frames in a second, {after:.2f} s after the first")
             return
 
 
@@ -699,18 +719,24 @@ def silence_mistakes(times, rate):
     gaps = [(next_one - it, it - times[0]) for it, next_one in zip(times, times[1:])]
     longest, at = max(gaps, default=(0, 0))
     if longest > 3 / rate + 0.6:
-        yield f"nothing is sent for {longest:.2f} s, {at:.2f} s after the first frame"
+        text = f"nothing is sent for {longest:.2f} s, {at:.2f} s after the first frame"
+        yield stations.Timed(text)
 
 
 def rate_mistakes(program, rate):
+    """What is wrong at this rate, in one of some trials."""
+    yield from stations.in_one_of(TRIALS, lambda: rate_trial_mistakes(program, rate))
+
+
+def rate_trial_mistakes(program, rate):
     """What is wrong where both stations send at most so many frames a second, for some 5 s."""
     sizes = [2500] if rate == 1 else [rate * 250] * 5
-    files = {f"f{it}": random.Random(it).randbytes(size) for it, size in enumerate(sizes)}
+    files = {f"f{it}": stations.chance_of(it).randbytes(size) for it, size in enumerate(sizes)}
     with Link(program, Relay()) as link:
         both = ["--idle", "20", "--rate", str(rate)]
         receiver = link.starts(2, ["--inbox", "to", *both])
         sender = link.starts(1, link.puts(1, files) + both)
-        ends = {1: sender.ended(), 2: receiver.ended(30)}
+        ends = {1: sender.ended(), 2: receiver.ended()}
         whole = {1: f"complete {len(files)} of {len(files)}\n", 2: "complete 0 of 0\n"}
         for own, (status, out, err) in ends.items():
             if status or err or not out.endswith(whole[own]) or re.search("abandoned|fault", out):
@@ -733,7 +759,7 @@ def held_mistakes(program):
     """What is wrong where nothing comes for 5 s in the middle of a file, at a station that may end
     after 2 s: it has to stay."""
     with Link(program, Relay()) as link:
-        octets = random.Random(41).randbytes(20_000)
+        octets = stations.chance_of(41).randbytes(20_000)
         receiver = link.starts(2, ["--inbox", "to", "--idle", "2"])
         sender = link.starts(1, link.puts(1, {"a": octets}) + ["--rate", "30", "--idle", "8"])
         while len(link.relay.came) < 20 and sender.process.poll() is None:
@@ -741,12 +767,12 @@ def held_mistakes(program):
         link.relay.holds = True
         time.sleep(5)
         link.relay.release()
-        status, out, err = receiver.ended(60)
+        status, out, err = receiver.ended()
         if status or err or not re.search(r"finished \S+ 0 complete retained", out):
             yield f"the receiver: status {status}, {out!r}, {err!r}"
         if stations.files_at(link.folder, 2) != {"a": octets}:
             yield "the file didn't come"
-        status, out, err = sender.ended(30)
+        status, out, err = sender.ended()
         if status or err or not out.endswith("complete 1 of 1\n"):
             yield f"the sender: status {status}, {out!r}, {err!r}"
 
@@ -756,20 +782,21 @@ def unended_mistakes(program):
     with Link(program, Relay()) as link:
         station = link.starts(2, ["--inbox", "to", "--idle", "2"])
         with Flood(idle_frame(0), 10, [(link.relay.sockets[2], link.relay.listens[2])]):
-            status, out, err = station.ended(10)
+            status, out, err = station.ended()
         if (status, out, err) != (0, "complete 0 of 0\n", ""):
             yield f"status {status}, {out!r}, {err!r}"
 
 
 def linger_mistakes(program):
-    """What is wrong where a put is given up: its station has to stay for 2 s from then on."""
+    """What is wrong where a put is given up, after 1 s: its station has to stay for 2 s from then
+    on. How long it stays is counted from its start, as a line that it told may be read late."""
     with Link(program) as link:
-        words = link.puts(1, {"a": b"hello"}) + ["--idle", "2"]
+        words, began = link.puts(1, {"a": b"hello"}) + ["--idle", "2"], time.time()
         station = link.starts(1, words, {"eof_time": 1, "eof_limit": 0})
-        given_up = station.comes_to("abandoned", 10) or 0
-        status, out, err = station.ended(10)
-        stayed = time.time() - given_up
-        if status != 1 or not 1.5 < stayed < 3 + SLACK:
+        given_up = station.comes_to("abandoned") or 0
+        status, out, err = station.ended()
+        whole, stayed = time.time() - began, time.time() - given_up
+        if status != 1 or whole < 1 + 1.5 or stayed > 3 + SLACK:
             yield f"it stayed for {stayed:.2f} s: status {status}, {out!r}, {err!r}"
 
 
@@ -779,18 +806,17 @@ def late_mistakes(program):
     answers = []
     with Link(program, Relay(lambda own, frame: own == 1 or answers.append(frame))) as link:
         link.starts(2, ["--inbox", "to"], PATIENT)
-        began, once = time.time(), {"eof_time": 2, "eof_limit": 0}
+        once = {"eof_time": 10, "eof_limit": 0}
         sender = link.starts(1, link.puts(1, {"a": b"hello"}), once, waits=False)
-        while not answers and time.time() < began + 10:
-            time.sleep(0.01)
-        time.sleep(max(0.1, began + 0.5 - time.time()))
+        stations.waits_for(lambda: answers)
+        time.sleep(0.5)
         sender.process.send_signal(signal.SIGSTOP)
         for frame in [*(idle_frame(count) for count in range(150)), *answers]:
             link.relay.give(1, frame)
         link.relay.passes = lambda own, frame: True
-        time.sleep(1.8)
+        time.sleep(10)
         sender.process.send_signal(signal.SIGCONT)
-        is_there = sender.comes_to("finished .* 0 complete retained", 5)
+        is_there = sender.comes_to("finished .* 0 complete retained")
         if is_there is None or "fault" in sender.text("stdout"):
             yield f"{len(answers)} answers waited, and it told {sender.text('stdout')!r}"
 
@@ -800,7 +826,7 @@ def kept_mistakes(program):
     with Link(program, Relay()) as link:
         link.starts(2, ["--inbox", "to"])
         sender = link.starts(1, link.puts(1, {"a": bytes(3000)}), faults="send=4")
-        if sender.comes_to("finished", 5) is None:
+        if sender.comes_to("finished") is None:
             yield f"the file didn't come in time: {sender.text('stdout')!r}"
         frames = [frame for _, own, frame in list(link.relay.came) if own == 1]
         for channel in (DIRECTIVES, FILE_DATA):
@@ -853,7 +879,7 @@ def waiting_mistakes(program):
     with Link(program, Relay(is_lossy)) as link:
         receiver = link.starts(2, ["--inbox", "to"])
         sender = link.starts(1, link.puts(1, {"a": bytes(5000)}))
-        if receiver.comes_to("eof-recv", 20) is None:
+        if receiver.comes_to("eof-recv") is None:
             yield f"the receiver got no EOF: {receiver.text('stdout')!r}"
             return
         time.sleep(1)
@@ -872,7 +898,7 @@ def publish_mistakes(program):
     with Link(program) as link:
         receiver = link.starts(2, ["--inbox", "to"], faults="order")
         link.starts(1, link.puts(1, {"a": b"hello"}))
-        if receiver.comes_to("finished", 20) is None:
+        if receiver.comes_to("finished") is None:
             yield f"the file didn't come: {receiver.text('stdout')!r}"
         receiver.killed()
         with open(f"{link.folder}/2/order", encoding="ascii") as it:
@@ -889,7 +915,7 @@ def large_mistakes(program):
         settings, octets = {**PATIENT, "zone": 2040, "segment": 4096}, bytes(range(256)) * (1 << 18)
         receiver = link.starts(2, ["--inbox", "to", "--rate", "0"], settings)
         link.starts(1, [*link.puts(1, {"a": octets}), "--rate", "0"], settings)
-        if receiver.comes_to("finished .* 0 complete retained", 60) is None:
+        if receiver.comes_to("finished .* 0 complete retained") is None:
             yield f"it didn't come: {receiver.text('stdout')!r}"
         with open(f"/proc/{receiver.process.pid}/status", encoding="ascii") as it:
             most = int(re.search(r"(?m)^VmHWM:\s*(\d+) kB", it.read())[1])
@@ -902,7 +928,8 @@ def large_mistakes(program):
 def lone_mistakes(program):
     """What is tried with nothing beside it, since what it shows depends on milliseconds, or since
     it leaves no processor to others."""
-    yield "floods of what carries nothing", flood_mistakes(program)
+    floods = stations.in_one_of(TRIALS, lambda: flood_mistakes(program))
+    yield "floods of what carries nothing", floods
     yield "a file of 64 MiB", large_mistakes(program)
 
 

@@ -26,6 +26,7 @@ import types
 import urllib.parse
 
 import any_order
+import links
 from browser import Browser, path_of_browser
 from console_page import FAINT, NAMED
 
@@ -33,7 +34,7 @@ HERE = os.path.dirname(os.path.abspath(__file__))
 TOP = os.path.dirname(HERE)
 
 # For how many seconds an answer is waited for, and something that the page is to show.
-PATIENCE, SOON = 180, 60
+PATIENCE, SOON = 600, 60
 
 # From where clients connect: so their ports, of which there are hundreds, are none of those that
 # other tests need.
@@ -174,7 +175,7 @@ def bound_mistakes(program):
             begun = time.monotonic()
             script = settings + "fill 1 a 16384 41\n" + "put 1 a b\n" * 64 + "recover\n"
             found = it.runs(script)
-            if time.monotonic() - begun > 120:
+            if time.monotonic() - begun > 120 * links.SLACK:
                 yield f"{settings}: it took {time.monotonic() - begun:.0f} s"
             if found["report"] != simulated(program, script)[1]:
                 yield f"{settings}: {found['report'][-300:]}"
@@ -246,7 +247,7 @@ def crowd_mistakes(it):
         with contextlib.suppress(TimeoutError):
             yield f"one more than {MOST_OPEN} is answered {late.recv(20)}"
         held.pop().close()
-        late.settimeout(20)
+        late.settimeout(PATIENCE)
         if not late.recv(20).startswith(b"HTTP/1.1 200"):
             yield "nobody is served where there is room again"
     for one in held:
@@ -265,14 +266,14 @@ def slow_mistakes(program):
         with socket.create_connection(("127.0.0.1", it.port), 0.4, OTHER) as late:
             late.sendall(f"GET / HTTP/1.1\r\nHost: {it.own[7:]}\r\n\r\n".encode())
             found = b""
-            while not found and time.monotonic() < begun + 3 * LEFT_AFTER:
+            while not found and time.monotonic() < begun + 3 * LEFT_AFTER + links.SLACK:
                 for one in held[8:]:
                     with contextlib.suppress(OSError):
                         one.sendall(b"#")
                 with contextlib.suppress(TimeoutError):
                     found = late.recv(20)
         took = time.monotonic() - begun
-        if not found.startswith(b"HTTP/1.1 200") or took > LEFT_AFTER + 10:
+        if not found.startswith(b"HTTP/1.1 200") or took > LEFT_AFTER + 10 + links.SLACK:
             yield f"after {took:.0f} s one is answered {found}"
         for one in held:
             one.close()
@@ -294,7 +295,7 @@ def gone_mistakes(it):
                 one.sendall(words[count % len(words)])
         count += 1
     begun = time.monotonic()
-    if it.asks("GET", "/")[0] != 200 or time.monotonic() - begun > 20:
+    if it.asks("GET", "/")[0] != 200 or time.monotonic() - begun > 20 + links.SLACK:
         yield f"behind {count} that went away one waits {time.monotonic() - begun:.0f} s"
     with open(f"/proc/{it.process.pid}/status", encoding="ascii") as status:
         most = int(re.search(r"VmHWM:\s+(\d+) kB", status.read())[1])

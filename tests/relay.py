@@ -2,7 +2,6 @@
 and started anew, links lose frames, and a disk is full; and what becomes of single files."""
 import contextlib
 import os
-import random
 import re
 import resource
 import signal
@@ -13,7 +12,7 @@ import time
 
 import links
 import stations
-from stations import PATIENT
+from stations import PATIENT, waits_for
 
 # A relay has these stations, each with its peer, and what it does with a folder: the inbox of the
 # second is the spool of the third.
@@ -28,7 +27,7 @@ HASTY |= {"eof_limit": 4, "nak_limit": 4, "finished_limit": 4}
 FILES, KILLS = 200, 20
 
 # How long a relay may take, in seconds, from the first file on.
-LONGEST = 150
+LONGEST = 600
 
 
 def names_in(folder):
@@ -50,14 +49,6 @@ def drop(folder, name, octets):
     with open(f"{folder}/.{name}", "wb") as it:
         it.write(octets)
     os.rename(f"{folder}/.{name}", f"{folder}/{name}")
-
-
-def waits_for(what, seconds):
-    """Whether this comes true within so many seconds."""
-    end = time.monotonic() + seconds
-    while not what() and time.monotonic() < end:
-        time.sleep(0.02)
-    return what()
 
 
 # ---- a relay
@@ -241,7 +232,7 @@ def relay_mistakes(program, is_full=False):
     """What is wrong where 200 files go over three stations to a fourth, a fifth of all frames is
     lost, and each station is killed 20 times; the disk at the end may be full for 10 s meanwhile.
     Nothing may be lost, and nothing partial be seen."""
-    chance = random.Random(43 + is_full)
+    chance = stations.chance_of(43 + is_full)
     files = many_files(chance)
     with contextlib.ExitStack() as stack:
         room = stack.enter_context(tempfile.TemporaryDirectory(dir=program.room))
@@ -303,11 +294,11 @@ class Spool:
         path = f"{self.folder}/{folder}"
         return {name: octets_of(f"{path}/{name}") for name in names_in(path)}
 
-    def mistakes(self, files, seconds=30, removes=False):
-        """What is wrong where these files are to come, and to leave the spool, within a time."""
+    def mistakes(self, files, removes=False):
+        """What is wrong where these files are to come, and to leave the spool."""
         sent = {} if removes else files
         left = lambda: names_in(self.folder) & files.keys()
-        if not waits_for(lambda: not left() and self.in_folder(".sent") == sent, seconds):
+        if not waits_for(lambda: not left() and self.in_folder(".sent") == sent):
             there = sorted(self.in_folder(".sent"))
             yield f"{sorted(left())[:9]} stay, and {there[:9]} lie in .sent"
         if self.came() != files:
@@ -360,17 +351,17 @@ def unsendable_mistakes(program):
 def replaced_mistakes(program):
     """What is wrong where a new file is moved over one that is being sent: the new one has to come,
     and to leave the spool in the end."""
-    chance = random.Random(44)
+    chance = stations.chance_of(44)
     old, new = chance.randbytes(300_000), chance.randbytes(50_000)
     with spool_of(program) as (link, spool):
         receiver = link.starts(2, INBOX, PATIENT)
         spool.drops({"a": old})
         link.starts(1, ["--spool", "from", "--no-time", "--rate", "400", "--retries", "9"], PATIENT)
-        if receiver.comes_to("metadata", 20) is None:
+        if receiver.comes_to("metadata") is None:
             yield "the old one never began to come"
         drop(spool.folder, "a", new)
         is_new = lambda: spool.came() == {"a": new} and not names_in(spool.folder)
-        if not waits_for(is_new, 60):
+        if not waits_for(is_new):
             came = {name: octets == old for name, octets in spool.came().items()}
             yield f"the new one didn't come: {came}, {names_in(spool.folder)} stays"
         if spool.in_folder(".sent") != {"a": new} or spool.in_folder(".failed"):
@@ -409,7 +400,7 @@ def order_mistakes(program):
         receiver = link.starts(2, INBOX, PATIENT)
         link.starts(1, [*SPOOL, "--at-once", "1"], PATIENT)
         yield from spool.mistakes({it: it.encode() for it in names})
-        waits_for(lambda: receiver.text("stdout").count("metadata") >= len(names), 10)
+        waits_for(lambda: receiver.text("stdout").count("metadata") >= len(names))
         order = re.findall(r"metadata \S+ (\S+)", receiver.text("stdout"))
         if order != ["early", "a", "b", "late"]:
             yield f"they came in the order {order}"
@@ -423,7 +414,7 @@ def many_mistakes(program):
         words = ["--no-time", "--rate", "0"]
         link.starts(2, ["--inbox", "to", *words], PATIENT)
         link.starts(1, ["--spool", "from", "--remove-sent", "--at-once", "100", *words], PATIENT)
-        if not waits_for(lambda: len(names_in(spool.inbox)) == len(files), 60):
+        if not waits_for(lambda: len(names_in(spool.inbox)) == len(files)):
             yield f"{len(names_in(spool.inbox))} of {len(files)} came"
         yield from spool.mistakes(files, removes=True)
 
@@ -434,12 +425,12 @@ def away_mistakes(program):
     with spool_of(program) as (link, spool):
         spool.drops({"a": b"hello"})
         sender = link.starts(1, [*SPOOL, "--retries", "20"], once)
-        if sender.comes_to("fault|abandoned", 20) is None:
+        if sender.comes_to("fault|abandoned") is None:
             yield f"it never gave up: {sender.text('stdout')!r}"
         if names_in(spool.folder) != {"a"} or spool.in_folder(".failed"):
             yield "the file left the spool"
         link.starts(2, INBOX, PATIENT)
-        yield from spool.mistakes({"a": b"hello"}, 40)
+        yield from spool.mistakes({"a": b"hello"})
 
 
 def failed_mistakes(program):
@@ -456,11 +447,11 @@ def failed_mistakes(program):
             json = [it if it != "--no-time" else "--json" for it in SPOOL]
             sender = link.starts(1, [*json, "--retries", "1"], once)
             is_over = lambda: spool.in_folder(".failed") == {"a": b"hello"}
-            if not waits_for(is_over, 40):
+            if not waits_for(is_over):
                 yield f"with a peer {words} it isn't in .failed: {sender.text('stderr')!r}"
             if names_in(spool.folder) or spool.in_folder(".sent"):
                 yield f"with a peer {words} it lies elsewhere too"
-            if not waits_for(lambda: '"name":"a","outcome":"failed"' in sender.text("stdout"), 5):
+            if not waits_for(lambda: '"name":"a","outcome":"failed"' in sender.text("stdout")):
                 yield f"with a peer {words} no line names it: {sender.text('stdout')!r}"
             if spool.came() != {"a": b"it was here"}:
                 yield f"with a peer {words} the file at the peer is {spool.came()}"
@@ -475,13 +466,13 @@ def restarted_mistakes(program):
         spool.drops(files)
         slow = ["--spool", "from", "--no-time", "--rate", "400", "--at-once", "2"]
         sender = link.starts(1, slow, PATIENT)
-        if not waits_for(lambda: len(spool.in_folder(".sent")) >= 5, 40):
+        if not waits_for(lambda: len(spool.in_folder(".sent")) >= 5):
             yield f"it sent {sorted(spool.in_folder('.sent'))}"
         sender.killed()
         sent = spool.in_folder(".sent").keys()
         before = receiver.text("stdout").count("metadata")
         link.starts(1, SPOOL, PATIENT)
-        yield from spool.mistakes(files, 60)
+        yield from spool.mistakes(files)
         again = re.findall(r"metadata \S+ (\S+)", receiver.text("stdout"))[before:]
         if set(again) & sent:
             yield f"{sorted(set(again) & sent)} were sent again"
@@ -498,10 +489,10 @@ def set_back_mistakes(program):
         spool.drops(files)
         for run in range(8):
             sender = link.starts(1, slow, PATIENT, faults=f"clock=at:{began - run * 3600}")
-            sender.comes_to("finished", 10)
+            sender.comes_to("finished")
             ids += re.findall(r"transaction (\S+)", sender.killed())
         link.starts(1, SPOOL, PATIENT, faults=f"clock=at:{began - 86400}")
-        yield from spool.mistakes(files, 60)
+        yield from spool.mistakes(files)
         ids += re.findall(r"transaction (\S+)", link.started[-1].killed())
         if len(ids) < len(files) or len(set(ids)) < len(ids):
             yield f"of {len(ids)} numbers {len(set(ids))} were others: {sorted(ids)[:9]}"
@@ -520,7 +511,7 @@ def refused_mistakes(program):
         yield from links.refused_mistakes(other.starts(1, words), "another station")
         # The inbox of another station may be the same folder: this is how a relay is made.
         inbox = ["--inbox", folder, "--state", "numbers", "--idle", "1", "--no-time"]
-        status, out, err = other.starts(2, inbox).ended(20)
+        status, out, err = other.starts(2, inbox).ended()
         if status or err:
             yield f"an inbox there is refused: {status}, {out!r}, {err!r}"
     with links.Link(program) as link:
@@ -536,7 +527,7 @@ def stays_mistakes(program):
         os.makedirs(f"{spool.folder}/.sent/a/in the way")
         spool.drops({"a": b"hello"})
         sender = link.starts(1, SPOOL, PATIENT)
-        if not waits_for(lambda: spool.came() == {"a": b"hello"}, 20):
+        if not waits_for(lambda: spool.came() == {"a": b"hello"}):
             yield "it didn't come"
         time.sleep(4)
         told = [it for it in sender.text("stderr").splitlines() if "moved away" in it]

@@ -9,7 +9,7 @@ import tomllib
 import stations
 
 TOP = os.path.dirname(os.path.dirname(os.path.abspath(__file__)))
-SECONDS = 60
+SECONDS = 600
 
 # Options that name a settings file, and those of every command.
 NO_KEYS = {"config", "print-config", "help"}

@@ -15,7 +15,6 @@ counts, which no other work changes.
 """
 import collections
 import os
-import random
 import re
 import subprocess
 import sys
@@ -116,8 +115,8 @@ def by_stations(program, octets, zone, segment, more=(), keys=None, seconds=stat
 
 
 def wait_for(port):
-    """Waits until a socket has this port, for five seconds at most."""
-    end = time.monotonic() + 5
+    """Waits until a socket has this port."""
+    end = time.monotonic() + stations.SECONDS
     while time.monotonic() < end:
         with open("/proc/net/udp", encoding="ascii") as it:
             if f":{port:04X} " in it.read():
@@ -156,7 +155,7 @@ def by_plain(program, octets, zone, segment):
                 break
         with open(f"{folder}/b", "rb") as it:
             if it.read() != octets:
-                sys.exit("tests/speed.py: the plain program lost data")
+                raise OSError("the plain program lost data")
     return Result(len(octets), seconds, sender, receiver, window)
 
 
@@ -176,16 +175,27 @@ def compared(program, octets, zone, segment, runs=1):
 
 def slowness_mistakes(program, size=10_000_000, part=5):
     """What is wrong where stations have not even a part of the ratio that is wanted, with a small
-    file and beside whatever else the machine does. A datagram that the system lets go of costs
-    them a second, after which it is asked for again: so the best of some runs counts."""
-    octets = random.Random(42).randbytes(size)
+    file. A datagram that the system lets go of costs them a second, after which it is asked for
+    again: so the best of some runs counts. On a busy machine no ratio is wrong (links.SLACK), but
+    it is printed."""
+    octets = stations.chance_of(42).randbytes(size)
     for title, zone, segment, wanted in CASES:
+        told = []
         for _ in range(TRIES):
-            own, plain, ratio = compared(program, octets, zone, segment)
+            try:
+                own, plain, ratio = compared(program, octets, zone, segment)
+            except OSError as error:
+                told.append(f"{title}: {error}")
+                continue
             if ratio >= wanted / part:
                 break
+            told.append(f"{title}: {own}, and plainly {plain}: a ratio of {ratio:.3f}")
+            if not own:
+                yield told[-1]
         else:
-            yield f"{title}: {own}, and plainly {plain}: a ratio of {ratio:.3f}"
+            print(f"tests/run: {told[-1]}", flush=True)
+            if links.SLACK <= 1:
+                yield told[-1]
 
 
 def lone_mistakes(program):
@@ -212,7 +222,7 @@ def best(results):
 
 def tell_rows(program):
     """The table of stations over UDP."""
-    octets, rows = random.Random(44).randbytes(PAGE_SIZE), []
+    octets, rows = stations.chance_of(44).randbytes(PAGE_SIZE), []
     for title, zone, segment, more, keys in ROWS:
         own, plain = [], []
         for _ in range(PAGE_RUNS):
@@ -290,7 +300,7 @@ def tell_instructions(program):
     """The tables of instructions for a PDU, with the functions that most of them are of."""
     rows, parts = [], []
     for zone, segment, size in COUNTED:
-        octets, pdus = random.Random(45).randbytes(size), -(-size // segment)
+        octets, pdus = stations.chance_of(45).randbytes(size), -(-size // segment)
         ends = [
             under_callgrind(program, octets, zone, segment, end)
             - under_callgrind(program, octets[:segment], zone, segment, end)
@@ -325,7 +335,8 @@ def main(words):
     is_page = words[:1] == ["--page"]
     words = words[1:] if is_page else words
     path = os.path.abspath(words[0] if words else f"{TOP}/crates/cfdp_node/out/cfdp_node")
-    octets = random.Random(43).randbytes(int(float(words[1]) * 1e6) if words[1:] else 100_000_000)
+    size = int(float(words[1]) * 1e6) if words[1:] else 100_000_000
+    octets = stations.chance_of(43).randbytes(size)
     is_well, memory = True, "/dev/shm" if os.path.isdir("/dev/shm") else None
     with tempfile.TemporaryDirectory(dir=memory) as room:
         program = types.SimpleNamespace(path=path, room=room)

@@ -40,7 +40,8 @@ def build(path):
     crate = rtlib.Crate(f"{TOP}/crates/cfdp_node", TOP, {})
     clang = f"{kit}/toolchain/bin/clang"
     with tempfile.TemporaryDirectory() as folder:
-        words = builder.translate(kit, builder.sources(crate), folder)
+        whole = builder.Program(builder.WHOLE, kit, crate)
+        words = builder.translate(kit, whole.words(whole.own_root), folder)
         flags = ["-Xclang", "-disable-llvm-passes", "-o", "module.ll"]
         run(folder, clang, "-S", "-emit-llvm", "-O0", *flags, "module.bc")
         with open(f"{folder}/module.ll", encoding="utf-8") as file:

@@ -5,6 +5,8 @@ has to come out, and an answer has to have the flag once any PDU that came had i
 """
 import random
 
+import stations
+
 HEADER = bytes.fromhex("130001000000010002")
 
 
@@ -48,7 +50,7 @@ def pdus(chance, octets):
 
 def scripts():
     """All of them: a name, the file's octets, and the PDUs with their flags."""
-    for seed in range(20):
+    for seed in stations.seeds(20):
         chance = random.Random(seed)
         octets = bytes(chance.choices(b"abcdefgh", k=chance.randint(1, 60)))
         yield f"PDUs of both widths, {seed}", octets, list(pdus(chance, octets))
