@@ -40,12 +40,28 @@ pub fn run_steps<S: Stations, W: Write>(
             answered: Vec::new(alloc),
         };
     };
-    perform_all(alloc, stations, steps, &mut answered);
-    let exit = match report(stations, steps, answered.as_slice(), out) {
+    let exit = run_into(alloc, stations, steps, &mut answered, out);
+    Ended { exit, answered }
+}
+
+/// Does all commands at these stations, keeps what each answered, and writes the report.
+fn run_into<S: Stations, W: Write>(
+    alloc: Global,
+    stations: &mut S,
+    steps: &[Step],
+    answered: &mut Vec<Answered>,
+    out: &mut W,
+) -> Exit
+    requires none { answered.old.items ≡ [] }
+    requires room { length steps.now ≤ vec_capacity answered.old }
+    ensures { EndsRun result steps.now (S.world stations.old)
+        (W.contents out.old) (W.contents out.new) }
+{
+    perform_all(alloc, stations, steps, answered);
+    match report(stations, steps, answered.as_slice(), out) {
         Ok(exit) => exit,
         Err(_) => Exit::Device(Fault::Unwritable),
-    };
-    Ended { exit, answered }
+    }
 }
 
 /// Does all commands in turn, and keeps what each answered.
