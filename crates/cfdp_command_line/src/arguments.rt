@@ -101,7 +101,7 @@ Then, what happens:
   spread S              S polls until nothing is due, with a flush after each PDU
   burst S               S polls until nothing is due, then flushes once
   tick S N              S is told that the time is N
-  deliver S [N]         the N oldest frames that S sent arrive (default 1; 0: none)
+  deliver S [N]         the N oldest frames of S arrive (default 1; 0: none)
   strike S [N]          the N oldest frames that S sent are lost (default 1)
   deliver S LANE [N], strike S LANE [N]
                         the same of a lane: data, whose frames carry file data,
