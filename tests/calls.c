@@ -193,6 +193,64 @@ static void on_a_closed_handle(void)
         IS(cfdp_open(&s, &c), CFDP_BAD_##field); \
     } while (0)
 
+#define ACCEPTS(change)                \
+    do {                               \
+        cfdp_config c = config_of(1);  \
+        change;                        \
+        IS(cfdp_open(&s, &c), CFDP_OK); \
+        cfdp_close(&s);                \
+    } while (0)
+
+/* Each field at its limits. */
+static void opened_at_limits(void)
+{
+    cfdp_station s = CFDP_STATION_INIT;
+
+    ACCEPTS(c.entity = 0);
+    ACCEPTS(c.entity = 65535);
+    ACCEPTS(c.peer = 0);
+    ACCEPTS(c.peer = 65535);
+    ACCEPTS(c.id_width = 1);
+    ACCEPTS((c.id_width = 8, c.entity = UINT64_MAX));
+    ACCEPTS((c.id_width = 8, c.peer = UINT64_MAX));
+    ACCEPTS((c.id_width = 7, c.peer = UINT64_MAX >> 8));
+    ACCEPTS(c.number_width = 1);
+    ACCEPTS(c.number_width = 8);
+    ACCEPTS(c.first_number = 0);
+    ACCEPTS((c.number_width = 1, c.first_number = UINT64_MAX));
+    ACCEPTS(c.segment = 1);
+    ACCEPTS(c.segment = 4096);
+    ACCEPTS(c.checksum = 3);
+    ACCEPTS(c.checksum = 15);
+    ACCEPTS(c.eof_time = 1);
+    ACCEPTS(c.eof_time = UINT32_MAX);
+    ACCEPTS(c.nak_time = 1);
+    ACCEPTS(c.nak_time = UINT32_MAX);
+    ACCEPTS(c.finished_time = 1);
+    ACCEPTS(c.finished_time = UINT32_MAX);
+    ACCEPTS(c.inactivity_time = 1);
+    ACCEPTS(c.inactivity_time = UINT32_MAX);
+    ACCEPTS(c.sends.virtual_channel = 0);
+    ACCEPTS(c.sends.virtual_channel = 62);
+    ACCEPTS(c.sends.data_virtual_channel = 0);
+    ACCEPTS(c.sends.data_virtual_channel = 62);
+    ACCEPTS(c.sends.zone = 16);
+    ACCEPTS(c.sends.zone = 2040);
+    ACCEPTS(c.sends.apid = 0);
+    ACCEPTS(c.sends.apid = 2046);
+    ACCEPTS(c.receives.virtual_channel = 0);
+    ACCEPTS(c.receives.virtual_channel = 62);
+    ACCEPTS(c.receives.data_virtual_channel = 0);
+    ACCEPTS(c.receives.data_virtual_channel = 62);
+    ACCEPTS(c.receives.zone = 16);
+    ACCEPTS(c.receives.zone = 2040);
+    ACCEPTS(c.receives.apid = 0);
+    ACCEPTS(c.receives.apid = 2046);
+    ACCEPTS(c.capacity = 8192);
+    ACCEPTS(c.capacity = 65536);
+    IS(live, 0);
+}
+
 static void opened_so(void)
 {
     cfdp_station s = CFDP_STATION_INIT;
@@ -205,6 +263,9 @@ static void opened_so(void)
     REFUSES(c.peer = 1, PEER);
     REFUSES(c.entity = 65536, ENTITY);
     REFUSES(c.peer = 65536, PEER);
+    REFUSES((c.id_width = 1, c.entity = 256), ENTITY);
+    REFUSES((c.id_width = 1, c.peer = 256), PEER);
+    REFUSES((c.id_width = 7, c.peer = (UINT64_MAX >> 8) + 1), PEER);
     REFUSES(c.id_width = 0, ID_WIDTH);
     REFUSES(c.id_width = 9, ID_WIDTH);
     REFUSES(c.number_width = 0, NUMBER_WIDTH);
@@ -225,6 +286,8 @@ static void opened_so(void)
     REFUSES(c.on_nak_limit = 255, ON_NAK_LIMIT);
     REFUSES(c.on_inactivity = 4, ON_INACTIVITY);
     REFUSES(c.sends.zone = 15, SENDS_ZONE);
+    REFUSES(c.sends.zone = 2041, SENDS_ZONE);
+    REFUSES(c.receives.zone = 15, RECEIVES_ZONE);
     REFUSES(c.sends.apid = 2047, SENDS_APID);
     REFUSES(c.sends.virtual_channel = 63, SENDS_VIRTUAL_CHANNEL);
     REFUSES(c.sends.data_virtual_channel = 63, SENDS_DATA_VIRTUAL_CHANNEL);
@@ -642,26 +705,79 @@ static void overtaken(void)
     IS(live, 0);
 }
 
-/* The PDU that is due is longer than the room that is left. */
-static void filled(void)
+/* A station with the put of a file of 100,000 octets, which is polled until it answers Full, and so
+ * many times more. */
+static void open_filled(cfdp_station *s, const uint8_t *octets, unsigned more)
 {
-    cfdp_station s = CFDP_STATION_INIT;
-    cfdp_config c = config_of(1);
-    uint8_t *octets = (uint8_t *)calloc(1, 100000);
+    const cfdp_config c = config_of(1);
     cfdp_id id;
     cfdp_answer answer = CFDP_OK;
     unsigned polls = 0;
 
-    IS(cfdp_open(&s, &c), CFDP_OK);
-    IS(cfdp_add(&s, NAME_A, 1, octets, 100000), CFDP_OK);
-    IS(cfdp_put(&s, NAME_A, 1, NAME_B, 1, &id), CFDP_OK);
+    IS(cfdp_open(s, &c), CFDP_OK);
+    IS(cfdp_add(s, NAME_A, 1, octets, 100000), CFDP_OK);
+    IS(cfdp_put(s, NAME_A, 1, NAME_B, 1, &id), CFDP_OK);
     while (answer == CFDP_OK && polls++ < 100)
-        answer = cfdp_poll(&s);
+        answer = cfdp_poll(s);
     IS(answer, CFDP_FULL);
-    IS(cfdp_cancel(&s, &id), CFDP_OK);
-    IS(cfdp_cancel(&s, &id), CFDP_ALREADY_CLOSED);
-    cfdp_close(&s);
+    while (more-- > 0)
+        IS(cfdp_poll(s), CFDP_FULL);
+}
+
+/* The PDU that is due is longer than the room that is left. It stays due, and an answer Full
+ * changes nothing: the frames are the same, however often it was given. Once they left there is
+ * room. */
+static void filled(void)
+{
+    cfdp_station one = CFDP_STATION_INIT, two = CFDP_STATION_INIT;
+    uint8_t *octets = (uint8_t *)calloc(1, 100000);
+    uint8_t frames[2][264];
+    cfdp_id id = {1, 1};
+    unsigned count = 0;
+
+    open_filled(&one, octets, 0);
+    open_filled(&two, octets, 7);
+    IS(counted(&two).sent.file_data, counted(&one).sent.file_data);
+    while (cfdp_next_frame(&one, frames[0], sizeof frames[0]) == CFDP_OK) {
+        IS(cfdp_next_frame(&two, frames[1], sizeof frames[1]), CFDP_OK);
+        IS(memcmp(frames[0], frames[1], sizeof frames[0]), 0);
+        count++;
+    }
+    IS(cfdp_next_frame(&two, frames[1], sizeof frames[1]), CFDP_NOTHING);
+    IS(count != 0, 1);
+    IS(cfdp_poll(&one), CFDP_OK);
+    IS(cfdp_cancel(&one, &id), CFDP_OK);
+    IS(cfdp_cancel(&one, &id), CFDP_ALREADY_CLOSED);
+    cfdp_close(&one);
+    cfdp_close(&two);
     free(octets);
+    IS(live, 0);
+}
+
+/* The answers to a put come to a station that knows nothing of it: the ACK of the EOF is dropped,
+ * and the Finished is acknowledged, which is counted once it is sent. */
+static void strayed(void)
+{
+    cfdp_station one = CFDP_STATION_INIT, two = CFDP_STATION_INIT, other = CFDP_STATION_INIT;
+    const cfdp_config first = config_of(1), second = config_of(2);
+    cfdp_id id;
+
+    IS(cfdp_open(&one, &first), CFDP_OK);
+    IS(cfdp_open(&two, &second), CFDP_OK);
+    IS(cfdp_open(&other, &first), CFDP_OK);
+    IS(cfdp_add(&one, NAME_A, 1, OCTETS, sizeof OCTETS), CFDP_OK);
+    IS(cfdp_put(&one, NAME_A, 1, NAME_B, 1, &id), CFDP_OK);
+    IS(passed(&one, &two), 2);
+    IS(passed(&two, &other), 1);
+    IS(counted(&other).pdus.unknown, 1);
+    IS(counted(&other).sent.other_directives, 0);
+    IS(cfdp_poll(&other), CFDP_OK);
+    IS(cfdp_poll(&other), CFDP_NOTHING);
+    IS(counted(&other).sent.other_directives, 1);
+    IS(cfdp_records_left(&other), 4096);
+    cfdp_close(&one);
+    cfdp_close(&two);
+    cfdp_close(&other);
     IS(live, 0);
 }
 
@@ -1056,6 +1172,7 @@ int main(void)
     on_a_closed_handle();
     opened_so();
     numbered_past_its_width();
+    opened_at_limits();
     transferred();
     at_the_limits();
     transmitted();
@@ -1064,6 +1181,7 @@ int main(void)
     listed();
     overtaken();
     filled();
+    strayed();
     decodes();
     guarded(2);
     guarded(3);

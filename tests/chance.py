@@ -3,6 +3,7 @@
 Twenty lose nothing and settle. Twenty lose frames, from 10 to 70 of a hundred, and recover. Four
 settle, lose only what belongs to two last puts, and recover with limits of which some are zero. Of
 the frames that arrive or are lost some are those sent first, and some the oldest of one lane.
+Beside these are 64 without chance: each choice of the six frames of a put is lost.
 """
 import stations
 
@@ -133,6 +134,18 @@ def late(seed):
     return f"{RECOVERING_SETUP}{limits}{body}{end}", puts + 2
 
 
+# A put of six frames: four of directives, of which the third has the end of the Metadata and the
+# begin of the EOF, and two of file data.
+SIX = "set zone 16\nset on_inactivity 2\nfile 1 a.txt hello\nput 1 a.txt b.txt\nburst 1\n"
+
+
+def chosen(lost):
+    """A script in which those of the six frames are lost whose bits are 1, the first one's the
+    lowest."""
+    verbs = ("strike" if lost >> place & 1 else "deliver" for place in range(6))
+    return SIX + "".join(f"{it} 1\n" for it in verbs) + "recover\n", 1
+
+
 def scripts():
     """All of them: a name, the script, and how many puts it has."""
     for seed in stations.seeds(20):
@@ -141,3 +154,5 @@ def scripts():
         yield f"script {seed} with losses", *losing(seed)
     for seed in stations.seeds(4):
         yield f"script {seed} with limits of zero", *late(seed)
+    for lost in range(64):
+        yield f"a put of six frames, of which {lost:06b} are lost", *chosen(lost)

@@ -16,8 +16,8 @@ GROUPS = (
     ("replaced", 2, 0, "({} and "),
     ("prefixes", 3, 0, " and {});"),
     ("replaced", 3, 0, " and {})."),
-    ("fronts", 1, 0, "({}); and five frames"),
-    ("replaced", 5, 0, "so ({})."),
+    ("replaced", 5, 0, "so ({}); and the proper prefixes of these"),
+    ("prefixes", 5, 0, "frames ({})."),
     ("storm", 4, 0, ": {} frames, half"),
     ("storm", 4, 1, "Of the million frames {} are refused"),
 )
@@ -34,7 +34,7 @@ def answers():
         if told and verb:
             found.setdefault(verb, []).append([int(it) for it in told.groups()])
         if not line.startswith(" "):
-            asked = re.match(r"(?:\d )?(prefixes|replaced|fronts|storm)\b", line)
+            asked = re.match(r"(prefixes|replaced|storm)\b", line)
             verb = asked and asked[1]
     return found
 

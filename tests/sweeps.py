@@ -8,6 +8,8 @@ SETTLING = ("settle", "recover")
 AT_START = ("", "")
 UNSHOWN = "error: there is not enough memory to show what passes\n"
 DROPPED = re.compile(r"station [12] dropped: (link 11|pdu 16) NoMemory, \d+")
+# The answers of commands that runs showed of which a growth of memory was refused.
+SHOWN = set()
 
 
 def checksum_of(octets):
@@ -195,6 +197,7 @@ def memory_mistakes(program, row, most=20000):
     unseen = []
     for turn in range(1, most):
         status, report, explained, left = program.run(words, script, f"memory={turn} mark")
+        SHOWN.update(parted(report)[0].values())
         if "refused" not in left:
             if (status, report, explained) != own[:3]:
                 yield f"refusing none of {turn - 1} growths, it wrote {report} and {explained}"
@@ -212,6 +215,12 @@ def memory_mistakes(program, row, most=20000):
         elif not refusals.allow(report, explained):
             yield f"with growth {turn} refused, it ended with {status}: {report}, {explained}"
     yield f"it asks for more than {most} growths of memory"
+
+
+def unshown_mistakes():
+    """What no run showed of which a growth of memory was refused, and no script shows otherwise."""
+    for answer in {"NoMemory", "StoreFailed"} - SHOWN:
+        yield f"no command answered {answer}"
 
 
 def wire_mistakes(transfer, call, most=2000):

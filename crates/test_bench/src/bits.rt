@@ -2,7 +2,7 @@
 //! that are put in as octets.
 //!
 //!     get AT WIDTH OCTETS         to tell a field
-//!     put AT WIDTH VALUE OCTETS   to put the last bits of a value into a field
+//!     put AT WIDTH VALUE OCTETS   to put the last bits of a value into a field, and to tell them
 //!     three OCTETS                to put in three fields, and to tell the first
 //!     read COUNT OCTETS           to tell the number that so many octets in front are
 //!     load COUNT OCTETS           the same of four or eight octets, at once
@@ -10,7 +10,7 @@
 //!     uint AT VALUE OCTETS        to put it there, and to tell where it ends
 //!     store AT VALUE OCTETS       the same of four or eight octets, at once
 //!     bytes AT VALUE OCTETS       the same, of octets that are no number
-ghost use Rattle.std.specs.Prelude.{◌≡◌, ◌*◌, ◌^◌, ◌<◌, ◌≤◌, length, IfSome};
+ghost use Rattle.std.specs.Prelude.{◌≡◌, ◌+◌, ◌*◌, ◌^◌, ◌<◌, ◌≤◌, length, IfSome};
 ghost use Rattle.cfd_bits.specs.Field.{field};
 
 use crate::bench::{Bench, played, unknown};
@@ -20,9 +20,6 @@ use cfd_bits::{
     what_is_written_is_read, write_uint,
 };
 use std::alloc::{AllocError, Global};
-
-/// The most octets that a line may have, and the last bit at which a field may begin.
-const MOST: usize = 1000;
 
 /// Plays a transcript.
 pub fn play(alloc: Global, transcript: &str, out: &mut String) -> Result<(), AllocError> {
@@ -43,7 +40,10 @@ impl Bench for BitsBench {
                 let found = read(self.alloc, verb, words)?;
                 tell_number(found, out)
             }
-            _ => writes(self.alloc, verb, words, out),
+            "put" | "three" | "write" | "uint" | "store" | "bytes" => {
+                writes(self.alloc, verb, words, out)
+            }
+            _ => unknown(out),
         }
     }
 }
@@ -66,14 +66,18 @@ fn read(alloc: Global, verb: &str, words: &str) -> Result<Option<u64>, AllocErro
     }
 }
 
-fn field_at(octets: &[u8], at: usize, width: usize) -> Option<u64> {
-    if octets.len() > MOST || at > MOST || width > 64 {
-        return None;
+/// The field of these bits, if the octets have it.
+fn field_at(octets: &[u8], at: usize, width: usize) -> Option<u64>
+    ensures { IfSome result (λ bits.
+        (width ≤ 64) × (at + width ≤ 8 * length octets.now) × (at + width < 2 ^ 64)
+        × (bits < 2 ^ width)) }
+{
+    let room = octets.len().saturating_mul(8).checked_sub(at)?;
+    if width <= 64 && width <= room {
+        Some(get(octets, at, width))
+    } else {
+        None
     }
-    if at + width > 8 * octets.len() {
-        return None;
-    }
-    Some(get(octets, at, width))
 }
 
 fn number_of(octets: &[u8], count: usize, at_once: bool) -> Option<u64> {
@@ -87,61 +91,39 @@ fn number_of(octets: &[u8], count: usize, at_once: bool) -> Option<u64> {
     }
 }
 
-/// Writes into the octets of the last word, and tells them.
+/// Writes a value into the octets of the last word, and tells them.
 fn writes(alloc: Global, verb: &str, words: &str, out: &mut String) -> Result<(), AllocError> {
+    let (place, last) = match verb {
+        "put" => (2, 3),
+        "three" => (0, 0),
+        "write" => (0, 1),
+        _ => (1, 2),
+    };
+    let value = octets(alloc, word(words, place))?;
+    let mut octets = octets(alloc, word(words, last))?;
+    tell_number(write(&mut octets, verb, words, &value), out)?;
+    tell_octets(alloc, &octets, out)
+}
+
+/// Writes a value into octets, and tells a number: the field that was written, the number that is
+/// read again, or where the value ends.
+fn write(octets: &mut [u8], verb: &str, words: &str, value: &[u8]) -> Option<u64> {
     let first = count(word(words, 0));
     match verb {
-        "put" => {
-            let value = octets(alloc, word(words, 2))?;
-            let mut octets = octets(alloc, word(words, 3))?;
-            put(&mut octets, first, count(word(words, 1)), &value);
-            tell_octets(alloc, &octets, out)
-        }
-        "three" => {
-            let mut octets = octets(alloc, word(words, 0))?;
-            tell_number(put_three(&mut octets), out)?;
-            tell_octets(alloc, &octets, out)
-        }
-        "write" => {
-            let value = octets(alloc, word(words, 0))?;
-            let mut octets = octets(alloc, word(words, 1))?;
-            tell_number(put_number(&mut octets, &value), out)?;
-            tell_octets(alloc, &octets, out)
-        }
-        "uint" | "store" | "bytes" => {
-            let value = octets(alloc, word(words, 1))?;
-            let mut octets = octets(alloc, word(words, 2))?;
-            let end = put_at(&mut octets, first, &value, verb);
-            write!(out, " {end}\n")?;
-            tell_octets(alloc, &octets, out)
-        }
-        _ => unknown(out),
+        "put" => put(octets, first, count(word(words, 1)), value),
+        "three" => put_three(octets),
+        "write" => put_number(octets, value),
+        _ => Some(put_at(octets, first, value, verb) as u64),
     }
 }
 
-fn put(octets: &mut [u8], at: usize, width: usize, value: &[u8]) {
-    if let Some(value) = last_bits(value, width) {
-        put_in(octets, at, width, value);
-    }
-}
-
-/// The last bits of a value, as many as these.
-fn last_bits(value: &[u8], width: usize) -> Option<u64>
-    ensures { IfSome result (λ bits. (width ≤ 64) × (bits < 2 ^ width)) }
-{
-    if value.len() > 8 || width > 8 * value.len() {
-        return None;
-    }
-    Some(get(value, 8 * value.len() - width, width))
-}
-
-fn put_in(octets: &mut [u8], at: usize, width: usize, value: u64)
-    requires narrow { width ≤ 64 }
-    requires fits { value < 2 ^ width }
-{
-    if octets.len() <= MOST && at <= MOST && at + width <= 8 * octets.len() {
-        put_bits(octets, at, width, value);
-    }
+/// Puts the last bits of a value into a field, if both have so many, and tells these.
+fn put(octets: &mut [u8], at: usize, width: usize, value: &[u8]) -> Option<u64> {
+    let front = value.len().saturating_mul(8).saturating_sub(width);
+    let bits = field_at(value, front, width)?;
+    let _before = field_at(octets, at, width)?;
+    put_bits(octets, at, width, bits);
+    Some(bits)
 }
 
 fn put_three(octets: &mut [u8]) -> Option<u64> {
@@ -160,6 +142,7 @@ fn put_number(octets: &mut [u8], value: &[u8]) -> Option<u64> {
     Some(written_and_read(octets, count, value))
 }
 
+/// Puts a value behind the first octets, and tells where it ends; 0 where it passes the end.
 fn put_at(octets: &mut [u8], at: usize, value: &[u8], verb: &str) -> usize {
     if at > octets.len() || value.len() > octets.len() - at {
         return 0;

@@ -18,19 +18,23 @@
 //!     told          to tell all that was indicated
 //!     drops         to tell how much was dropped, by number
 //!     inbox         to tell each published file
-//!     sum           to tell how many of the transactions 1:1 to 1:10 and 2:1 to 2:10 are closed,
-//!                   and how many are told to be complete
 //!     prefixes PDU, replaced PDU    as in `strangers`
-//!     forget .., forgotten S:N, first, gone, since N    as in `letting_go`
+//!     forget S:N    to let go of a transaction
+//!     forget closed to let go of all that are closed and owe no acknowledgement
+//!     forget told N to let go of the first N indications
+//!     forgotten S:N whether a transaction was let go
+//!     first         to take the first indication that is left
+//!     gone          to say how many indications were let go
+//!     since N       to tell what was indicated behind the first N, all of those counted that there
+//!                   were; `gone` where some of it was let go
 //!     pass          of two that are joined: to send all that is due, and to give it to the other
 use crate::bench::{Bench, played, unknown};
 use crate::joined::{Joined, Losses, Side};
-use crate::letting_go::{self, Keeper};
 use crate::setup::{EntitySetup, first_entity, second_entity};
 use crate::strangers::{self, Fate, Target};
 use crate::telling::tell;
-use crate::words::{number, octets, pair, tell_octets};
-use cfdp_directives::{Delivery, FileStatus, Indication, Phase};
+use crate::words::{count, id, number, octets, pair, tell_octets};
+use cfdp_directives::Indication;
 use cfdp_entity::{
     Entity, EntityConfig, EntityDrop, EntityPolled, ForgetError, PutError, RequestError, Rooms,
 };
@@ -141,41 +145,10 @@ impl Bench for EntityBench {
             "tick" => self.entity.tick(number(words)),
             "ask" => self.calls(words, out),
             "prefixes" | "replaced" => strangers::asks(self.alloc, self, verb, words, out),
-            "forget" | "forgotten" | "first" | "gone" | "since" => {
-                letting_go::asks(self, verb, words, out)
-            }
-            _ => self.says(verb, out),
+            "forget" => self.forgets(words, out),
+            "first" => tell_first(self.entity.next_indication(), out),
+            _ => self.says(verb, words, out),
         }
-    }
-}
-
-impl Keeper for EntityBench {
-    fn forget(&mut self, id: TransactionId) -> Result<(), ForgetError> {
-        self.entity.forget(id)
-    }
-
-    fn forget_closed(&mut self) -> Result<(), AllocError> {
-        self.entity.forget_closed()
-    }
-
-    fn forget_told(&mut self, count: usize) {
-        self.entity.forget_indications(count);
-    }
-
-    fn first_told(&mut self) -> Option<Indication> {
-        self.entity.next_indication()
-    }
-
-    fn was_forgotten(&self, id: TransactionId) -> bool {
-        self.entity.was_forgotten(id)
-    }
-
-    fn told_gone(&self) -> u64 {
-        self.entity.indications_gone()
-    }
-
-    fn told_since(&self, mark: u64) -> Option<&[Indication]> {
-        self.entity.indications_since(mark)
     }
 }
 
@@ -189,10 +162,6 @@ impl Target for EntityBench {
         } else {
             Fate::Broken
         }
-    }
-
-    fn tells_drops(&self, out: &mut String) -> Result<(), AllocError> {
-        self.tells_drops(out)
     }
 }
 
@@ -289,17 +258,37 @@ impl EntityBench {
         count
     }
 
-    fn says(&self, verb: &str, out: &mut String) -> Result<(), AllocError> {
+    fn says(&self, verb: &str, words: &str, out: &mut String) -> Result<(), AllocError> {
         match verb {
-            "deadline" => self.tells_deadline(out),
             "phase" => write!(out, " {:?}\n", self.entity.phase(FIRST)),
             "phases" => self.tells_phases(out),
             "left" => write!(out, " {}\n", self.entity.records_left()),
-            "told" => self.tells(out),
+            "told" => tell_all(self.entity.indications(), out),
             "drops" => self.tells_drops(out),
             "inbox" => self.tells_inbox(out),
-            "sum" => self.sums_up(out),
+            _ => self.recalls(verb, words, out),
+        }
+    }
+
+    fn recalls(&self, verb: &str, words: &str, out: &mut String) -> Result<(), AllocError> {
+        match verb {
+            "deadline" => tell_deadline(self.entity.next_deadline(), out),
+            "forgotten" => write!(out, " {}\n", self.entity.was_forgotten(id(words))),
+            "gone" => write!(out, " {}\n", self.entity.indications_gone()),
+            "since" => tell_since(self.entity.indications_since(number(words)), out),
             _ => unknown(out),
+        }
+    }
+
+    fn forgets(&mut self, words: &str, out: &mut String) -> Result<(), AllocError> {
+        let (what, rest) = pair(words);
+        match what {
+            "closed" => {
+                self.entity.forget_closed()?;
+                write!(out, " done\n")
+            }
+            "told" => Ok(self.entity.forget_indications(count(rest))),
+            _ => tell_forgotten(self.entity.forget(id(what)), out),
         }
     }
 
@@ -364,23 +353,22 @@ impl EntityBench {
         let mut at = number(first);
         let mut taken = 0u64;
         for _ in 0..number(count) {
-            if self.hears_one_of(at, texts, out)? {
+            let heard = self.hears_one_of(at, texts)?;
+            if heard == "taken" {
                 taken = taken.saturating_add(1);
+            } else {
+                write!(out, " {heard} {at}\n")?;
             }
             at = at.saturating_add(number(step));
         }
         write!(out, " taken {taken}\n")
     }
 
-    /// Hears a PDU with a number between its two texts. Writes why it was dropped, if it was.
-    fn hears_one_of(&mut self, at: u64, texts: &str, out: &mut String) -> Result<bool, AllocError> {
-        let (front, behind) = pair(texts);
-        let text = format!(in self.alloc; "{front}{at:08X}{behind}")?;
-        let heard = self.hear_text(text.as_str())?;
-        if heard != "taken" {
-            write!(out, " {heard} {at}\n")?;
-        }
-        Ok(heard == "taken")
+    /// Hears a PDU with a number between its two texts, and says why it was dropped, or that it
+    /// wasn't.
+    fn hears_one_of(&mut self, at: u64, texts: &str) -> Result<&'static str, AllocError> {
+        let text = numbered(self.alloc, at, texts)?;
+        self.hear_text(text.as_str())
     }
 
     fn polls(&mut self, words: &str, out: &mut String) -> Result<(), AllocError> {
@@ -436,20 +424,6 @@ impl EntityBench {
         }
     }
 
-    fn tells_deadline(&self, out: &mut String) -> Result<(), AllocError> {
-        match self.entity.next_deadline() {
-            Some(at) => write!(out, " at {at}\n"),
-            None => write!(out, " none\n"),
-        }
-    }
-
-    fn tells(&self, out: &mut String) -> Result<(), AllocError> {
-        for told in self.entity.indications() {
-            tell(told, out)?;
-        }
-        Ok(())
-    }
-
     fn tells_drops(&self, out: &mut String) -> Result<(), AllocError> {
         for by in &EntityDrop::ALL {
             let count = self.entity.drops(*by);
@@ -466,31 +440,12 @@ impl EntityBench {
         }
         Ok(())
     }
+}
 
-    fn sums_up(&self, out: &mut String) -> Result<(), AllocError> {
-        let closed = self.closed(1).saturating_add(self.closed(2));
-        write!(out, " closed {closed}\n complete {}\n", self.complete())
-    }
-
-    fn closed(&self, source: u64) -> u64 {
-        let mut count = 0u64;
-        for number in 1..=10u64 {
-            if self.entity.phase(TransactionId { source, number }) == Some(Phase::Closed) {
-                count = count.saturating_add(1);
-            }
-        }
-        count
-    }
-
-    fn complete(&self) -> u64 {
-        let mut count = 0u64;
-        for told in self.entity.indications() {
-            if is_complete(told) {
-                count = count.saturating_add(1);
-            }
-        }
-        count
-    }
+/// Two texts, with a number of 8 digits between them.
+fn numbered(alloc: Global, at: u64, texts: &str) -> Result<String, AllocError> {
+    let (front, behind) = pair(texts);
+    format!(in alloc; "{front}{at:08X}{behind}")
 }
 
 /// The rooms that two words name, or one for both; that for each PDU where there is none.
@@ -501,6 +456,41 @@ fn rooms(words: &str) -> Rooms {
         directives,
         file_data: file_data.parse::<usize>().unwrap_or(directives),
     }
+}
+
+fn tell_deadline(deadline: Option<u64>, out: &mut String) -> Result<(), AllocError> {
+    match deadline {
+        Some(at) => write!(out, " at {at}\n"),
+        None => write!(out, " none\n"),
+    }
+}
+
+fn tell_forgotten(forgot: Result<(), ForgetError>, out: &mut String) -> Result<(), AllocError> {
+    match forgot {
+        Ok(()) => write!(out, " done\n"),
+        Err(e) => write!(out, " {e:?}\n"),
+    }
+}
+
+fn tell_first(told: Option<Indication>, out: &mut String) -> Result<(), AllocError> {
+    match told {
+        Some(told) => tell(&told, out),
+        None => write!(out, " none\n"),
+    }
+}
+
+fn tell_since(rest: Option<&[Indication]>, out: &mut String) -> Result<(), AllocError> {
+    match rest {
+        Some(rest) => tell_all(rest, out),
+        None => write!(out, " gone\n"),
+    }
+}
+
+fn tell_all(rest: &[Indication], out: &mut String) -> Result<(), AllocError> {
+    for told in rest {
+        tell(told, out)?;
+    }
+    Ok(())
 }
 
 fn tell_pdu(
@@ -523,20 +513,4 @@ fn tell_file(
     let name = String::from_utf8_lossy(alloc, name)?;
     let text = String::from_utf8_lossy(alloc, octets)?;
     write!(out, " {name}: {text}\n")
-}
-
-fn is_complete(told: &Indication) -> bool {
-    match told {
-        Indication::Finished {
-            condition,
-            delivery,
-            status,
-            ..
-        } => {
-            condition.code() == 0
-                && *delivery == Delivery::Complete
-                && *status == FileStatus::Retained
-        }
-        _ => false,
-    }
 }

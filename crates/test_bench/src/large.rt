@@ -33,13 +33,16 @@ pub fn play(
     out: &mut String,
 ) -> Result<(), AllocError> {
     let (count, value) = pair(setup);
-    let file = LongFile::of(number(count), octet(value));
+    let file = LongFile {
+        octets: number(count),
+        value: octet(value),
+    };
     let entity = sending(alloc, file)?;
     played(LargeBench { alloc, entity }, transcript, out)
 }
 
 /// The first entity, with the longest segments and this file.
-pub fn sending(alloc: Global, file: LongFile) -> Result<Entity<LongFile, MemoryInbox>, AllocError> {
+fn sending(alloc: Global, file: LongFile) -> Result<Entity<LongFile, MemoryInbox>, AllocError> {
     let Ok(config) = first_entity("segment 4096").config.validate() else {
         return Err(AllocError);
     };
@@ -48,15 +51,9 @@ pub fn sending(alloc: Global, file: LongFile) -> Result<Entity<LongFile, MemoryI
 
 /// An outbox whose one file, `a.txt`, has so many octets, all of one value.
 #[derive(Drop)]
-pub struct LongFile {
+struct LongFile {
     octets: u64,
     value: u8,
-}
-
-impl LongFile {
-    pub fn of(octets: u64, value: u8) -> Self {
-        LongFile { octets, value }
-    }
 }
 
 impl Outbox for LongFile {

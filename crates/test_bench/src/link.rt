@@ -13,7 +13,6 @@
 //!                    PDUs come at a new end, counted from 1
 //!     room LANE, waiting LANE, ahead LANE
 //!                    the octets that may go down and those that wait, and the most frames
-//!     drop resync, drop idle what such a drop is called: its number, its name, and in words
 ghost use Rattle.std.specs.Prelude.{◌≡◌, ◌≤◌, ℕ, ◌++◌, ◌⊎◌, List, Bool, [], ◌∷◌, true};
 ghost use Rattle.mpdu.specs.Stream.{survivors};
 ghost use Rattle.link_stack.specs.Frames.{pdus_in};
@@ -22,13 +21,25 @@ ghost use Rattle.link_stack.specs.Upward.{IsUp, IsNextFrame, lane_of, lane_up};
 ghost use Rattle.link_stack.specs.declared.drops.LinkDrop.TheVariants.{NoMemory};
 
 use crate::bench::{Bench, played, unknown};
-use crate::frames::{FRAME_LEN, LINK};
 use crate::words::{count, lane, lane_word, octets, pair, tell_octets};
-use aos_frame::{FrameError, LinkConfig};
-use link_stack::{Down, Lane, LinkDrop, Up};
+use aos_frame::{FrameFields, LinkConfig};
+use link_stack::{Down, Lane, Up};
 use octet_strings::OctetStrings;
 use std::alloc::{AllocError, Global};
 use valid_config::{Config, Valid};
+
+/// The link.
+const LINK: LinkConfig = LinkConfig {
+    spacecraft: 42,
+    virtual_channel: 5,
+    data_virtual_channel: 7,
+    zone: 32,
+    apid: 100,
+    fields: FrameFields::NONE,
+};
+
+/// The octets of a frame of the link.
+const FRAME_LEN: usize = 40;
 
 /// Plays a transcript, where the sending end has so much room.
 pub fn play(
@@ -109,7 +120,6 @@ impl Link {
             "room" => write!(out, " {}\n", self.down.room(lane(words))),
             "waiting" => write!(out, " {}\n", self.down.waiting_len(lane(words))),
             "ahead" => write!(out, " {}\n", self.down.frames_ahead(lane(words))),
-            "drop" => tell_drop(drop_of(words), out),
             _ => unknown(out),
         }
     }
@@ -218,18 +228,6 @@ fn tell_all(alloc: Global, pdus: &OctetStrings, out: &mut String) -> Result<(), 
         tell_octets(alloc, pdus.get(place), out)?;
     }
     Ok(())
-}
-
-fn drop_of(word: &str) -> LinkDrop {
-    if word == "resync" {
-        LinkDrop::Resync
-    } else {
-        LinkDrop::Frame(FrameError::OnlyIdle)
-    }
-}
-
-fn tell_drop(drop: LinkDrop, out: &mut String) -> Result<(), AllocError> {
-    write!(out, " {} {}: {drop}\n", drop.number(), drop.name())
 }
 
 fn tell_drops(up: &Up, out: &mut String) -> Result<(), AllocError> {

@@ -1,97 +1,48 @@
-//! Calls of the machines and of an entity that a transcript of an entity doesn't show.
+//! What of links and entities no other transcript shows.
 //!
-//!     sendable SIZE    whether a file of so many octets can be sent as `b.txt`
-//!     closed CODE      of a record that an EOF with this condition opened: the transaction, and
-//!                      the octets that are due
-//!     long SIZE        why a put of a file of so many octets is refused, or that it isn't
+//!     struck N         behind so many frames that a link lost in a row: whether one more may be
+//!                      lost, and one more; and whether one may once a frame arrived
+//!     causes           why a link drops frames, packets and zones, and an entity PDUs: each cause
+//!                      by its number, its name, and in words
 use crate::bench::{Bench, played, unknown};
-use crate::large::{LongFile, sending};
-use crate::words::{number, octet};
-use cfdp_directives::{Addressing, ChecksumKind, Condition, Octets};
-use cfdp_entity::Entity;
-use cfdp_header::TransactionId;
-use cfdp_receiver::Receiver;
-use cfdp_sender::Transfer;
-use cfdp_store::MemoryInbox;
-use cfdp_timers::Effects;
-use std::alloc::{AllocError, Global};
-
-/// The transaction 1:1, from entity 1 to entity 2.
-const PUT: Addressing = Addressing {
-    id: TransactionId {
-        source: 1,
-        number: 1,
-    },
-    destination: 2,
-    id_width: 2,
-    number_width: 4,
-    crc: false,
-};
+use crate::words::narrow;
+use cfdp_entity::EntityDrop;
+use link_sim::{LossRun, MOST_STRUCK};
+use link_stack::LinkDrop;
+use std::alloc::AllocError;
 
 /// Plays a transcript.
-pub fn play(alloc: Global, transcript: &str, out: &mut String) -> Result<(), AllocError> {
-    played(MachineBench { alloc }, transcript, out)
+pub fn play(transcript: &str, out: &mut String) -> Result<(), AllocError> {
+    played(MachineBench, transcript, out)
 }
 
 /// Keeps nothing.
 #[derive(Drop)]
-struct MachineBench {
-    alloc: Global,
-}
+struct MachineBench;
 
 impl Bench for MachineBench {
     fn does(&mut self, verb: &str, words: &str, out: &mut String) -> Result<(), AllocError> {
         match verb {
-            "sendable" => write!(out, " {}\n", is_sendable(self.alloc, number(words))?),
-            "closed" => tell_closed(self.alloc, octet(words), out),
-            "long" => write!(out, " {}\n", put_of(self.alloc, number(words))?),
+            "causes" => tell_causes(out),
+            "struck" => tell_struck(narrow(words), out),
             _ => unknown(out),
         }
     }
 }
 
-fn is_sendable(alloc: Global, size: u64) -> Result<bool, AllocError> {
-    let transfer = Transfer {
-        addressing: PUT,
-        checksum_kind: ChecksumKind::MODULAR,
-        segment: 1024,
-        source: Octets::copied(alloc, b"a.txt")?,
-        destination: Octets::copied(alloc, b"b.txt")?,
-        size,
-    };
-    Ok(transfer.is_sendable())
-}
-
-fn tell_closed(alloc: Global, code: u8, out: &mut String) -> Result<(), AllocError> {
-    match Condition::from_code(code) {
-        Some(condition) => {
-            let (id, due) = closed(alloc, condition)?;
-            write!(out, " {}:{} {due:?}\n", id.source, id.number)
-        }
-        None => write!(out, " there is no such condition\n"),
+fn tell_causes(out: &mut String) -> Result<(), AllocError> {
+    for by in &LinkDrop::ALL {
+        write!(out, " link {} {}: {by}\n", by.number(), by.name())?;
     }
-}
-
-fn closed(
-    alloc: Global,
-    condition: Condition,
-) -> Result<(TransactionId, Option<usize>), AllocError> {
-    let mut effects = Effects::new(alloc);
-    if !PUT.is_writable() {
-        return Err(AllocError);
+    for by in &EntityDrop::ALL {
+        write!(out, " pdu {} {}: {by}\n", by.number(), by.name())?;
     }
-    let closed = Receiver::open_closed(alloc, &mut effects, PUT, false, condition)?;
-    Ok((closed.id(), closed.due()))
+    Ok(())
 }
 
-fn put_of(alloc: Global, octets: u64) -> Result<&'static str, AllocError> {
-    let mut entity = sending(alloc, LongFile::of(octets, 0))?;
-    Ok(put(&mut entity))
-}
-
-fn put(entity: &mut Entity<LongFile, MemoryInbox>) -> &'static str {
-    match entity.put(b"a.txt", b"b.txt") {
-        Ok(_) => "accepted",
-        Err(e) => e.name(),
-    }
+fn tell_struck(count: u32, out: &mut String) -> Result<(), AllocError> {
+    let mut losses = LossRun::from(count.min(MOST_STRUCK));
+    let (one, two) = (losses.strike(), losses.strike());
+    losses.deliver();
+    write!(out, " {one} {two} {}\n", losses.strike())
 }

@@ -14,10 +14,8 @@ mod bench;
 mod bits;
 mod entity;
 mod frames;
-mod fuses;
 mod joined;
 mod large;
-mod letting_go;
 mod link;
 mod machines;
 mod own_link;
@@ -32,7 +30,6 @@ mod strangers;
 mod telling;
 mod timers;
 mod words;
-mod world;
 mod zones;
 
 use std::alloc::{AllocError, Global};
@@ -109,7 +106,6 @@ fn play_parts(
         "rules" => rules::play(alloc, transcript, out),
         "ranges" => ranges::play(alloc, transcript, out),
         "stores" => stores::play(alloc, transcript, out),
-        "fuses" => fuses::play(alloc, transcript, out),
         "timers" => timers::play(alloc, transcript, out),
         _ => play_ends(alloc, name, setup, transcript, out),
     }
@@ -123,14 +119,13 @@ fn play_ends(
     out: &mut String,
 ) -> Result<(), AllocError> {
     match name {
-        "machines" => machines::play(alloc, transcript, out),
+        "machines" => machines::play(transcript, out),
         "setups" => setup::play(transcript, out),
         "large" => large::play(alloc, setup, transcript, out),
         "sender" => entity::play(alloc, &setup::first_entity(setup), transcript, out),
         "receiver" => entity::play(alloc, &setup::second_entity(setup), transcript, out),
         "entities" => entity::play_both(alloc, setup, transcript, out),
-        "stations" => station::play(alloc, setup, transcript, out),
-        "world" => world::play(alloc, setup, transcript, out),
+        "station" => station::play(alloc, setup, transcript, out),
         _ => write!(out, " there is no such bench\n"),
     }
 }

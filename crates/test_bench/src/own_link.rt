@@ -1,4 +1,5 @@
-//! How a program drives a station over a link of its own. README.md shows it.
+//! How a program drives a station over a link of its own. README.md shows it. No bench calls it: it
+//! is here to be proved, with its types.
 use cfdp_station::{
     Config, EntityConfig, FrameFields, Inbox, LinkConfig, Outbox, Station, StationConfig,
     StationField,
@@ -15,7 +16,7 @@ pub trait Link {
 }
 
 /// Why there is no station.
-#[derive(Debug, Drop)]
+#[derive(Drop)]
 pub enum NoStation {
     /// A field of its configuration isn't as it has to be.
     Field(StationField),

@@ -1,8 +1,7 @@
 //! How entities and stations are set up: a number for each key, of which words name those that
 //! differ.
 //!
-//!     valid WORDS    whether the first station can be set up so
-//!     amiss WORDS    what stands against it
+//!     amiss WORDS    what stands against the first station being set up so
 //!     new ID ID      of an entity with these ids, its own and its peer's, and all else by default:
 //!                    the width of ids, and whether it can be set up so
 use crate::bench::{Bench, played, unknown};
@@ -23,7 +22,6 @@ struct SetupBench;
 impl Bench for SetupBench {
     fn does(&mut self, verb: &str, words: &str, out: &mut String) -> Result<(), AllocError> {
         match verb {
-            "valid" => write!(out, " {}\n", first_station(words).amiss().is_none()),
             "amiss" => tell_amiss(&first_station(words), out),
             "new" => tell_new(words, out),
             _ => unknown(out),

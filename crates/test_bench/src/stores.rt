@@ -1,9 +1,7 @@
 //! Stores in memory, and stores that fail from a chosen call on. `-` stands for no octets.
 //!
 //!     outbox CALL NAME OCTETS   for an outbox with this file, whose call of that number fails
-//!     added CALL NAME OCTETS    the same, where the file comes into an empty outbox
-//!     inbox CALL NAME OCTETS    for an inbox with this file, whose call of that number fails
-//!     empty CALL                for one with none
+//!     empty CALL                for an inbox without a file, whose call of that number fails
 //!     read NAME                 to ask for a file's length, and to read it whole
 //!     len NAME                  to ask for its length
 //!     put S:N NAME ONE TWO      to stage two pieces for a transaction, and to publish them
@@ -58,8 +56,6 @@ impl Bench for StoresBench {
     fn does(&mut self, verb: &str, words: &str, out: &mut String) -> Result<(), AllocError> {
         match verb {
             "outbox" => self.outbox = with_file(self.alloc, words)?,
-            "added" => self.outbox = with_added(self.alloc, words)?,
-            "inbox" => self.inbox = begun_with(self.alloc, words)?,
             "empty" => self.inbox = begun(self.alloc, words),
             "insert" => self.inserts(words)?,
             "map" => self.goes_by_map()?,
@@ -177,10 +173,11 @@ fn publish_both<I: Inbox>(
     inbox.publish(id, name, middle.saturating_add(second.len() as u64))
 }
 
-/// One file by its name.
-pub fn files_with(alloc: Global, name: &[u8], octets: &[u8]) -> Result<Files, AllocError> {
+/// The file that a name and octets are.
+fn files_in(alloc: Global, file: &str) -> Result<Files, AllocError> {
+    let (name, whole) = pair(file);
     let mut files = Files::new(alloc);
-    insert(alloc, &mut files, name, octets)?;
+    insert(alloc, &mut files, plain(name), plain(whole))?;
     Ok(files)
 }
 
@@ -191,33 +188,10 @@ fn insert(alloc: Global, files: &mut Files, name: &[u8], octets: &[u8]) -> Resul
     Ok(())
 }
 
-/// The file that a name and octets are.
-fn files_in(alloc: Global, file: &str) -> Result<Files, AllocError> {
-    let (name, whole) = pair(file);
-    files_with(alloc, plain(name), plain(whole))
-}
-
 fn with_file(alloc: Global, words: &str) -> Result<FuseOutbox<MemoryOutbox>, AllocError> {
     let (call, file) = pair(words);
     let outbox = MemoryOutbox::with_files(files_in(alloc, file)?);
     Ok(FuseOutbox::new(outbox, number(call)))
-}
-
-fn with_added(alloc: Global, words: &str) -> Result<FuseOutbox<MemoryOutbox>, AllocError> {
-    let (call, file) = pair(words);
-    let (name, whole) = pair(file);
-    let mut outbox = MemoryOutbox::new(alloc);
-    outbox.add(
-        Vec::from_slice(alloc, plain(name))?,
-        Vec::from_slice(alloc, plain(whole))?,
-    )?;
-    Ok(FuseOutbox::new(outbox, number(call)))
-}
-
-fn begun_with(alloc: Global, words: &str) -> Result<FuseInbox<MemoryInbox>, AllocError> {
-    let (call, file) = pair(words);
-    let inbox = MemoryInbox::with_files(alloc, files_in(alloc, file)?);
-    Ok(FuseInbox::new(inbox, number(call)))
 }
 
 fn begun(alloc: Global, words: &str) -> FuseInbox<MemoryInbox> {

@@ -28,9 +28,6 @@ pub enum Fate {
 pub trait Target {
     /// Takes these octets.
     fn tries(&mut self, octets: &[u8]) -> Fate;
-
-    /// Tells what was dropped, by number.
-    fn tells_drops(&self, out: &mut String) -> Result<(), AllocError>;
 }
 
 /// How many octets were tried, and what became of them.
@@ -107,31 +104,12 @@ pub fn asks<T: Target>(
     }
 }
 
-/// Tries each proper prefix of all of these, and tells what was dropped. The target is let go here,
-/// where nothing is known of it: at a station that is far cheaper to prove.
-pub fn prefixes_of_all<T: Target + Drop>(
-    mut target: T,
-    all: Vec<Vec<u8>>,
-    out: &mut String,
-) -> Result<(), AllocError> {
-    let mut tally = Tally::new();
-    for whole in &all {
-        try_prefixes(&mut target, whole, &mut tally);
-    }
-    tally.tell(out)?;
-    target.tells_drops(out)
-}
-
 fn prefixes<T: Target>(target: &mut T, whole: &[u8], out: &mut String) -> Result<(), AllocError> {
     let mut tally = Tally::new();
-    try_prefixes(target, whole, &mut tally);
-    tally.tell(out)
-}
-
-fn try_prefixes<T: Target>(target: &mut T, whole: &[u8], tally: &mut Tally) {
     for len in 0..whole.len() {
         tally.tries(target, &whole[..len]);
     }
+    tally.tell(out)
 }
 
 fn replaced<T: Target>(
