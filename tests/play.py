@@ -147,6 +147,9 @@ def same_mistakes(program):
             status, out, err = simulated(program, script)
             if (found["report"], found["status"]) != (out, status):
                 yield f"{place}: {found['status']} {found['report'][:300]} and not {out[:300]}"
+            # The page says why a line is bad, as `sim --explain` does in a line of its own.
+            if status == 2:
+                err = simulated(program, script, "--explain")[2].replace("\nhelp: ", ": ")
             if (found["error"] or "") != err.rstrip("\n"):
                 yield f"{place}: it tells {found['error']}, and not {err}"
             if row and not is_told(row.out, found["report"]):
