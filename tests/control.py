@@ -115,6 +115,13 @@ def is_answered(port):
         return False
 
 
+def apart(clients):
+    """These, each so much later than the one before that a clock of milliseconds tells them apart."""
+    for it in clients:
+        yield it
+        time.sleep(0.01)
+
+
 def let_in(port):
     """A client that a station has taken on, and its first answer: so it has left those before."""
     stop = time.monotonic() + stations.SECONDS
@@ -184,6 +191,20 @@ def ask_mistakes(program):
         yield f"where nobody answers: {(status, out, err)} after {took:.1f} s"
 
 
+def help_mistakes(program):
+    """What is wrong where the help of `ask` lists other commands than a station does."""
+    with Link(program) as link:
+        _, port = controlled(link, 2, ["--inbox", "to"])
+        answer = asked(program, port, "help")[1]
+    how = {"capture_output": True, "text": True, "timeout": stations.SECONDS, "check": True}
+    listed = subprocess.run([program.path, "ask", "--help"], **how).stdout
+    _, _, listed = listed.partition("Commands of a station:\n")
+    listed = [" ".join(it.split()) for it in listed.partition("\n\n")[0].splitlines()]
+    told = [it.replace(": ", " ", 1) for it in answer.splitlines() if it != "ok"]
+    if listed != told:
+        yield f"the help of ask lists {listed}, and a station {told}"
+
+
 def address_mistakes(program):
     """What is wrong where a control address could be reached from other machines, or is in use."""
     for address in ("0.0.0.0:0", "[::]:0", "192.0.2.1:5000", "nonsense"):
@@ -214,13 +235,13 @@ WRITTEN = (
     (b"counters\ncoun|ters\n", ["ok|", "ok|"]),
     (b"\n", ["error: "]),
     (b" counters\n", ["error: "]),
-    (b"\xff\xfe\x00\x80\ncounters\n", ["error: the line isn't UTF-8", "ok|"]),
+    (b"\xff\xfe\x00\x80\ncounters\n", ["error: the line is not valid UTF-8", "ok|"]),
     (b"\x00\ncounters\n", ["error: ", "ok|"]),
     (b"put \xc3\xa4 b c\ncounters\n", ["error: ", "ok|"]),
-    (b"x" * 4096 + b"\ncounters\n", ["error: there is no such command", "ok|"]),
+    (b"x" * 4096 + b"\ncounters\n", ["error: unknown command", "ok|"]),
     (b"x" * 4096 + b"\r\ncounters\n", ["error: the line has more than 4,096 octets", None]),
     (b"x" * 5000 + b"\ncounters\n", ["error: the line has more than 4,096 octets", None]),
-    (b"POST / HTTP/1.1\r\nHost: a\r\n\r\nfreeze\n", ["error: this is no web server", None]),
+    (b"POST / HTTP/1.1\r\nHost: a\r\n\r\nfreeze\n", ["error: this is not a web server", None]),
     (b"x" * 300_000, ["error: the line has more than 4,096 octets", None]),
 )
 
@@ -272,7 +293,7 @@ def input_mistakes(program):
         stations.waits_for(lambda: len(answers()) >= 5)
         time.sleep(1)
         found = answers()
-        wanted = ["ok", "error: ", "error: the line isn't", "error: the line has more", "ok"]
+        wanted = ["ok", "error: ", "error: the line is not", "error: the line has more", "ok"]
         if len(found) != 5 or not all(it.startswith(to) for it, to in zip(found, wanted)):
             yield f"its answers: {found}"
         if it.process.poll() is not None:
@@ -365,29 +386,116 @@ def terminal_mistakes(program):
 
 
 def crowd_mistakes(program):
-    """What is wrong where a ninth connection comes: it is told that it is one too many, until
-    another one ends."""
+    """What is wrong where a ninth connection comes: of eight that send nothing the one that was
+    answered first gives way, and is told so. Where all eight are at work, the ninth is told."""
     with Link(program) as link:
         _, port = controlled(link, 2, ["--inbox", "to"])
-        clients, told = zip(*(let_in(port) for _ in range(8)))
-        clients = list(clients)
+        clients, told = zip(*apart(let_in(port) for _ in range(8)))
         if not all(fits(it, "ok|") for it in told):
             yield f"eight connections are told {told}"
-        for _ in range(20):
-            with Client(port) as more:
-                answer = more.asks("counters")
-                if not fits(answer, "error: 8 connections"):
-                    yield f"the ninth is told {answer!r}"
-        clients.pop().socket.close()
-        more, answer = let_in(port)
-        more.socket.close()
-        if not fits(answer, "ok|"):
-            yield f"where one has ended the next is told {answer!r}"
-        told = [it.asks("counters") for it in clients]
-        if not all(fits(it, "ok|") for it in told):
-            yield f"the seven that are left are told {told}"
+        answers = list(apart(it.asks("counters") for it in clients[:2]))
+        for closed in (*clients[2:], *clients[:2]):
+            more, answer = let_in(port)
+            if not fits(answer, "ok|"):
+                yield f"the ninth is told {answer!r}"
+            left = closed.hears(), closed.is_left()
+            if not fits(left[0], "error: closed: ") or not left[1]:
+                yield f"the one that is idle the longest is told {left}"
+            answers.append(answer)
+            closed.socket.close()
+            clients = (*clients, more)
+        told = [it.asks("counters") for it in clients[8:]]
+        if not all(fits(it, "ok|") for it in (*answers, *told)):
+            yield f"those that are left are told {told}"
         for it in clients:
             it.socket.close()
+
+
+def busy_mistakes(program):
+    """What is wrong where eight connections send no whole line, or read nothing: others are
+    answered within seconds all the same."""
+    with Link(program) as link:
+        _, port = controlled(link, 2, ["--inbox", "to"])
+        clients = [let_in(port)[0] for _ in range(4)]
+        clients += [Client(port, is_deaf=True) for _ in range(4)]
+        for client in clients[4:]:
+            client.babbles(1)
+        stop = threading.Event()
+
+        def trickles():
+            while not stop.wait(0.1):
+                for client in clients[:4]:
+                    client.says(b"x")
+
+        thread = threading.Thread(target=suppressed, args=(trickles,))
+        thread.start()
+        for _ in range(4):
+            began = time.monotonic()
+            more, answer = let_in(port)
+            took = time.monotonic() - began
+            more.socket.close()
+            if not fits(answer, "ok|") or took > 3 + SLACK:
+                yield f"beside them it is answered {answer!r} after {took:.1f} s"
+        stop.set()
+        thread.join()
+        for it in clients:
+            it.socket.close()
+
+
+def suppressed(work):
+    """Works until its connection is closed at the other end."""
+    try:
+        work()
+    except OSError:
+        pass
+
+
+# What answers in place of a station, and what `ask` may show of it.
+FALSE = (
+    (b"\x1b]0;title\x07\x1b[31mred\n\xc2\x9b1m\t\x7f\r\nok\n\n",
+     "%1B]0;title%07%1B[31mred\n%C2%9B1m%09%7F%0D\nok\n"),
+    (b"100% of a%20b\nok\n\n", "100% of a%20b\nok\n"),
+)
+
+
+def false_mistakes(program):
+    """What is wrong with what `ask` shows of one who answers in place of a station: it does nothing
+    to a terminal, and one who never ends is left soon."""
+    for sent, wanted in FALSE:
+        found = asked_of(program, lambda it: it.sendall(sent))
+        if found[:2] != (0, wanted) or found[2]:
+            yield f"{sent!r} is shown as {found}"
+    for what in (b"x" * 65536, b"line\n" * 13_107):
+        began = time.monotonic()
+        status, out, err = asked_of(program, lambda it: babbles(it, what))
+        took = time.monotonic() - began
+        if status != 3 or out or not re.search(r"^error: .*octets", err) or took > 5 + SLACK:
+            yield f"one who never ends: {status}, {out[:40]!r}, {err!r}, after {took:.1f} s"
+
+
+def babbles(connection, octets):
+    """Sends these octets again and again, as long as they are taken."""
+    suppressed(lambda: [connection.sendall(octets) for _ in range(2000)])
+
+
+def asked_of(program, answers):
+    """What `ask` tells where a connection is answered so: its status, and both outputs."""
+    with socket.socket() as listener:
+        listener.bind(("127.0.0.1", 0))
+        listener.listen()
+
+        def serves():
+            connection, _ = listener.accept()
+            with connection:
+                connection.settimeout(stations.SECONDS)
+                connection.recv(4096)
+                answers(connection)
+
+        thread = threading.Thread(target=suppressed, args=(serves,))
+        thread.start()
+        found = asked(program, listener.getsockname()[1], "list")
+        thread.join()
+    return found
 
 
 def deaf_mistakes(program):
@@ -602,11 +710,14 @@ def stop_mistakes(program):
 def all_mistakes(program):
     """What is tried, with what is wrong in it."""
     yield "the answers to ask", ask_mistakes(program)
+    yield "the help of ask, beside that of a station", help_mistakes(program)
     yield "a control address that won't do", address_mistakes(program)
     yield "lines of commands", line_mistakes(program)
     yield "commands on standard input", input_mistakes(program)
     yield "commands from a terminal", terminal_mistakes(program)
     yield "nine connections", crowd_mistakes(program)
+    yield "eight connections that keep others out", busy_mistakes(program)
+    yield "one who answers in place of a station", false_mistakes(program)
     yield "clients that don't read", deaf_mistakes(program)
     yield "10,000 commands in a burst", burst_mistakes(program)
     yield "a station at rest with clients", rest_mistakes(program)
