@@ -606,14 +606,14 @@ static void counts_of_causes(void)
     IS(CFDP_DROPS, (&counts.pdus.no_file - &counts.frames.bad_length) + 1);
     for (one = 0; one < CFDP_DROPS; one++) {
         IS(cfdp_dropped(&counts, one), counts.frames.bad_length + one);
-        IS(strcmp(cfdp_drop_text(one), "no cause") != 0, 1);
+        IS(strcmp(cfdp_drop_text(one), "unknown cause") != 0, 1);
         for (two = 0; two < one; two++)
             IS(strcmp(cfdp_drop_text(one), cfdp_drop_text(two)) != 0, 1);
     }
     IS(cfdp_dropped(&counts, CFDP_DROPS), 0);
     IS(cfdp_dropped(&counts, (size_t)-1), 0);
-    IS(strcmp(cfdp_drop_text(CFDP_DROPS), "no cause"), 0);
-    IS(strcmp(cfdp_drop_text(0), "the frame has another length"), 0);
+    IS(strcmp(cfdp_drop_text(CFDP_DROPS), "unknown cause"), 0);
+    IS(strcmp(cfdp_drop_text(0), "wrong frame length"), 0);
     IS(strcmp(cfdp_drop_text(CFDP_DROPS - 1), "a file name is empty"), 0);
 }
 
@@ -738,7 +738,18 @@ static void filled(void)
     open_filled(&one, octets, 0);
     open_filled(&two, octets, 7);
     IS(counted(&two).sent.file_data, counted(&one).sent.file_data);
-    while (cfdp_next_frame(&one, frames[0], sizeof frames[0]) == CFDP_OK) {
+    /* Each lane has its own room: a directive still goes down. */
+    IS(cfdp_prompt(&one, &id, true), CFDP_OK);
+    IS(cfdp_poll(&one), CFDP_OK);
+    IS(cfdp_poll(&one), CFDP_FULL);
+    IS(cfdp_prompt(&two, &id, true), CFDP_OK);
+    IS(cfdp_poll(&two), CFDP_OK);
+    for (;;) {
+        /* Each octet of a frame is written, whatever was there. */
+        memset(frames[0], 0x00, sizeof frames[0]);
+        memset(frames[1], 0xFF, sizeof frames[1]);
+        if (cfdp_next_frame(&one, frames[0], sizeof frames[0]) != CFDP_OK)
+            break;
         IS(cfdp_next_frame(&two, frames[1], sizeof frames[1]), CFDP_OK);
         IS(memcmp(frames[0], frames[1], sizeof frames[0]), 0);
         count++;

@@ -1,5 +1,6 @@
 """What a datagram carries: stations that send each other Space Packets or PDUs, and a plain peer
 that speaks CFDP by itself."""
+import binascii
 import select
 import socket
 import struct
@@ -102,9 +103,13 @@ class Peer:
     def take(self, pdu):
         first, length, widths, source, number, destination = struct.unpack_from(">BHBHQH", pdu)
         body = pdu[16:]
+        if first & 2:
+            body, check, length = body[:-2], int.from_bytes(body[-2:], "big"), length - 2
+            if binascii.crc_hqx(pdu[:-2], 0xFFFF) != check:
+                self.faults.append(f"a PDU has the CRC {check:04X}")
         sender = self.station if not first & 8 else self.own
         ids = (widths, source, destination)
-        if first & 0xE7 != 0x20 or length != len(body) or ids != (0x17, sender, 3 - sender):
+        if first & 0xE5 != 0x20 or length != len(body) or ids != (0x17, sender, 3 - sender):
             self.faults.append(f"a PDU begins with {pdu[:16].hex()}, its body is {len(body)} long")
         elif first & 16:
             at = struct.unpack_from(">I", body)[0]
@@ -262,11 +267,11 @@ def plain_mistakes(program, carrier, own, form=None):
 # What no station takes for packets, by what it tells of them; the last one has a PDU of one octet.
 MISFITS = {
     "a datagram ends before its packet": ["", "0065C0000", "0065C0000001", "0065C000FFFF41"],
-    "a datagram goes on behind its packet": ["0065C00000004141"],
-    "the packet version number is not 0": ["2065C000000041", "E065C000000041"],
-    "a packet is of another APID": ["0064C000000041", "07FFC000000041"],
+    "a datagram continues after its packet": ["0065C00000004141"],
+    "packet version number must be 0": ["2065C000000041", "E065C000000041"],
+    "a packet has another APID": ["0064C000000041", "07FFC000000041"],
     "a packet is a segment": ["00650000000041", "00654000000041", "00658000000041"],
-    "a packet has a secondary header where none is set, or none where one is": ["0865C000000041"],
+    "a packet has a secondary header and none is set, or the other way round": ["0865C000000041"],
 }
 
 # What packets are between a station and flight software with the headers of cFS; at the greatest

@@ -5,10 +5,12 @@ import json
 import os
 import re
 import select
+import struct
 import subprocess
 import threading
 import time
 
+import carriers
 import control
 import journal
 import links
@@ -51,6 +53,46 @@ def retries_mistakes(program):
             yield f"it was sent {len(times)} times, and not 3"
         if any(after - before < AGAIN for before, after in zip(times, times[1:])):
             yield stations.Timed(f"it was sent again too soon: {times}")
+
+
+class Refusing(carriers.Peer):
+    """A peer that ends the first files that come with these conditions, and takes the others."""
+
+    def __init__(self, conditions, own, ports):
+        super().__init__("pdus", own, ports)
+        self.conditions, self.refused = list(conditions), set()
+
+    def publish(self, number):
+        if number in self.refused or number not in self.ends:
+            return
+        if not self.conditions:
+            super().publish(number)
+            return
+        self.refused.add(number)
+        # Incomplete, and discarded; the fault's location is this entity (CCSDS 727.0-B-5, 5.2.3).
+        ends = bytes([carriers.FINISHED, self.conditions.pop(0) << 4 | 4])
+        self.answer(number, ends + struct.pack(">BBH", 6, 2, self.own))
+
+    def hear_as_receiver(self, number, body):
+        if number in self.refused and body[0] == carriers.ACK:
+            self.closed.add(number)
+        else:
+            super().hear_as_receiver(number, body)
+
+
+def damaged_mistakes(program):
+    """What is wrong where the peer ends a file by its size, and then by its checksum type, which
+    damage may change: it is sent again each time, and leaves the spool as sent."""
+    with spool_of(program) as (link, spool):
+        spool.drops({"a": b"hello"})
+        peer = Refusing((6, 11), 2, link.ports)
+        sender = link.starts(1, [*SPOOL, "--carrier", "pdus"], PATIENT)
+        if not peer.serve(stations.SECONDS, lambda: spool.in_folder(".sent") == {"a": b"hello"}):
+            yield f"it isn't in .sent: {sender.text('stdout')!r}, {sender.text('stderr')!r}"
+        peer.close()
+    if len(peer.closed & peer.refused) != 2 or list(peer.files.values()) != [b"hello"]:
+        yield f"{len(peer.refused)} were refused, and {len(peer.files)} came"
+    yield from peer.faults
 
 
 def once_mistakes(program):
@@ -354,8 +396,8 @@ def causes_mistakes(program):
         told = re.sub(r"\d{6,}", "N", receiver.text("stderr"))
         receiver.killed()
     wanted = [
-        "error: to/no/name: a file can't have that name here (transaction 1:N)",
-        "error: to/there: it is a folder (transaction 1:N)",
+        "error: to/no/name: a file cannot have that name here (transaction 1:N)",
+        "error: to/there: is a folder (transaction 1:N)",
     ]
     if sorted(stations.unheard(told).splitlines()) != wanted:
         yield f"the receiver told {told!r}"
@@ -370,7 +412,7 @@ def no_inbox_mistakes(program):
         words = [*link.puts(1, {"a": b"hello", "b": b"hello"}), "--idle", "1"]
         status, out, err = link.starts(1, words, PATIENT).ended()
         told = stations.unheard(receiver.text("stderr"))
-    wanted = r"error: a file came, and there is no --inbox \(transaction 1:\d+\)\n"
+    wanted = r"error: a file arrived, but there is no --inbox \(transaction 1:\d+\)\n"
     if not re.fullmatch(wanted, told):
         yield f"the receiver told {told!r}"
     if status != 1 or not out.endswith("complete 0 of 2\n"):
@@ -487,7 +529,7 @@ def meanings_mistakes(program):
         time.sleep(0.3)
         found = [json.loads(line) for line in receiver.text("stdout").splitlines()]
     told = {(it.get("condition"), it.get("meaning")) for it in found if it["event"] == "fault"}
-    if told != {(8, "nothing was heard of the transaction for too long")}:
+    if told != {(8, "inactivity: no PDU of the transaction arrived in time")}:
         yield f"it told {told}"
 
 
@@ -496,23 +538,52 @@ def packet_of_piece(number):
     return next(iter(links.zones_of([links.piece(number)])))
 
 
-def unwritable_mistakes(program):
-    """What is wrong where a log can't be written: its station ends soon, and says so."""
-    with Link(program) as link, open("/dev/full", "wb") as full:
-        words = [program.path, "station", "--id", "1", "--peer", "2", "--no-time"]
-        words += ["--listen", "127.0.0.1:0", "--to", "127.0.0.1:9"]
-        words += link.puts(1, {"a": b"hello"})
-        how = {"cwd": f"{link.folder}/1", "stdout": full, "stderr": subprocess.PIPE}
-        with stations.ALONE:
-            it = subprocess.Popen(words, **how)
-        try:
-            told = it.communicate(timeout=stations.SECONDS)[1].decode()
-        except subprocess.TimeoutExpired:
-            it.kill()
-            told = "nothing, and didn't end"
-            it.communicate()
-    if it.returncode != 3 or not told.endswith("error: standard output can't be written\n"):
-        yield f"it ended with status {it.returncode}, and told {told!r}"
+def stopped_mistakes(program, is_json=False):
+    """What is wrong with the list of a station that can reserve no number for a file that waits in
+    its spool, since the folder of its state file is gone: it tells that, and why. Once the folder
+    is back, the file is sent."""
+    cause = "no further file is sent: cannot write the state file: no such file or folder"
+    wanted = f"open 0 waiting 1 timeout -\n{cause}\nok\n"
+    if is_json:
+        told = f'"stopped":"{cause}"'
+        wanted = f'{{"open":0,"waiting":1,"timeout":null,{told},"transactions":[]}}\nok\n'
+    with Link(program) as link:
+        link.starts(2, ["--inbox", "to"], PATIENT)
+        for it in ("kept", "out"):
+            os.makedirs(f"{link.folder}/1/{it}")
+        words = ["--spool", "out", "--state", "kept/state", *(["--json"] if is_json else [])]
+        station, port = controlled(link, 1, words, PATIENT)
+        listed = lambda: asked(program, port, "list")[1]
+        if cause in (before := listed()):
+            yield f"before anything is wrong it is listed {before!r}"
+        os.rename(f"{link.folder}/1/kept", f"{link.folder}/1/away")
+        stations.put(link.folder, 1, "../out/a", b"hello")
+        if not waits_for(lambda: listed() == wanted):
+            yield f"of what waits it is listed {listed()!r}"
+        os.rename(f"{link.folder}/1/away", f"{link.folder}/1/kept")
+        if station.comes_to("complete") is None:
+            yield f"the file didn't come: {station.text('stdout')!r}"
+        if not waits_for(lambda: cause not in listed()):
+            yield f"once the file has left it is listed {listed()!r}"
+
+
+def timers_mistakes(program):
+    """What is wrong with the note of a station whose peer may be silent for less long than its
+    requests wait; and where it may be for as long, or that is ignored: then it tells none."""
+    note = "inactivity_time is 100 ms, but requests are repeated after up to 7000 ms"
+    for settings, is_told in (
+        ({"eof_time": 7000}, True),
+        ({"nak_time": 7000}, True),
+        ({"finished_time": 7000}, True),
+        ({"eof_time": 7000, "inactivity_time": 7000}, False),
+        ({"eof_time": 7000, "on_inactivity": 2}, False),
+        ({"eof_time": 100}, False),
+    ):
+        with Link(program) as link:
+            it = link.starts(2, ["--inbox", "to", "--unit", "ms", "--idle", "1"], settings)
+            status, _, err = it.ended()
+        if status or err.count(f"note: {note}: ") != is_told or err.count("\n") != is_told:
+            yield f"{settings}: status {status}, {err!r}"
 
 
 def ended_input_mistakes(program):
@@ -610,6 +681,7 @@ def all_mistakes(program):
     yield "a client that reads nothing for half a minute", stuck_mistakes(program)
     retries = stations.in_one_of(TRIALS, lambda: retries_mistakes(program))
     yield "how often a file is sent again", retries
+    yield "a file whose size or checksum type was damaged", damaged_mistakes(program)
     yield "a link that is down by plan for long", frozen_mistakes(program)
     yield "a file whose sending is cancelled", once_mistakes(program)
     yield "how many puts are open at once", at_once_mistakes(program)
@@ -636,7 +708,10 @@ def all_mistakes(program):
     yield "the counters of two stations", counters_mistakes(program)
     yield "the counters where a frame comes late", late_mistakes(program)
     yield "what a condition means", meanings_mistakes(program)
-    yield "a log that can't be written", unwritable_mistakes(program)
+    yield "a list where no number can be reserved", stopped_mistakes(program)
+    objects = stopped_mistakes(program, is_json=True)
+    yield "a list of objects where no number can be reserved", objects
+    yield "a note of timers at the start", timers_mistakes(program)
     yield "a standard input that has ended", ended_input_mistakes(program)
     yield "a list of transactions", list_mistakes(program)
     yield "answers for two clients", answers_mistakes(program)

@@ -61,6 +61,14 @@ print(count)
 """
 
 
+def keep_token(folder, text, mode=0o600):
+    """Writes a token into a file `token` in a folder, with this mode."""
+    os.makedirs(folder, exist_ok=True)
+    with open(f"{folder}/token", "w", encoding="ascii") as it:
+        it.write(text)
+    os.chmod(f"{folder}/token", mode)
+
+
 class Console:
     """A station with a console, its port, and the token that a client shows where there is one."""
 
@@ -68,9 +76,7 @@ class Console:
         self.port, self.token = control.free_port(), token
         words = [*words, "--console", f"127.0.0.1:{self.port}"]
         if token:
-            os.makedirs(f"{link.folder}/{end}", exist_ok=True)
-            with open(f"{link.folder}/{end}/token", "w", encoding="ascii") as it:
-                it.write(token + "\n")
+            keep_token(f"{link.folder}/{end}", token + "\n")
             words += ["--console-token", "token"]
         self.station = link.starts(end, words, settings, **ways)
         ended = lambda: self.station.process.poll() is not None
@@ -372,13 +378,45 @@ def token_mistakes(program):
     )
     for words, token in refused:
         with Link(program) as link:
-            os.makedirs(f"{link.folder}/2", exist_ok=True)
-            with open(f"{link.folder}/2/token", "w", encoding="ascii") as it:
-                it.write(token)
+            keep_token(f"{link.folder}/2", token)
             it = link.starts(2, ["--inbox", "to", *words], waits=False)
             status, out, err = it.ended()
         if status not in (2, 3) or out or not err.startswith("error: --console"):
             yield f"{words}: status {status}, {out!r}, {err!r}"
+
+
+def token_file_mistakes(program):
+    """What is wrong where the file of the token can be read or written by other users, is none, or
+    is too long; white space around the token doesn't count."""
+    several = "a token must be 16 to 256 visible ASCII characters"
+    rows = [
+        (
+            lambda at, mode=mode: keep_token(at, TOKEN, mode),
+            2,
+            rf"other users have access to it \(mode {mode:04o}\): run chmod 600 token",
+        )
+        for mode in (0o644, 0o640, 0o602)
+    ]
+    rows += [
+        (lambda at: os.mkfifo(f"{at}/token"), 3, "not a plain file"),
+        (lambda at: os.symlink("/dev/zero", f"{at}/token"), 3, "not a plain file"),
+        (lambda at: os.mkdir(f"{at}/token"), 3, "is a folder"),
+        (lambda at: keep_token(at, TOKEN + " " * 100_000), 2, several),
+        (lambda at: keep_token(at, " " * 4096 + TOKEN), 2, several),
+    ]
+    for makes, wanted, told in rows:
+        with Link(program) as link:
+            os.makedirs(f"{link.folder}/2")
+            makes(f"{link.folder}/2")
+            words = ["--inbox", "to", "--console", "127.0.0.1:0", "--console-token", "token"]
+            status, out, err = link.starts(2, words, waits=False).ended()
+        if status != wanted or out or not re.fullmatch(rf"error: --console-token token: {told}\n", err):
+            yield f"{told!r} is to end with {wanted}: status {status}, {out!r}, {err!r}"
+    with Link(program) as link:
+        it = Console(link, 2, ["--inbox", "to"], token=f"\n \t{TOKEN}{' ' * 4000}")
+        it.token = TOKEN
+        if it.asks("GET", "/status", it.shown())[0] != 200:
+            yield f"white space counts: {it.station.text('stderr')!r}"
 
 
 def address_mistakes(program):
@@ -466,10 +504,10 @@ def kept_mistakes(program):
 
 
 def slow_mistakes(program):
-    """What is wrong with slow clients, and with the seventeenth connection."""
+    """What is wrong with slow clients: they are left after a while; and where there are 16, the one
+    that came first gives way to a seventeenth, which is answered at once."""
     with Link(program) as link:
         it = Console(link, 2, ["--inbox", "to"])
-        began = time.monotonic()
         with contextlib.ExitStack() as stack:
             slow = []
             for _ in range(MOST_OPEN):
@@ -477,22 +515,32 @@ def slow_mistakes(program):
                 one = socket.create_connection(("127.0.0.1", it.port), timeout=most)
                 slow.append(stack.enter_context(one))
                 one.sendall(b"GET /status HTTP/1.1\r\n")
-            time.sleep(0.5)
-            beside = {}
-            asking = threading.Thread(target=lambda: beside.update(it.gets("/status")))
-            asking.start()
-            asking.join(2)
-            if not asking.is_alive():
-                yield "a seventeenth connection was answered at once"
+            began = time.monotonic()
+            status = it.asks("GET", "/status", {})[0]
+            took = time.monotonic() - began
+            if took > 2 + SLACK:
+                yield f"the seventeenth was answered {status} after {took:.1f} s"
+            ended = []
             for one in slow:
                 if all_of(one) != b"":
                     yield "a slow one was answered"
-            took = time.monotonic() - began
-            asking.join(stations.SECONDS)
-        if not PATIENCE - 1 < took < PATIENCE + 3 + SLACK:
-            yield f"slow ones were left after {took:.1f} s"
-        if beside.get("station") != 2:
-            yield f"the seventeenth was answered {beside}"
+                ended.append(time.monotonic() - began)
+        if not ended[0] < 2 + SLACK or not PATIENCE - 2 < ended[-1] < PATIENCE + 3 + SLACK:
+            yield f"slow ones were left after {ended[0]:.1f} to {ended[-1]:.1f} s"
+
+
+def crowd_mistakes(program):
+    """What is wrong where 64 slow clients come one after another: another one is answered soon."""
+    with Link(program) as link, contextlib.ExitStack() as stack:
+        it = Console(link, 2, ["--inbox", "to"])
+        for _ in range(64):
+            one = socket.create_connection(("127.0.0.1", it.port), timeout=stations.SECONDS)
+            stack.enter_context(one).sendall(b"GET /status HTTP/1.1\r\n")
+        began = time.monotonic()
+        found = it.gets("/status")
+        took = time.monotonic() - began
+    if found.get("station") != 2 or took > 5 + SLACK:
+        yield f"behind 64 slow ones it is answered {found} after {took:.1f} s"
 
 
 # ---- the link
@@ -566,10 +614,12 @@ def all_mistakes(program):
     yield "the console: what is shown", shown_mistakes(program)
     yield "the console: what is done", deed_mistakes(program)
     yield "the console: who may ask", guard_mistakes(program)
+    yield "the console: the file of its token", token_file_mistakes(program)
     yield "the console: what is no request", request_mistakes(program)
     yield "the console: connections that are kept", kept_mistakes(program)
     yield "the console: the control field of frames", control_mistakes(program)
     yield "the console: slow clients and a seventeenth", slow_mistakes(program)
+    yield "the console: 64 slow clients", crowd_mistakes(program)
     yield from console_page.all_mistakes(program, Console)
 
 

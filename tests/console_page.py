@@ -97,7 +97,7 @@ def put_mistakes(program, make):
             page.clicks("document.getElementById('source')")
             page.types(name)
             page.clicks("document.querySelector('#put button')")
-            if not page.awaits(text_has("said", f"{name} is to be sent"), SOON):
+            if not page.awaits(text_has("said", f"{name} is queued"), SOON):
                 yield f"a put of {name}: the page says {page.finds(TEXT_OF.format('said'))}"
         if not page.awaits("document.querySelectorAll('#closed tr').length === 1", SOON):
             yield "the short file isn't shown as closed"
@@ -145,7 +145,7 @@ def freeze_mistakes(it, page):
     """What is wrong where the link is taken down by plan by a key, and up again by the button."""
     page.finds("document.activeElement.blur()")
     page.presses("f", "KeyF", "f")
-    if not page.awaits(text_is("state", "frozen by plan"), SOON):
+    if not page.awaits(text_is("state", "frozen"), SOON):
         yield "the key f didn't freeze the link"
     page.clicks("document.getElementById('freeze')")
     if not page.awaits(text_is("state", "link up"), SOON):
@@ -222,7 +222,7 @@ def anew_mistakes(program, make):
         it.does("/puts", {"source": "short.bin"})
         page.awaits("document.querySelectorAll('#closed tr').length === 1", SOON)
         it.station.killed()
-        if not page.awaits(text_is("state", "the station doesn't answer"), SOON):
+        if not page.awaits(text_is("state", "no answer"), SOON):
             yield f"where the station is gone: {page.finds(TEXT_OF.format('state'))}"
         words = ["--outbox", "from", "--inbox", "to", "--console", f"127.0.0.1:{it.port}"]
         link.starts(1, words, PATIENT)

@@ -60,6 +60,39 @@ class Damaging(links.Relay):
         super().give(own, came)
 
 
+class Renaming(links.Relay):
+    """A relay that turns a bit of the destination's name in the first frame that has the name
+    twice, as Metadata have it. `turned` says whether that frame came."""
+
+    def __init__(self, name):
+        self.names, self.turned = 2 * (bytes([len(name)]) + name), False
+        super().__init__()
+
+    def give(self, own, frame):
+        end = frame.find(self.names) + len(self.names)
+        if not self.turned and end >= len(self.names):
+            frame = frame[: end - 1] + bytes([frame[end - 1] ^ 1]) + frame[end:]
+            self.turned = True
+        super().give(own, frame)
+
+
+def renamed_mistakes(program):
+    """What is wrong where a bit of a file's name is turned and frames have no error control: the
+    file has to come under its own name alone."""
+    files = {"config": b"hello" * 1000}
+    with links.Link(program, Renaming(b"config")) as link:
+        receiver = link.starts(2, ["--inbox", "to"], PATIENT)
+        sender = link.starts(1, [*link.puts(1, files), "--idle", "5"], PATIENT)
+        status, out, err = sender.ended()
+        if status or not out.endswith("complete 1 of 1\n"):
+            yield f"the sender: status {status}, {out!r}, {err!r}"
+        if stations.files_at(link.folder, 2) != files:
+            yield f"what came is {sorted(stations.files_at(link.folder, 2))}"
+        if not link.relay.turned:
+            yield "no frame with the names came"
+        receiver.killed()
+
+
 def damage_mistakes(program, rate, zone, count):
     """What is wrong where so many files go each way over a link that turns bits."""
     chance = stations.chance_of(64)
@@ -88,9 +121,9 @@ def damage_mistakes(program, rate, zone, count):
 def misfit_mistakes(program):
     """What is wrong where only one end has error control: nothing that comes is taken, and both
     ends say so."""
-    length = "a frame has 264 octets, and here 266, as the zone is 256 and fields take 2"
-    differs = ("the error control {} the peer is 0 at the peer, and 1 here",
-               "the error control {} the peer is 1 at the peer, and 0 here")
+    length = "a frame has 264 octets, but must have 266: the zone is 256 and other fields have 2"
+    differs = ("error control {} the peer differs: 0 at the peer, 1 here",
+               "error control {} the peer differs: 1 at the peer, 0 here")
     yield from untaken_mistakes(program, (0, 0, 0), (0, 0, 1), length, differs)
     # Frames of one length: the last two octets of the zone aren't its check.
     yield from untaken_mistakes(program, (2, 0, 0), (0, 0, 1), "the frame was damaged", ())
@@ -117,3 +150,4 @@ def all_mistakes(program):
     yield "bits turned at 1e-5, zones of 2040", damage_mistakes(program, RATE, 2040, 10)
     yield "bits turned at 1e-4, zones of 256", damage_mistakes(program, 1e-4, 256, 5)
     yield "error control at one end", misfit_mistakes(program)
+    yield "a bit turned in a file's name", renamed_mistakes(program)

@@ -1,4 +1,5 @@
-"""What the documents show and name: README.md beside the program, pages, headings, files."""
+"""What the documents show and name: README.md beside the program, pages, headings, files; and which
+crates stand on which."""
 import glob
 import importlib.machinery
 import importlib.util
@@ -23,6 +24,18 @@ SOURCES = (
     "bindings/rust/src/*.rs",
     "tests/*.py",
 )
+# What runs a real station, and what it may not stand on.
+RUNNING = (
+    "cfdp_c",
+    "cfdp_command_line",
+    "cfdp_control",
+    "cfdp_datagrams",
+    "cfdp_journal",
+    "cfdp_service",
+    "cfdp_spool",
+    "cfdp_watch",
+)
+SIMULATOR = "link_sim"
 NAME = re.compile(r"[A-Za-z_][\w']*")
 
 
@@ -63,12 +76,20 @@ def headings_of(text):
     return ["".join(it).replace("`", "") for it in found]
 
 
+def linked(link):
+    """What a link names, as it is named where there is no link."""
+    is_above = os.path.isfile(f"{TOP}/{link[1]}")
+    return link[1] if is_above else f"docs/{link[1]}"
+
+
 def named_mistakes():
     """Pages, headings and files that a document names and that aren't there."""
     for path, text in pages():
         if path == "CHANGELOG.md":
             continue
         joined = " ".join(text.split())
+        # A page of docs/ links another one by its name alone.
+        joined = re.sub(r"\[\w+\]\((?:docs/)?([A-Z_]+\.md)\)", linked, joined)
         for page, heading in re.findall(r'docs/(\w+)\.md(?:,| \()? ?(?:"([^"]+)")?', joined):
             if not os.path.isfile(f"{TOP}/docs/{page}.md"):
                 yield f"{path} names docs/{page}.md, which isn't there"
@@ -128,6 +149,35 @@ def option_mistakes(program):
         yield f"docs/FORMATS.md has {option}, which no help has"
 
 
+def below(crate, crates):
+    """All crates of this repository that a crate stands on."""
+    direct = {it for it in crates[crate] if it in crates}
+    return direct.union(*(below(it, crates) for it in direct))
+
+
+def direction_mistakes():
+    """Crates of running stations that stand on the simulator, and so wait for its proofs."""
+    lines = re.findall(r"(?m)^(\w+)(?: \w+)?:(.*)$", text_of("crates.txt"))
+    crates = {name: uses.split() for name, uses in lines}
+    for crate in RUNNING:
+        if crate not in crates:
+            yield f"crates.txt has no {crate}"
+        elif SIMULATOR in below(crate, crates):
+            yield f"{crate} stands on {SIMULATOR}: a running station may not"
+
+
+def length_mistakes(program):
+    """Helps that don't fit on two screens of 50 lines and 80 columns. A usage may be wider."""
+    how = {"capture_output": True, "text": True, "timeout": SECONDS, "check": True}
+    for words in ([], ["sim"], ["dump"], ["loop"], ["station"], ["ask"], ["play"]):
+        lines = subprocess.run([program.path, *words, "--help"], **how).stdout.splitlines()
+        if len(lines) > 100:
+            yield f"{' '.join(words)} --help has {len(lines)} lines"
+        for line in lines:
+            if len(line) > 80 and not line.startswith("Usage: "):
+                yield f"{' '.join(words)} --help has a line of {len(line)} columns: {line}"
+
+
 def contract_mistakes():
     """What is wrong with the contract that `tools/contract` prints."""
     how = {"capture_output": True, "text": True, "timeout": SECONDS}
@@ -143,4 +193,6 @@ def all_mistakes(program):
     yield "the documents: what they name", named_mistakes()
     yield "the documents: names of the code", code_mistakes()
     yield "the documents: options of the program", option_mistakes(program)
+    yield "the help of the program: its length", length_mistakes(program)
     yield "the documents: a contract with its definitions", contract_mistakes()
+    yield "the crates: a running station without the simulator", direction_mistakes()

@@ -125,7 +125,7 @@ def junk_mistakes(program):
         packet = struct.pack(">HHH", 77, 0xC000, 0) + b"A"
         with links.Flood(packet, 10, [(link.relay.sockets[2], link.relay.listens[2])]):
             status, out, err = station.ended()
-    if status or out != "complete 0 of 0\n" or "of another APID" not in err:
+    if status or out != "complete 0 of 0\n" or "another APID" not in err:
         yield f"status {status}, {out!r}, {err!r}"
 
 

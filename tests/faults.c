@@ -18,6 +18,7 @@
  *   no-folder-sync  no folder can be
  *   no-rename       no file can be renamed
  *   no-unlink       no file can be removed
+ *   no-link         no file can be given a second name
  *   denied=WORD     no file can be opened whose path ends so
  *   locked          all that can be locked is, by another process
  *   no-lock         the system locks nothing
@@ -309,6 +310,12 @@ int rename(const char *from, const char *to)
 {
     int (*next)(const char *, const char *) = NEXT("rename");
     return failing("no-rename", EACCES) ? -1 : noted(next(from, to), "rename", from, to);
+}
+
+int link(const char *from, const char *to)
+{
+    int (*next)(const char *, const char *) = NEXT("link");
+    return failing("no-link", EPERM) ? -1 : next(from, to);
 }
 
 int unlink(const char *path)

@@ -22,7 +22,7 @@ SIZES = (0, 1, BLOCK - 1, BLOCK, BLOCK + 1, 1 << 20, (1 << 20) + 1, 20_000_000)
 CHANGED, RATE = 4_000_000, 200
 
 # What is told of a file that changed.
-TOLD = "error: from/a: it changed while it was sent\n"
+TOLD = "error: from/a: the file changed while it was sent\n"
 
 # How many files are sent by a station that can't have so many open, but a few beside 16.
 FILES, MOST_OPEN = 200, 40
@@ -232,7 +232,7 @@ def again_mistakes(program):
         came = stations.files_at(link.folder, 2)
         # It notes that one file isn't there yet, and on a slow machine that no answer comes, since
         # these are kept from it.
-        late = "from/late: there is no such file"
+        late = "from/late: no such file"
         notes = rf"note: ({late}|1:\d+ waits for the peer's Finished, .*)\n"
         if re.sub(notes, "", stations.unheard(sender.text("stderr"))):
             yield f"the sender told {sender.text('stderr')!r}"

@@ -27,10 +27,13 @@ bin/cfdp_node include/cfdp.h lib/libcfdp_c.a lib/libcfdp_heap.a lib/pkgconfig/cf
 lib/systemd/system/cfdp-station-watch.service lib/systemd/system/cfdp-station-watch.timer
 lib/systemd/system/cfdp-station.service share/cfdp/errno.c share/cfdp/folders.c
 share/cfdp/heap.c share/cfdp/pool.c share/cfdp/pool.h share/cfdp/transfer.c
-share/doc/cfdp/EMBEDDING.md share/doc/cfdp/FORMATS.md share/doc/cfdp/LICENSE
-share/doc/cfdp/OPERATING.md share/doc/cfdp/README.md share/doc/cfdp/THIRD-PARTY
+share/doc/cfdp/CONSOLE.md share/doc/cfdp/EMBEDDING.md share/doc/cfdp/FORMATS.md
+share/doc/cfdp/LICENSE share/doc/cfdp/OPERATING.md share/doc/cfdp/PLAY.md
+share/doc/cfdp/README.md share/doc/cfdp/THIRD-PARTY
 share/doc/cfdp/station.toml
-share/man/man1/cfdp_node.1.gz share/man/man3/cfdp.3.gz
+share/man/man1/cfdp_node.1.gz share/man/man1/cfdp_node-ask.1.gz share/man/man1/cfdp_node-dump.1.gz
+share/man/man1/cfdp_node-loop.1.gz share/man/man1/cfdp_node-play.1.gz
+share/man/man1/cfdp_node-sim.1.gz share/man/man1/cfdp_node-station.1.gz share/man/man3/cfdp.3.gz
 """.split()
 OF_DEB = ["lib/sysusers.d/cfdp.conf", "share/doc/cfdp/copyright"]
 
@@ -100,8 +103,8 @@ class Tree:
 
     def page_mistakes(self):
         """What man says of the pages."""
-        for it in ("man1/cfdp_node.1.gz", "man3/cfdp.3.gz"):
-            words = ["man", "--warnings", "-l", self.path(f"share/man/{it}")]
+        for it in (it for it in self.wanted if it.startswith("share/man/")):
+            words = ["man", "--warnings", "-l", self.path(it)]
             how = {**os.environ, "LC_ALL": "C.UTF-8", "MANROFFSEQ": "", "MANWIDTH": "100"}
             ran = subprocess.run(words, capture_output=True, text=True, env=how, timeout=SECONDS)
             if ran.returncode or ran.stderr or "CFDP" not in ran.stdout.upper():

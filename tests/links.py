@@ -131,12 +131,12 @@ def time_of(messages):
 
 
 class Watched(stations.Station):
-    """A station of which it is noted when each line of both outputs came."""
+    """A station of which it is noted when each line of both outputs came, or of one of them."""
 
-    def __init__(self, *those, **ways):
+    def __init__(self, *those, reads=("stdout", "stderr"), **ways):
         super().__init__(*those, **ways)
         self.lines, self.news = [], threading.Condition()
-        reads = [threading.Thread(target=self.read, args=(it,)) for it in ("stdout", "stderr")]
+        reads = [threading.Thread(target=self.read, args=(it,)) for it in reads]
         self.readers = reads
         for it in reads:
             it.daemon = True
@@ -286,6 +286,45 @@ class Flood:
         self.process.wait()
 
 
+def checksum_of(octets):
+    """The checksum of the Internet's protocols, of an even number of octets."""
+    total = sum(struct.unpack(f">{len(octets) // 2}H", octets))
+    while total >> 16:
+        total = (total & 0xFFFF) + (total >> 16)
+    return ~total & 0xFFFF
+
+
+def report_of(port, peer):
+    """What the network says if nobody listens at the peer's port: an ICMP message (port
+    unreachable), with the headers of a datagram that was sent from this port."""
+    here = socket.inet_aton("127.0.0.1")
+    ip = struct.pack(">BBHHHBBH4s4s", 0x45, 0, 44, 1, 0, 64, socket.IPPROTO_UDP, 0, here, here)
+    rest = bytes(4) + ip + struct.pack(">HHHH", port, peer, 24, 0)
+    return struct.pack(">BBH", 3, 3, checksum_of(struct.pack(">BBH", 3, 3, 0) + rest)) + rest
+
+
+class Reports:
+    """Forged reports, from an address of neither station, that a station's peer can't be reached:
+    so many a second while a block runs. Only a privileged user can send them."""
+
+    def __init__(self, port, peer, rate):
+        self.octets, self.pause, self.is_over = report_of(port, peer), 1 / rate, threading.Event()
+        self.thread = threading.Thread(target=self.run, daemon=True)
+
+    def run(self):
+        with socket.socket(socket.AF_INET, socket.SOCK_RAW, socket.IPPROTO_ICMP) as it:
+            it.bind(("127.0.0.9", 0))
+            while not self.is_over.wait(self.pause):
+                it.sendto(self.octets, ("127.0.0.1", 0))
+
+    def __enter__(self):
+        self.thread.start()
+
+    def __exit__(self, *_):
+        self.is_over.set()
+        self.thread.join()
+
+
 def note_mistakes(station, pattern, since, seconds):
     """What is wrong where a station is to tell of something within some seconds of a time."""
     end = since + seconds + SLACK
@@ -379,7 +418,7 @@ def state_mistakes(program):
         words = link.puts(1, {"a": b"hello"}) + ["--idle", "1"]
         missing = ["--state", "nowhere/numbers", *words]
         yield from refused_mistakes(link.starts(1, missing, once), "nowhere/numbers")
-        for fault in ("disk=0", "no-sync", "denied=from.state"):
+        for fault in ("disk=0", "no-sync", "denied=from.state.new"):
             station = link.starts(1, words, once, faults=fault)
             yield from (f"{fault}: {it}" for it in refused_mistakes(station, "from.state"))
         station = link.starts(1, words, once)
@@ -387,6 +426,8 @@ def state_mistakes(program):
             yield f"it keeps no numbers: {station.ended()}"
             return
         station.killed()
+        denied = link.starts(1, words, once, faults="denied=from.state")
+        yield from refused_mistakes(denied, "from.state: permission denied")
         with open(path, "rb") as it:
             whole = it.read()
         for octets in damages(whole):
@@ -417,7 +458,7 @@ def place_mistakes(program):
         if ended[0] != 1 or stations.unheard(ended[2]) or left() != ["from.state"]:
             yield f"it left {left()} beside the folders, {ended}"
         plain = ["--inbox", "to", "--idle", "1"]
-        yield from idle_mistakes(link.starts(1, plain, faults="denied=to.state"))
+        yield from idle_mistakes(link.starts(1, plain, faults="denied=to.state.new"))
         full = link.starts(1, plain, faults="disk=0")
         yield from refused_mistakes(full, "to: no space left on the device")
         with contextlib.suppress(FileNotFoundError):
@@ -479,7 +520,7 @@ def shared_mistakes(program):
         begun = first.starts(1, words)
         if begun.comes_to("transaction") is None:
             yield f"the first never began: {begun.text('stderr')!r}"
-        yield from refused_mistakes(second.starts(1, words), "in use|another station runs")
+        yield from refused_mistakes(second.starts(1, words), "in use by another station")
         before = numbers_of(begun)
         after = numbers_of(second.starts(1, words, faults="clock=-86400"))
         if not before or not after or min(after) <= max(before):
@@ -496,7 +537,7 @@ def inbox_mistakes(program):
             with open(path, "wb") as it:
                 it.write(b"hello")
         words = ["--inbox", inbox, "--idle", "1"]
-        in_use = "another station or loop receives into this folder"
+        in_use = "another station or loop is receiving into this folder"
         yield from refused_mistakes(second.starts(2, words), in_use)
         how = {"cwd": f"{first.folder}/2", "capture_output": True, "timeout": SECONDS}
         ran = subprocess.run([program.path, "loop", "from", "to", "a", "b"], **how)
@@ -541,6 +582,114 @@ def stop_mistakes(program):
         yield from note_mistakes(station, "nothing is sent", time.time(), 2)
         if link.relay.came:
             yield f"{len(link.relay.came)} frames left whose counts aren't reserved"
+
+
+def unwritable_mistakes(program):
+    """What is wrong where transaction numbers can't be reserved while a station runs, since the
+    folder of its state file is gone: it says so with the cause, and rests meanwhile. Once the
+    folder is back, the file that waits is sent."""
+    with Link(program) as link:
+        link.starts(2, ["--inbox", "to"], PATIENT)
+        os.makedirs(f"{link.folder}/1/kept")
+        words = ["--spool", "out", "--state", "kept/state"]
+        os.makedirs(f"{link.folder}/1/out", exist_ok=True)
+        station = link.starts(1, words, PATIENT)
+        os.rename(f"{link.folder}/1/kept", f"{link.folder}/1/away")
+        stations.put(link.folder, 1, "../out/a", b"hello")
+        cause = "no further file is sent: cannot write the state file: no such file"
+        yield from note_mistakes(station, cause, time.time(), 5)
+        before = processor_seconds(station)
+        time.sleep(3)
+        if (took := processor_seconds(station) - before) > 1.5:
+            yield f"it took {took:.1f} s of a processor in 3 s in which nothing could be sent"
+        os.rename(f"{link.folder}/1/away", f"{link.folder}/1/kept")
+        if station.comes_to("finished .* 0 complete retained") is None:
+            yield f"the file didn't come: {station.text('stdout')!r}"
+
+
+# ---- frames that don't come in order
+
+
+class Swaps:
+    """Has this share of the frames that a relay is given change places with the next one of their
+    station. It is what the relay is to call of each frame."""
+
+    def __init__(self, share, chance):
+        self.share, self.chance, self.held, self.relay = share, chance, {}, None
+
+    def __call__(self, own, frame):
+        held = self.held.pop(own, None)
+        if held is None and self.chance.random() < self.share:
+            self.held[own] = frame
+        else:
+            for it in (frame, held or frame)[: 2 if held else 1]:
+                self.relay.give(3 - own, it)
+        return False
+
+
+class Doubles:
+    """Has each frame that a relay is given come twice. It is what the relay is to call of each."""
+
+    def __init__(self):
+        self.relay = None
+
+    def __call__(self, own, frame):
+        self.relay.give(3 - own, frame)
+        return True
+
+
+# A part of the note of frames that don't come in order.
+OUT_OF_ORDER = "frames arrived out of order, or twice"
+
+
+def disordered(program, link_of, words, settings):
+    """Whether a file arrives over such a link, or a note is told of it, and what both ends tell."""
+    passes = link_of()
+    passes.relay = Relay(passes)
+    with Link(program, passes.relay) as link:
+        content = stations.chance_of(48).randbytes(100_000)
+        receiver = link.starts(2, ["--inbox", "to", *words], PATIENT | settings)
+        puts = link.puts(1, {"a": content})
+        sender = link.starts(1, [*puts, "--rate", "400", *words], PATIENT | settings)
+        is_there = lambda: stations.files_at(link.folder, 2).get("a") == content
+        is_told = lambda: OUT_OF_ORDER in receiver.text("stderr")
+        is_over = lambda: sender.process.poll() is not None
+        if words or settings:
+            stations.waits_for(lambda: is_there() or is_over())
+        else:
+            stations.waits_for(lambda: is_told() or is_over())
+        return is_there(), is_told(), [it.text("stdout") for it in (sender, receiver)]
+
+
+def order_mistakes(program):
+    """What is wrong where most frames change places, or all come twice: a file of which no PDU fits
+    in a frame doesn't arrive, and a note tells why; each of the two things that it says helps."""
+    swaps = lambda: Swaps(0.7, stations.chance_of(47))
+    for what, link_of in (("swaps", swaps), ("doubles", Doubles)):
+        is_there, is_told, told = disordered(program, link_of, [], {})
+        if is_there or not is_told:
+            yield f"on a link that {what}: {is_there}, {is_told}, {told}"
+        for how, words, settings in (
+            ("PDUs as datagrams", ["--carrier", "pdus"], {}),
+            ("larger zones", [], {"zone": 2040, "segment": 512}),
+        ):
+            found = disordered(program, link_of, words, settings)
+            if not found[0]:
+                yield f"on a link that {what}, with {how}: {found}"
+
+
+def loss_mistakes(program):
+    """What is wrong where each tenth frame is lost: nothing is told of their order."""
+    passes = lambda own, frame: len(link.relay.came) % 10 > 0
+    with Link(program, Relay(passes)) as link:
+        receiver = link.starts(2, ["--inbox", "to"], PATIENT)
+        content = stations.chance_of(49).randbytes(100_000)
+        sender = link.starts(1, [*link.puts(1, {"a": content}), "--rate", "400"], PATIENT)
+        if sender.comes_to("finished .* 0 complete retained") is None:
+            yield f"the file didn't come: {sender.text('stdout')!r}"
+        told = [it.text("stderr") for it in (sender, receiver)]
+        if any(OUT_OF_ORDER in it for it in told):
+            yield f"they told {told}"
 
 
 # ---- floods
@@ -892,6 +1041,22 @@ def waiting_mistakes(program):
         yield from note_mistakes(sender, rf"(?=.*\bFinished\b)(?=.*\b{name[1]}\b)", since, 15)
 
 
+def report_mistakes(program):
+    """What is wrong where somebody sends a station forged reports that its peer can't be reached,
+    20 a second: a file of 400 kB still comes, in no more than so many seconds."""
+    if os.geteuid():
+        return
+    with Link(program) as link:
+        receiver = link.starts(2, ["--inbox", "to"], PATIENT)
+        octets = bytes(range(250)) * 1600
+        with Reports(link.ports[1], link.ports[2], 20), Reports(link.ports[2], link.ports[1], 20):
+            link.starts(1, link.puts(1, {"a": octets}), PATIENT)
+            if receiver.comes_to("finished .* 0 complete retained") is None:
+                yield f"the file didn't come: {receiver.text('stdout')!r}"
+        if stations.files_at(link.folder, 2) != {"a": octets}:
+            yield "what came isn't what was sent"
+
+
 def publish_mistakes(program):
     """What is wrong with the order in which a file that came is made to last: it is flushed, it
     gets its name, and then the folder is flushed."""
@@ -955,8 +1120,12 @@ def all_mistakes(program, kills):
     yield "two processes with one inbox", inbox_mistakes(program)
     yield "the count of a new station's first frame", behind_mistakes(program)
     yield "counts of frames that can't be reserved", stop_mistakes(program)
+    yield "numbers that can't be reserved for a time", unwritable_mistakes(program)
+    yield "frames that change places, or come twice", order_mistakes(program)
+    yield "frames of which a tenth is lost", loss_mistakes(program)
     yield "256 EOFs at once", burst_mistakes(program)
     yield "a put that is given up", linger_mistakes(program)
     yield "an answer that waits behind idle frames", late_mistakes(program)
     yield "a frame that the system refuses to send", kept_mistakes(program)
     yield "the folder of a file that came", publish_mistakes(program)
+    yield "forged reports that the peer can't be reached", report_mistakes(program)

@@ -416,13 +416,13 @@ def back_mistakes(program, page):
     """What is wrong with steps back and forward of that transfer."""
     for count in (4, 3, 2):
         page.clicks("document.getElementById('back')")
-        if not page.awaits(f"{TEXT_OF.format('ran')} === '{count} of 5 lines have run'", SOON):
+        if not page.awaits(f"{TEXT_OF.format('ran')} === '{count} of 5 lines run'", SOON):
             yield f"back: {page.finds(TEXT_OF.format('ran'))}"
     if page.finds(FRAMES) != 0:
         yield f"{page.finds(FRAMES)} frames wait behind a put"
     for count in (3, 4, 5):
         page.clicks("document.getElementById('forth')")
-        if not page.awaits(f"{TEXT_OF.format('ran')} === '{count} of 5 lines have run'", SOON):
+        if not page.awaits(f"{TEXT_OF.format('ran')} === '{count} of 5 lines run'", SOON):
             yield f"forward: {page.finds(TEXT_OF.format('ran'))}"
     if not status_is(page, "complete 1 of 1"):
         yield f"forward: {page.finds(TEXT_OF.format('status'))}"

@@ -530,7 +530,7 @@ def stays_mistakes(program):
         if not waits_for(lambda: spool.came() == {"a": b"hello"}):
             yield "it didn't come"
         time.sleep(4)
-        told = [it for it in sender.text("stderr").splitlines() if "moved away" in it]
+        told = [it for it in sender.text("stderr").splitlines() if "cannot move" in it]
         if len(told) != 1:
             yield f"it told {told} of it"
         os.rmdir(f"{spool.folder}/.sent/a/in the way")

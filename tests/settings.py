@@ -1,6 +1,7 @@
-"""The settings file that `station --print-config` prints, and the man page, beside the help."""
+"""The settings file that `station --print-config` prints, and the man pages, beside the help."""
 import os
 import re
+import shutil
 import subprocess
 import sys
 import tempfile
@@ -15,7 +16,7 @@ SECONDS = 600
 NO_KEYS = {"config", "print-config", "help"}
 
 # What a station has in place of a script's default; and what it says by an option of its own.
-OTHERS = {"number_width": 8}
+OTHERS = {"number_width": 8, "pdu_crc": 1}
 NO_SETTINGS = {"first_number"}
 
 
@@ -96,12 +97,63 @@ def read_again_mistakes(program):
         yield f"what stands in comments is refused: {ran[2][2][:500]}"
 
 
+# What stands in a page for signs that roff would read otherwise.
+ESCAPES = {"\\-": "-", "\\(aq": "'", "\\(ha": "^", "\\(ti": "~", "\\(ga": "`", "\\e": "\\"}
+
+# Sections of each man page, and of those with files.
+SECTIONS = ["NAME", "SYNOPSIS", "DESCRIPTION", "EXIT STATUS", "EXAMPLES", "SEE ALSO"]
+WITH_FILES = ("cfdp_node.1", "cfdp_node-station.1")
+
+
+def words_of(text):
+    """The words of a help or of a page, without what lays it out."""
+    text = re.sub(r"(?m)^\.[A-Z]+ ?|^\.(nf|fi)$|\\f.|\\&|^\.\\\".*", "", text)
+    for escape, sign in ESCAPES.items():
+        text = text.replace(escape, sign)
+    return text.split()
+
+
+def made_mistakes(name, text, help_text):
+    """What is wrong with a page of the program, beside the help that it is made from."""
+    sections = re.findall(r"(?m)^\.SH (.*)$", text)
+    for it in SECTIONS + ["FILES"] * (name in WITH_FILES):
+        if it not in sections:
+            yield f"{name} has no section {it}"
+    titles = r"(?m)^(?:(?:Usage|Options|Arguments|Commands|Exit status):|Examples?)"
+    lines = re.sub(titles, "", help_text)
+    lacks = set(re.findall(r"[\w-]{2,}", lines.lower()))
+    lacks -= set(re.findall(r"[\w-]{2,}", " ".join(words_of(text)).lower()))
+    if name != "cfdp_node.1" and lacks:
+        yield f"{name} lacks of the help {sorted(lacks)}"
+
+
 def page_mistakes(program):
-    """What is wrong with the man page: it is what the help of this program makes."""
-    words = [sys.executable, f"{TOP}/packaging/make-man", "--check", "--program", program.path]
-    it = subprocess.run(words, capture_output=True, text=True, timeout=SECONDS)
-    if it.returncode:
-        yield it.stderr.strip()
+    """What is wrong with the man pages that are made: each command has one, which says what its
+    help says; and mandoc and man, if the machine has them, find nothing wrong with any."""
+    commands = re.findall(r"(?m)^  ([a-z]+)  ", told(program, "--help").partition("Commands:")[2])
+    commands = {f"cfdp_node-{it}.1": [it] for it in commands if it != "help"}
+    with tempfile.TemporaryDirectory(dir=program.room) as folder:
+        words = [sys.executable, f"{TOP}/packaging/make-man", folder, "--program", program.path]
+        subprocess.run(words, check=True, timeout=SECONDS)
+        wanted = {"cfdp.3", "cfdp_node.1", *commands}
+        if {*os.listdir(folder)} != wanted or len(commands) < 6:
+            yield f"pages are made {sorted(os.listdir(folder))}, and not {sorted(wanted)}"
+        for name in sorted(os.listdir(folder)):
+            with open(f"{folder}/{name}", encoding="utf-8") as it:
+                text = it.read()
+            if name != "cfdp.3":
+                help_text = told(program, *commands.get(name, []), "--help")
+                yield from made_mistakes(name, text, help_text)
+            elif not re.search(r"(?m)^\.SH EXAMPLES\n(.*\n)*    cfdp_put\(", text):
+                yield "cfdp.3 has no example of a put"
+            for words in (["mandoc", "-T", "lint"], ["man", "--warnings", "-l"]):
+                if shutil.which(words[0]):
+                    how = {"capture_output": True, "text": True, "timeout": SECONDS}
+                    how["env"] = {**os.environ, "LC_ALL": "C.UTF-8", "MANWIDTH": "100"}
+                    ran = subprocess.run([*words, f"{folder}/{name}"], **how)
+                    said = ran.stderr + (ran.stdout if words[0] == "mandoc" else "")
+                    if ran.returncode or said:
+                        yield f"{words[0]} of {name}: {said[-500:]}"
 
 
 def example_mistakes(program):
@@ -122,4 +174,4 @@ def all_mistakes(program):
     yield "the printed settings file", printed_mistakes(program)
     yield "the printed settings file, read again", read_again_mistakes(program)
     yield "the settings of packaging/", example_mistakes(program)
-    yield "the man page of packaging/", page_mistakes(program)
+    yield "the man pages", page_mistakes(program)

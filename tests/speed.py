@@ -39,6 +39,9 @@ CASES = (
 # How often each is run: the middle one of them counts.
 RUNS = 3
 
+# No station's PDUs have a CRC here, since the plain program checks nothing either.
+UNCHECKED = {"pdu_crc": 0}
+
 # The rows of the page's first table: what is set, the octets of a zone and of a segment, words of
 # the sender, and keys of both. Where frames are lost, times are in milliseconds.
 LOSSY = {"eof_time": 20, "nak_time": 20, "finished_time": 20, "inactivity_time": 100_000}
@@ -98,7 +101,7 @@ def processor_seconds(station):
 def by_stations(program, octets, zone, segment, more=(), keys=None, seconds=stations.SECONDS):
     """How two stations send these octets, with more words for the sender and more keys; None where
     they don't in time."""
-    settings = {**stations.PATIENT, **(keys or {}), "zone": zone, "segment": segment}
+    settings = {**stations.PATIENT, **UNCHECKED, **(keys or {}), "zone": zone, "segment": segment}
     both = ["--rate", "0", *(("--unit", "ms") if keys else ())]
     with links.Link(program) as link:
         words = link.puts(1, {"a": octets})
@@ -259,7 +262,7 @@ def watched(folder, end, path):
 def under_callgrind(program, octets, zone, segment, end):
     """The instructions by function of the station at this end of a transfer. The other one runs as
     it does otherwise, so that either waits for as little as it can."""
-    settings = {**stations.PATIENT, "zone": zone, "segment": segment}
+    settings = {**stations.PATIENT, **UNCHECKED, "zone": zone, "segment": segment}
     with links.Link(program) as link:
         slow, file = watched(link.folder, end, program.path)
         paths = {end: slow, 3 - end: program.path}

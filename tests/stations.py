@@ -37,7 +37,7 @@ MOST_GROWTHS = 420
 # for the start, the put, a look at its file, or a read of it.
 MEMORY_ENDS = {
     "the start": (r"", r"(error: .*out of memory.*\n)?"),
-    "the put": (r"line 1 NoMemory\ncomplete 0 of 1\n", r"error: .*not enough memory\n"),
+    "the put": (r"line 1 NoMemory\ncomplete 0 of 1\n", r"error: out of memory\n"),
     "a look": (r"line 1 SourceFault\ncomplete 0 of 1\n", r"error: from/a: out of memory\n"),
     "a read": (
         r"1 transaction (1:\d+)\n1 fault \1 4\n(1 .*\n)*complete 0 of 1\n",
@@ -154,7 +154,7 @@ def put(folder, own, name, octets):
 
 def unheard(text):
     """What a station told on standard error, but that its peer wasn't there yet, or any more."""
-    return re.sub(r"note: nobody listens at \S+\n", "", text)
+    return re.sub(r"note: nothing listens at \S+\n", "", text)
 
 
 def files_at(folder, own):
@@ -431,7 +431,9 @@ def killed_watched_mistakes(program):
     captured = [event for event, _ in packets]
     if captured != traced[: len(captured)] or len(set(traced[len(captured) :])) > 1:
         yield f"its capture has PDUs of the events {captured}, and its trace of {traced}"
-    data = b"".join(pdu[-1024:] for _, pdu in packets if pdu[0] & 0x10)
+    # A PDU whose first octet has the bit of value 2 ends in a CRC of two octets.
+    whole = (pdu[: len(pdu) - (pdu[0] & 2)] for _, pdu in packets if pdu[0] & 0x10)
+    data = b"".join(pdu[-1024:] for pdu in whole)
     if data != chance_of(41).randbytes(300_000)[: len(data)] or len(data) < 40_000:
         yield f"the {len(data)} octets of file data in its capture aren't those of the file"
     events = events_of(sent, "")
@@ -479,9 +481,9 @@ def all_mistakes(program):
     yield "a station killed and started anew", restart_mistakes(program)
     yield "datagrams of a stranger", stranger_mistakes(program)
     yield "an address in use", address_mistakes(program)
-    no_inbox = r"error: a file came, and there is no --inbox \(transaction 1:\d+\)\n"
+    no_inbox = r"error: a file arrived, but there is no --inbox \(transaction 1:\d+\)\n"
     yield "a file for which there is no folder", refused_mistakes(program, [], "b", no_inbox)
-    no_name = r"error: to/a/b: a file can't have that name here \(transaction 1:\d+\)\n"
+    no_name = r"error: to/a/b: a file cannot have that name here \(transaction 1:\d+\)\n"
     inbox = ["--inbox", "to"]
     yield "a name that no folder takes", refused_mistakes(program, inbox, "a/b", no_name)
     yield "a report and a line on one terminal", terminal_mistakes(program)

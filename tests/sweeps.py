@@ -6,7 +6,7 @@ import re
 SETTLING = ("settle", "recover")
 # What a run says of a refused growth of memory, apart from its report.
 AT_START = ("", "")
-UNSHOWN = "error: there is not enough memory to show what passes\n"
+UNSHOWN = "error: out of memory for --explain, --trace, --pcap or --chart\n"
 DROPPED = re.compile(r"station [12] dropped: (link 11|pdu 16) NoMemory, \d+")
 # The answers of commands that runs showed of which a growth of memory was refused.
 SHOWN = set()
@@ -273,7 +273,7 @@ strike 1
 tick 1 3
 recover
 """
-SHORT = "error: there is not enough memory to show what passes\n"
+SHORT = "error: out of memory for --explain, --trace, --pcap or --chart\n"
 
 
 def trace_mistakes(program, most=5000):

@@ -74,5 +74,5 @@ def mistakes(bench, octets, heard):
             first = it.removeprefix(" directive ")[:2]
             if it != " nothing" and int(first, 16) % 2 != flag:
                 yield f"behind PDU {place} an answer has the other flag: {it}"
-    if lines[-1] != f" b.txt: {octets.decode()}":
+    if lines[-1] != f" b.txt {octets.decode()}":
         yield f"the file didn't come out: {lines[-1]!r}"

@@ -49,7 +49,7 @@ enum {
     CFDP_CLOSED = 1,       /* the handle is closed */
     CFDP_ALREADY_OPEN = 2, /* cfdp_open, cfdp_open_folders: the handle is open */
     CFDP_BAD_ARGUMENT = 3, /* cfdp_read_file: the file ends before */
-    CFDP_NO_MEMORY = 4,    /* there is no memory for it */
+    CFDP_NO_MEMORY = 4,    /* out of memory */
     CFDP_NO_ROOM = 5,      /* the lent room has too few octets, or the wrong number */
     CFDP_NOTHING = 6,      /* there is nothing of the kind */
     CFDP_IN_FOLDERS = 7,   /* the call is of files in memory, and the station has folders */
@@ -337,11 +337,11 @@ typedef struct cfdp_frame_drops {
     uint64_t other_spacecraft; /* it is of another spacecraft */
     uint64_t other_channel;    /* it is of another virtual channel */
     uint64_t only_idle;        /* it holds only idle data */
-    uint64_t resync;           /* a begun packet was discarded */
+    uint64_t resync;           /* an incomplete packet was discarded */
     uint64_t bad_packet;       /* a packet's version number isn't 0 */
     uint64_t other_apid;       /* a packet is of another application process */
     uint64_t segmented;        /* a packet is a segment, or has a secondary header */
-    uint64_t no_memory;        /* there was no memory for what the zone holds */
+    uint64_t no_memory;        /* out of memory for the packets of a frame */
     uint64_t damaged;          /* its check tells that it was damaged on the way */
 } cfdp_frame_drops;
 
@@ -403,37 +403,37 @@ static inline uint64_t cfdp_dropped(const cfdp_counts *counts, size_t drop)
 static inline const char *cfdp_drop_text(size_t drop)
 {
     static const char *const texts[] = {
-        "the frame has another length",
-        "the version of the frame is another",
-        "the frame is replayed, or reserved bits are set",
-        "the frame is of another spacecraft",
-        "the frame is of another virtual channel",
+        "wrong frame length",
+        "transfer frame version number must be 01",
+        "the replay flag or a reserved bit of the frame header is set",
+        "the frame has another spacecraft id",
+        "the frame is on another virtual channel",
         "the frame holds only idle data",
-        "a begun packet was discarded",
-        "the version of the packet is another",
-        "the packet is of another application process",
-        "the packet is a segment, or has a secondary header",
-        "there was no memory for a packet",
+        "an incomplete packet was discarded",
+        "packet version number must be 0",
+        "the packet has another APID",
+        "the packet is a segment or has a secondary header",
+        "out of memory for the packets of a frame",
         "the frame was damaged on the way",
-        "the PDU is shorter than a header",
-        "the version of the PDU is another",
+        "the PDU is shorter than its header",
+        "PDU version must be 1",
         "the CRC of the PDU is wrong",
-        "the PDU has another length than its header says",
-        "the PDU is of class 1",
-        "the directive code is none",
-        "the data field is too short",
-        "the data field is too long",
-        "a TLV is not whole",
-        "the condition code is none",
-        "the direction bit does not fit the PDU",
-        "the PDU is of other entities",
-        "the transaction is not known",
-        "the table is full",
-        "there was no memory for the PDU",
+        "the length in the PDU header is not the length of the data field",
+        "the PDU has unacknowledged mode (class 1)",
+        "unknown directive code",
+        "a field runs past the end of the data field",
+        "extra octets after the last field",
+        "a TLV option is incomplete",
+        "condition code must not be 12 or 13",
+        "the direction bit is wrong for this PDU",
+        "the PDU is not for this entity, or not from its peer",
+        "unknown transaction",
+        "the transaction table is full",
+        "out of memory for the PDU",
         "a file name is empty",
     };
 
-    return drop < sizeof texts / sizeof texts[0] ? texts[drop] : "no cause";
+    return drop < sizeof texts / sizeof texts[0] ? texts[drop] : "unknown cause";
 }
 
 /* ---- Time, in any unit, from any start. */
@@ -542,66 +542,66 @@ cfdp_answer cfdp_decode(const uint8_t *pdu, size_t len, cfdp_pdu *out);
 static inline const char *cfdp_answer_text(cfdp_answer answer)
 {
     switch (answer) {
-    case CFDP_OK: return "it is done";
+    case CFDP_OK: return "success";
     case CFDP_CLOSED: return "the handle is closed";
-    case CFDP_ALREADY_OPEN: return "the handle is open already";
-    case CFDP_BAD_ARGUMENT: return "the file ends before";
-    case CFDP_NO_MEMORY: return "there is no memory for it";
-    case CFDP_NO_ROOM: return "the room has too few octets, or the wrong number";
-    case CFDP_NOTHING: return "there is nothing of the kind";
-    case CFDP_IN_FOLDERS: return "the files are in folders";
-    case CFDP_NO_OUTBOX: return "the folder to send from cannot be read";
-    case CFDP_NO_INBOX: return "the folder to receive into cannot be had";
-    case CFDP_INBOX_IN_USE: return "another station receives into that folder";
-    case CFDP_NAME_TAKEN: return "there is a file of that name";
-    case CFDP_NO_SUCH_FILE: return "there is no such file";
-    case CFDP_BAD_NAME: return "a name does not have 1 to 255 octets, or no file may have it";
-    case CFDP_TOO_LARGE: return "the file is too large";
-    case CFDP_TABLE_FULL: return "the table is full";
-    case CFDP_NUMBERS_SPENT: return "the sequence numbers are used up";
-    case CFDP_SOURCE_FAULT: return "the outbox failed";
-    case CFDP_UNKNOWN: return "the transaction is not known";
+    case CFDP_ALREADY_OPEN: return "the handle is already open";
+    case CFDP_BAD_ARGUMENT: return "the file ends before offset + room";
+    case CFDP_NO_MEMORY: return "out of memory";
+    case CFDP_NO_ROOM: return "the buffer is too small, or has the wrong size";
+    case CFDP_NOTHING: return "nothing available";
+    case CFDP_IN_FOLDERS: return "not available: the files are in folders";
+    case CFDP_NO_OUTBOX: return "cannot read the folder to send from";
+    case CFDP_NO_INBOX: return "cannot use the folder to receive into";
+    case CFDP_INBOX_IN_USE: return "another station already receives into that folder";
+    case CFDP_NAME_TAKEN: return "a file of that name already exists";
+    case CFDP_NO_SUCH_FILE: return "no such file";
+    case CFDP_BAD_NAME: return "file names must be 1 to 255 octets that the folder allows";
+    case CFDP_TOO_LARGE: return "file must be at most 2^48 octets";
+    case CFDP_TABLE_FULL: return "the transaction table is full: forget some that are over";
+    case CFDP_NUMBERS_SPENT: return "no sequence number is left";
+    case CFDP_SOURCE_FAULT: return "the outbox could not read the file";
+    case CFDP_UNKNOWN: return "unknown transaction";
     case CFDP_ALREADY_CLOSED: return "the transaction is over";
     case CFDP_WRONG_SIDE: return "only the file's sender can prompt";
-    case CFDP_ALREADY_SO: return "it is so already";
-    case CFDP_STILL_OPEN: return "the transaction is not over";
-    case CFDP_ANSWER_DUE: return "an acknowledgement is due";
-    case CFDP_FULL: return "frames have to be taken off first";
-    case CFDP_BAD_SIZE: return "the program was compiled with another cfdp.h";
-    case CFDP_BAD_ID_WIDTH: return "id_width is not 1 to 8";
-    case CFDP_BAD_ENTITY: return "entity does not fit id_width";
-    case CFDP_BAD_PEER: return "peer does not fit id_width, or is entity";
-    case CFDP_BAD_NUMBER_WIDTH: return "number_width is not 1 to 8";
-    case CFDP_BAD_SEGMENT: return "segment is not 1 to 4096";
-    case CFDP_BAD_CHECKSUM: return "checksum is neither 0 to 3 nor 15";
-    case CFDP_BAD_EOF_TIME: return "eof_time is 0";
-    case CFDP_BAD_NAK_TIME: return "nak_time is 0";
-    case CFDP_BAD_FINISHED_TIME: return "finished_time is 0";
-    case CFDP_BAD_INACTIVITY_TIME: return "inactivity_time is 0";
-    case CFDP_BAD_CAPACITY: return "capacity is not 8192 to 65536";
-    case CFDP_BAD_SENDS_VIRTUAL_CHANNEL: return "sends.virtual_channel is not 0 to 62";
+    case CFDP_ALREADY_SO: return "already in that state";
+    case CFDP_STILL_OPEN: return "the transaction is still open";
+    case CFDP_ANSWER_DUE: return "an acknowledgement must be sent first";
+    case CFDP_FULL: return "no room for the PDU: take frames off first";
+    case CFDP_BAD_SIZE: return "size does not match: compile with the cfdp.h of this library";
+    case CFDP_BAD_ID_WIDTH: return "id_width must be 1 to 8";
+    case CFDP_BAD_ENTITY: return "entity must fit in id_width octets";
+    case CFDP_BAD_PEER: return "peer must fit in id_width octets and differ from entity";
+    case CFDP_BAD_NUMBER_WIDTH: return "number_width must be 1 to 8";
+    case CFDP_BAD_SEGMENT: return "segment must be 1 to 4096";
+    case CFDP_BAD_CHECKSUM: return "checksum must be 0 to 3 or 15";
+    case CFDP_BAD_EOF_TIME: return "eof_time must be at least 1";
+    case CFDP_BAD_NAK_TIME: return "nak_time must be at least 1";
+    case CFDP_BAD_FINISHED_TIME: return "finished_time must be at least 1";
+    case CFDP_BAD_INACTIVITY_TIME: return "inactivity_time must be at least 1";
+    case CFDP_BAD_CAPACITY: return "capacity must be 8192 to 65536";
+    case CFDP_BAD_SENDS_VIRTUAL_CHANNEL: return "sends.virtual_channel must be 0 to 62";
     case CFDP_BAD_SENDS_DATA_VIRTUAL_CHANNEL:
-        return "sends.data_virtual_channel is not 0 to 62, or is sends.virtual_channel";
-    case CFDP_BAD_SENDS_ZONE: return "sends.zone is not 16 to 2040";
-    case CFDP_BAD_SENDS_APID: return "sends.apid is not 0 to 2046";
-    case CFDP_BAD_RECEIVES_VIRTUAL_CHANNEL: return "receives.virtual_channel is not 0 to 62";
+        return "sends.data_virtual_channel must be 0 to 62 and not sends.virtual_channel";
+    case CFDP_BAD_SENDS_ZONE: return "sends.zone must be 16 to 2040";
+    case CFDP_BAD_SENDS_APID: return "sends.apid must be 0 to 2046";
+    case CFDP_BAD_RECEIVES_VIRTUAL_CHANNEL: return "receives.virtual_channel must be 0 to 62";
     case CFDP_BAD_RECEIVES_DATA_VIRTUAL_CHANNEL:
-        return "receives.data_virtual_channel is not 0 to 62, or is receives.virtual_channel";
-    case CFDP_BAD_RECEIVES_ZONE: return "receives.zone is not 16 to 2040";
-    case CFDP_BAD_RECEIVES_APID: return "receives.apid is not 0 to 2046";
-    case CFDP_BAD_ON_ACK_LIMIT: return "on_ack_limit is not 0 to 3";
-    case CFDP_BAD_ON_NAK_LIMIT: return "on_nak_limit is not 0 to 3";
-    case CFDP_BAD_ON_INACTIVITY: return "on_inactivity is not 0 to 3";
-    case CFDP_BAD_SENDS_INSERT_ZONE: return "sends.insert_zone is not 0 to 64";
-    case CFDP_BAD_SENDS_CONTROL_FIELD: return "sends.control_field is neither 0 nor 1";
-    case CFDP_BAD_SENDS_ERROR_CONTROL: return "sends.error_control is neither 0 nor 1";
-    case CFDP_BAD_PDU_CRC: return "pdu_crc is neither 0 nor 1";
-    case CFDP_BAD_RECEIVES_INSERT_ZONE: return "receives.insert_zone is not 0 to 64";
-    case CFDP_BAD_RECEIVES_CONTROL_FIELD: return "receives.control_field is neither 0 nor 1";
-    case CFDP_BAD_RECEIVES_ERROR_CONTROL: return "receives.error_control is neither 0 nor 1";
+        return "receives.data_virtual_channel must be 0 to 62 and not receives.virtual_channel";
+    case CFDP_BAD_RECEIVES_ZONE: return "receives.zone must be 16 to 2040";
+    case CFDP_BAD_RECEIVES_APID: return "receives.apid must be 0 to 2046";
+    case CFDP_BAD_ON_ACK_LIMIT: return "on_ack_limit must be 0 to 3";
+    case CFDP_BAD_ON_NAK_LIMIT: return "on_nak_limit must be 0 to 3";
+    case CFDP_BAD_ON_INACTIVITY: return "on_inactivity must be 0 to 3";
+    case CFDP_BAD_SENDS_INSERT_ZONE: return "sends.insert_zone must be 0 to 64";
+    case CFDP_BAD_SENDS_CONTROL_FIELD: return "sends.control_field must be 0 or 1";
+    case CFDP_BAD_SENDS_ERROR_CONTROL: return "sends.error_control must be 0 or 1";
+    case CFDP_BAD_PDU_CRC: return "pdu_crc must be 0 or 1";
+    case CFDP_BAD_RECEIVES_INSERT_ZONE: return "receives.insert_zone must be 0 to 64";
+    case CFDP_BAD_RECEIVES_CONTROL_FIELD: return "receives.control_field must be 0 or 1";
+    case CFDP_BAD_RECEIVES_ERROR_CONTROL: return "receives.error_control must be 0 or 1";
     default: break;
     }
-    return answer > CFDP_BAD_PDU && answer < 70 ? "the octets are no PDU" : "no answer";
+    return answer > CFDP_BAD_PDU && answer < 70 ? "invalid PDU" : "unknown answer";
 }
 
 #ifdef __cplusplus
