@@ -17,7 +17,7 @@ use Rattle.cfdp_station.specs.Taking.{TakesFrame}
 use Rattle.cfdp_station.specs.Transmitting.{FillsUp, MovesMore, PollsOnce, Times}
 use Rattle.cfdp_station.proofs.Lent.{polls-stood}
 use Rattle.cfdp_port.specs.Calls.{WireCall}
-use Rattle.cfdp_port.specs.InOrder.{frames_came, what_came}
+use Rattle.cfdp_port.specs.Passing.{frames_came, what_came}
 use Rattle.cfdp_port.specs.PeerTurn.{EndsPolls, Pulls, SendsNext, SendsSome, SendsSomeInPart, TakesInPart}
 use Rattle.cfdp_port.specs.Port.{PortState, port_state}
 use Rattle.cfdp_port.specs.Turn.{AsksOn, HearsAll, TakesWhat, TellsTime}

@@ -5,7 +5,7 @@ use Rattle.aos_frame.specs.declared.config.LinkConfig.{LinkConfig}
 use Rattle.cfdp_station.specs.Station.{StationState}
 use Rattle.cfdp_station.specs.Transmitting.{Times}
 use Rattle.cfdp_port.specs.Calls.{WireCall}
-use Rattle.cfdp_port.specs.InOrder.{frames_came}
+use Rattle.cfdp_port.specs.Passing.{frames_came}
 use Rattle.cfdp_port.specs.PeerTurn.{SendsNext, SendsSomeInPart, TakesOne}
 use Rattle.cfdp_port.specs.Port.{PortState, port_state, table_of}
 use Rattle.cfdp_port.specs.Turn.{AsksOn, TellsTime}

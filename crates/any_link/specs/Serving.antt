@@ -20,7 +20,7 @@ use Rattle.cfdp_station.specs.declared.config.StationConfig.{StationConfig}
 use Rattle.cfdp_station.specs.Requests.{StationAnswers}
 use Rattle.cfdp_station.specs.Station.{StationState}
 use Rattle.cfdp_station.specs.Transmitting.{Times}
-use Rattle.link_sim.specs.World.State.{IsNewAt}
+use Rattle.cfdp_station.specs.New.{IsNewAt}
 use Rattle.any_order.specs.Calls.{Setup, Side, One, Two, numbered_from, other, setup_of}
 use Rattle.any_order.specs.Kept.{EndKept, LifeKept, all_kept, frames_in}
 use Rattle.cfdp_port.specs.Asking.{CountsFrom, FailsToLook, LooksAt, Puts}

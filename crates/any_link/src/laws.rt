@@ -8,7 +8,7 @@ ghost use Rattle.cfdp_station.specs.Transmitting.{Times};
 ghost use Rattle.cfdp_station.specs.declared.config.StationConfig.{StationConfig};
 ghost use Rattle.any_order.specs.Calls.{AreJoined, Call, Setup, Side};
 ghost use Rattle.any_order.specs.Kept.{EndKept, Makes};
-ghost use Rattle.cfdp_port.specs.InOrder.{frames_came};
+ghost use Rattle.cfdp_port.specs.Passing.{frames_came};
 ghost use Rattle.cfdp_port.specs.PeerTurn.{TakesInPart};
 ghost use Rattle.cfdp_port.specs.Port.{PortState, port_state, table_of};
 ghost use Rattle.cfdp_service.specs.Calls.{Chain, UserCall};

@@ -10,8 +10,8 @@ use Rattle.cfdp_directives.specs.User.Put.{inbox_after}
 use Rattle.cfdp_station.specs.declared.config.StationConfig.{StationConfig}
 use Rattle.cfdp_station.specs.Config.{IsStationConfig}
 use Rattle.cfdp_station.specs.Station.{StationState}
-use Rattle.link_sim.specs.declared.world_config.WorldConfig.{WorldConfig}
-use Rattle.link_sim.specs.Stations.{IsWorldConfig}
+use Rattle.station_pair.specs.declared.world_config.WorldConfig.{WorldConfig}
+use Rattle.station_pair.specs.Stations.{IsWorldConfig}
 use Rattle.any_order.specs.Calls.{AreJoined, End, Event, Happen, IsNew, One, Two, Pair, Setup, Side, at, other, setup_of}
 use Rattle.any_order.specs.Kept.{EndKept, HasTaken, IsNewKept, IsOf, last_at}
 use Rattle.any_order.specs.Promise.{HoldsAt, found}

@@ -13,9 +13,9 @@ use Rattle.cfdp_entity.specs.declared.error.PutError.{PutError}
 use Rattle.cfdp_entity.specs.declared.error.RequestError.{RequestError}
 use Rattle.cfdp_entity.specs.declared.request.Request.{Request}
 use Rattle.cfdp_station.specs.declared.polled.Polled.{Polled}
-use Rattle.link_sim.specs.declared.side.Side as declared
-use Rattle.link_sim.specs.declared.side.Side.TheVariants as sides
-use Rattle.link_sim.specs.declared.world_config.WorldConfig.{WorldConfig}
+use Rattle.station_pair.specs.declared.side.Side as declared
+use Rattle.station_pair.specs.declared.side.Side.TheVariants as sides
+use Rattle.station_pair.specs.declared.world_config.WorldConfig.{WorldConfig}
 use Rattle.any_order.specs.declared.answers.Delivered.{Delivered}
 use Rattle.any_order.specs.declared.answers.Delivered.TheVariants as delivered
 use Rattle.any_order.specs.declared.answers.Restarted.{Restarted}

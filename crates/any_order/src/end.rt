@@ -295,9 +295,6 @@ fn note_end<O: SteadyOutbox, I: Inbox>(
     ended.put(&Snapshot::of(station));
 }
 
-/// Lets a value go, of whatever type: here no more need be known of it.
-pub(crate) fn let_go<T: Drop>(_value: T) {}
-
 impl<O: SteadyOutbox, I: Inbox> OneEnd<O, I> {
     /// One at which nothing was done yet.
     pub(crate) fn new(
@@ -373,11 +370,11 @@ impl<O: SteadyOutbox, I: Inbox> OneEnd<O, I> {
                 self.last_directives = None;
                 self.last_data = None;
                 self.next = Some(number);
-                let_go(old);
+                drop(old);
                 Ok(())
             }
             Err(AllocError) => {
-                let_go(station);
+                drop(station);
                 Err(AllocError)
             }
         }

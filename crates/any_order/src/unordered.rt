@@ -64,9 +64,11 @@ fn show_spacecraft(config: Valid<WorldConfig>)
 }
 
 impl<O: SteadyOutbox, I: Inbox> UnorderedWorld<O, I> {
-    /// Lets go of both stations, and of all that they hold. A caller that has them with stores of
-    /// its own lets them go by this, so that its proof needn't look into them.
-    pub fn close(self) {}
+    /// Drops both stations, and all that they hold. A caller whose stores are its own drops the
+    /// world by this call, so that its proof needn't look into it.
+    pub fn close(self) {
+        drop(self);
+    }
 
     /// Two stations at which nothing was done yet, over these stores, those of the first station
     /// first. The frames of both are numbered from 0 on.

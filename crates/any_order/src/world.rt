@@ -16,7 +16,7 @@ ghost use Rattle.any_order.specs.World.{deliver_calls, kept_at, octets_calls, pu
 ghost use Rattle.any_order.specs.World.{request_calls, restart_calls, setup, side_of, tick_calls};
 
 use crate::answers::{Delivered, Restarted, SentFrame};
-use crate::end::{OneEnd, let_go, made_anew};
+use crate::end::{OneEnd, made_anew};
 use aos_frame::{ChannelConfig, Lane, LinkConfig, decode};
 use cfdp_directives::Octets;
 use cfdp_entity::{EntityConfig, Request};
@@ -254,7 +254,7 @@ impl<O: SteadyOutbox, I: Inbox> TwoEnds<O, I> {
                 first_two,
             }),
             Err(AllocError) => {
-                let_go(one);
+                drop(one);
                 Err(AllocError)
             }
         }

@@ -81,19 +81,19 @@ pub struct ChannelConfig {
 #[derive(Clone, Copy, Debug, PartialEq, Eq, Error)]
 pub enum LinkField {
     /// The virtual channel, in a link that of directives.
-    #[error("the virtual channel is not 0 to 62")]
+    #[error("virtual channel must be 0 to 62")]
     VirtualChannel,
     /// The virtual channel of file data.
-    #[error("the virtual channel of file data is not 0 to 62, or is that of directives")]
+    #[error("data virtual channel must be 0 to 62 and differ from virtual channel")]
     DataVirtualChannel,
     /// The octets of the packet zone.
-    #[error("the packet zone does not have 16 to 2040 octets")]
+    #[error("packet zone must be 16 to 2040 octets")]
     Zone,
     /// The application process identifier.
-    #[error("the application process identifier is not 0 to 2046")]
+    #[error("APID must be 0 to 2046")]
     Apid,
     /// The octets of the insert zone.
-    #[error("the insert zone does not have 0 to 64 octets")]
+    #[error("insert zone must be 0 to 64 octets")]
     InsertZone,
 }
 

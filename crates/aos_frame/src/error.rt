@@ -9,27 +9,27 @@ use thiserror::Error;
 #[derive(Clone, Copy, Debug, PartialEq, Eq, Error)]
 pub enum FrameError {
     /// The octets aren't as many as those of a frame of the link.
-    #[error("the octets are not as many as those of a frame")]
+    #[error("wrong frame length")]
     Length,
     /// The link has error control, and the check of the frame differs from its frame error control
     /// field: some of it is not as it was sent (CCSDS 732.0-B-4, 4.1.6).
     #[error("the frame was damaged on the way")]
     Damaged,
     /// The transfer frame version number isn't `01` (CCSDS 732.0-B-4, 4.1.2.2.2).
-    #[error("the transfer frame version number is not 01")]
+    #[error("transfer frame version number must be 01")]
     Version,
     /// The replay flag is 1, or the two bits behind the usage flag of the count cycle aren't `00`
     /// (CCSDS 732.0-B-4, 4.1.2.5).
-    #[error("the frame is replayed, or a reserved bit of its header is set")]
+    #[error("the replay flag or a reserved bit of the frame header is set")]
     OtherProfile,
     /// The frame is of another spacecraft.
-    #[error("the frame is of another spacecraft")]
+    #[error("the frame has another spacecraft id")]
     OtherSpacecraft,
     /// The frame is of virtual channel 63, and so holds only idle data (CCSDS 732.0-B-4, 4.1.2.3).
     #[error("the frame holds only idle data")]
     OnlyIdle,
     /// The frame is of a third virtual channel that carries packets.
-    #[error("the frame is of another virtual channel")]
+    #[error("the frame is on another virtual channel")]
     OtherChannel,
 }
 

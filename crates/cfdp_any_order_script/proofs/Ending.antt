@@ -1,12 +1,12 @@
 -- How commands go on, and how they end.
 use Rattle.std.proofs.Common.{◌≡◌, ◌≤◌, ◌<◌, ◌+◌, ℕ, zero, suc, Bool, true, false, Option, None, Some, Result, Ok, Err, refl, sym, subst, add-one, arith, inl, inr}
 use Rattle.link_sim.specs.declared.event.Event.TheVariants as event
-use Rattle.link_sim.specs.declared.side.Side.TheVariants.{Two}
+use Rattle.station_pair.specs.declared.side.Side.TheVariants.{Two}
 use Rattle.aos_frame.specs.declared.config.Lane.TheVariants.{Data}
 use Rattle.cfdp_any_order_script.specs.declared.answer.Answer.{Answer}
 use Rattle.cfdp_script.specs.declared.script.command.Command.{Command}
 use Rattle.std.specs.Result.{IfErr, result_err}
-use Rattle.link_sim.specs.declared.side.Side.{Side}
+use Rattle.station_pair.specs.declared.side.Side.{Side}
 use Rattle.cfdp_any_order_script.specs.Performing.{Bursts, Flushes, HappensOnce, IsNext, IsOther, IsRecovered, Performs, PlayState, PollsAll, PollsAndFlushes, PollsOn, Recovers, RecoversOnce, RoundEnds, SendingEnds, Settles, Spreads, Times, most_rounds, nothing, still_armed, turn_event}
 
 -- once more

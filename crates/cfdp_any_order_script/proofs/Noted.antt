@@ -14,8 +14,8 @@ use Rattle.cfdp_header.specs.Files.{FileMap}
 use Rattle.cfdp_header.specs.declared.value.TransactionId.{TransactionId}
 use Rattle.cfdp_station.specs.declared.config.StationConfig.{StationConfig}
 use Rattle.cfdp_station.specs.declared.polled.Polled.{Polled}
-use Rattle.link_sim.specs.declared.side.Side.TheVariants as sides
-use Rattle.link_sim.specs.declared.world_config.WorldConfig.{WorldConfig}
+use Rattle.station_pair.specs.declared.side.Side.TheVariants as sides
+use Rattle.station_pair.specs.declared.world_config.WorldConfig.{WorldConfig}
 use Rattle.any_order.specs.Calls.{Call, One, Restarts, Two, Side, other}
 use Rattle.any_order.specs.Kept.{EndKept, IsNewKept, MadeFrame, all_kept, gives}
 use Rattle.any_order.specs.Onward.{AreNoStarts, BeginsAnew, GoesOn}

@@ -2,8 +2,8 @@
 use Rattle.std.proofs.Common.{arith, ◌≡◌, ℕ, ◌-◌, ◌<◌, ◌↔◌, length, inl, inr, ap₂, List, ◌++◌, Bool, true, false, Option, None, Some, refl, sym, subst, ap, ◌∙◌}
 use Rattle.std.specs.Prelude.{IsSome, OnSome, remove, slice_get}
 use Rattle.std.proofs.lemmas.Option.{slice_get_within}
-use Rattle.link_sim.specs.declared.side.Side.{Side}
-use Rattle.link_sim.specs.declared.side.Side.TheVariants.{One, Two}
+use Rattle.station_pair.specs.declared.side.Side.{Side}
+use Rattle.station_pair.specs.declared.side.Side.TheVariants.{One, Two}
 use Rattle.any_order.specs.Calls.{Call, other}
 use Rattle.any_order.specs.World.{Happened, WorldKept, side_of}
 use Rattle.aos_frame.specs.declared.config.Lane.{Lane}

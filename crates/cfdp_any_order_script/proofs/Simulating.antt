@@ -3,9 +3,10 @@ use Rattle.std.proofs.Common.{◌≡◌, ◌⊎◌, ℕ, false, List, Option, No
 use Rattle.std.specs.Io.KnownBytes.{Keeps}
 use Rattle.std.specs.Option.{option_map}
 use Rattle.std.proofs.KnownBytes.{Appends-kept, Keeps-refl, Keeps-trans}
-use Rattle.link_sim.specs.declared.world_config.WorldConfig.{WorldConfig}
+use Rattle.station_pair.specs.declared.world_config.WorldConfig.{WorldConfig}
 use Rattle.cfdp_report.specs.Settings.{world_of}
 use Rattle.cfdp_report.specs.Exit.{has_report}
+use Rattle.cfdp_report.proofs.FlushedEnds.{IsFlushedFrom, either_end}
 use Rattle.cfdp_report.specs.declared.exit.Exit.{Exit}
 use Rattle.cfdp_report.specs.declared.exit.Exit.TheVariants.{Complete, Incomplete, BadScript, Device}
 use Rattle.cfdp_report.specs.declared.exit.Fault.{Fault}
@@ -100,12 +101,6 @@ reading_fails NoMemory left out of = absurd of
 reading_fails Unwritable left out of = absurd of
 
 -- ---- what holds of an end still holds once what waits in the buffer was written out
-abbrev pub IsFlushedFrom : (exit ended : Exit) → Type 0
-IsFlushedFrom exit ended = (ended ≡ exit) ⊎ (ended ≡ Device Unwritable)
-
-either_end : (P : Exit → Type 0) (exit ended : Exit) → P exit → P (Device Unwritable) → IsFlushedFrom exit ended → P ended
-either_end P exit ended same failed = ⊎_elim (λ e. subst P (sym e) same) (λ e. subst P (sym e) failed)
-
 module _ (old mid new : Option (List ℕ)) (kept : Keeps mid new) (text : List ℕ) where
   kept_complete : (o : Option ℕ) → EndsAny o Complete text old mid → EndsAny o Complete text old new
   kept_complete None ends = flushed_script old mid new kept (Some text) Complete Complete ends (inl refl) (λ no. refl)

@@ -13,11 +13,11 @@ use Rattle.cfdp_station.specs.declared.polled.Polled.TheVariants as polled
 use Rattle.cfdp_timers.specs.ButInactivity.{IsLeastOther, OnlyInactivity}
 use Rattle.link_sim.specs.declared.event.Event.{Event}
 use Rattle.link_sim.specs.declared.event.Event.TheVariants as event
-use Rattle.link_sim.specs.declared.event.Refusal.TheVariants as refusal
-use Rattle.link_sim.specs.declared.recover_error.RecoverError.TheVariants as errors
-use Rattle.link_sim.specs.declared.settle_error.SettleError.TheVariants as settle_errors
-use Rattle.link_sim.specs.declared.side.Side.{Side}
-use Rattle.link_sim.specs.declared.side.Side.TheVariants.{One, Two}
+use Rattle.station_pair.specs.declared.refusal.Refusal.TheVariants as refusal
+use Rattle.station_pair.specs.declared.recover_error.RecoverError.TheVariants as errors
+use Rattle.station_pair.specs.declared.settle_error.SettleError.TheVariants as settle_errors
+use Rattle.station_pair.specs.declared.side.Side.{Side}
+use Rattle.station_pair.specs.declared.side.Side.TheVariants.{One, Two}
 use Rattle.any_order.specs.Calls.{Call, other}
 use Rattle.any_order.specs.declared.answers.Delivered.{Delivered}
 use Rattle.any_order.specs.declared.answers.Delivered.TheVariants as delivered

@@ -3,8 +3,8 @@ use Rattle.std.specs.Prelude.{◌≡◌, ℕ, List, [], ◌++◌, Some, length, 
 use Rattle.std.specs.List.{flat_map}
 use Rattle.cfdp_header.specs.Files.{FileMap}
 use Rattle.cfdp_directives.specs.declared.user.indication.Indication.{Indication}
-use Rattle.link_sim.specs.declared.side.Side.{Side}
-use Rattle.link_sim.specs.declared.side.Side.TheVariants.{One, Two}
+use Rattle.station_pair.specs.declared.side.Side.{Side}
+use Rattle.station_pair.specs.declared.side.Side.TheVariants.{One, Two}
 use Rattle.any_order.specs.declared.answers.SentFrame.{SentFrame}
 use Rattle.any_order.specs.Calls as sides
 use Rattle.any_order.specs.Kept.{EndKept, LifeKept, all_kept, frames_in}

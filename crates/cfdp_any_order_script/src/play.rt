@@ -1,7 +1,7 @@
 //! Two stations over any link, as a script drives them: the world, and which frames wait.
 ghost use Rattle.std.specs.FinMap as map;
 ghost use Rattle.std.specs.Prelude.{◌≡◌, ◌<◌, IfOk, Some, slice_get, vec_capacity, vec_len};
-ghost use Rattle.link_sim.specs.declared.side.Side.TheVariants as sides;
+ghost use Rattle.station_pair.specs.declared.side.Side.TheVariants as sides;
 ghost use Rattle.any_order.specs.World.{IsNewWorld, WorldKept};
 ghost use Rattle.cfdp_script.specs.Script.Outboxes.{outbox_of};
 ghost use Rattle.cfdp_any_order_script.specs.Links.{no_frames, shown};

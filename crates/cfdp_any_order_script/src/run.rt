@@ -1,7 +1,7 @@
 //! Running a script's commands over any link, one after another.
 ghost use Rattle.std.specs.Prelude.{◌≡◌, ◌≤◌, ℕ, List, [], length, vec_capacity, Option, IfSome};
 ghost use Rattle.std.specs.Io.KnownBytes.{Appends};
-ghost use Rattle.link_sim.specs.declared.world_config.WorldConfig.{WorldConfig};
+ghost use Rattle.station_pair.specs.declared.world_config.WorldConfig.{WorldConfig};
 ghost use Rattle.any_order.specs.World.{KeepsPromise};
 ghost use Rattle.cfdp_script.specs.declared.script.command.FileLine.{FileLine};
 ghost use Rattle.cfdp_any_order_script.specs.Performing.{Runs};

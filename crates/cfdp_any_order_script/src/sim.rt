@@ -6,8 +6,9 @@ ghost use Rattle.cfdp_report.specs.Exit.{IsFlushedAt};
 ghost use Rattle.cfdp_any_order_script.specs.Simulated.{Ends, EndsAt, first_disorder};
 
 use crate::run::run_steps;
-use cfdp_report::{BadLine, Exit, Fault, Hint, LineError, Quote, Ran, Shown};
+use cfdp_report::{BadLine, Exit, Fault, Hint, LineError, Quote};
 use cfdp_script::{Command, Disorder, Script, Step, read_script, run_text};
+use cfdp_watch::{Ran, Shown};
 use std::io::{BufWriter, Read, Write};
 
 /// Reads a script, runs it and writes its report, which has left the buffer then. It runs over a

@@ -6,7 +6,7 @@ ghost use Rattle.std.specs.List.{flat_map};
 ghost use Rattle.std.specs.Prelude.{◌≡◌, ◌≢◌, ◌+◌, ◌<◌, ◌≤◌, ◌++◌, ◌∷◌, ◌^◌, ℕ, List, []};
 ghost use Rattle.std.specs.Prelude.{IfOk, IfSome, OnOk, MatchOption, Ok, count_by, length};
 ghost use Rattle.std.specs.Prelude.{vec_capacity, vec_len};
-ghost use Rattle.link_sim.specs.declared.side.Side.TheVariants as sides;
+ghost use Rattle.station_pair.specs.declared.side.Side.TheVariants as sides;
 ghost use Rattle.any_order.specs.Calls as calls;
 ghost use Rattle.any_order.specs.Calls.{Call, Restarts, other, setup_of};
 ghost use Rattle.any_order.specs.Onward.{AreNoStarts, GoesOn};

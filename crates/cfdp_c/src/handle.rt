@@ -188,11 +188,8 @@ fn boxed(alloc: Global, held: Held) -> Result<Box<Held>, AllocError>
     match Box::new(alloc, held) {
         Ok(boxed) => Ok(boxed),
         Err(refused) => {
-            let_go(refused);
+            drop(refused);
             Err(AllocError)
         }
     }
 }
-
-/// Lets a value go by code that knows nothing of it, which spares its proof.
-fn let_go<T: Drop>(_value: T) {}

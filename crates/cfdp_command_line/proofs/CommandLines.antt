@@ -12,9 +12,9 @@ use Rattle.cfdp_command_line.specs.declared.station.StationFlags.{StationFlags}
 use Rattle.cfdp_command_line.specs.declared.station.StationLimits.{StationLimits}
 use Rattle.cfdp_command_line.specs.declared.station.TimeUnit.TheVariants.{Milliseconds, Seconds}
 use Rattle.frame_fields.specs.Fields.{no_fields}
-use Rattle.cfdp_report.specs.declared.dump.form.DumpForm.TheVariants.{Short, Long, Fields}
-use Rattle.cfdp_report.specs.declared.dump.shape.FrameShape.{FrameShape}
-use Rattle.cfdp_script.specs.declared.dump.DumpKind.TheVariants.{Pdus, Frames}
+use Rattle.cfdp_dump.specs.declared.spelled.form.DumpForm.TheVariants.{Short, Long, Fields}
+use Rattle.cfdp_dump.specs.declared.spelled.shape.FrameShape.{FrameShape}
+use Rattle.cfdp_dump.specs.declared.dump.DumpKind.TheVariants.{Pdus, Frames}
 
 -- words behind the program's name
 abbrev line : List Text → List Text
@@ -29,15 +29,6 @@ abbrev no_losses : LossRequest
 no_losses = record { every = 0; percent = 0; seed = 1 }
 
 -- ---- sim
-
-plain_sim : (refusals (line (codes "sim" ∷ [])) ≡ []) × (asked_of (line (codes "sim" ∷ [])) ≡ Some (sim nothing None))
-unfolding clap_on_literals
-plain_sim = (refl, refl)
-
-explained : (refusals (line (codes "sim" ∷ codes "--explain" ∷ [])) ≡ [])
-    × (asked_of (line (codes "sim" ∷ codes "--explain" ∷ [])) ≡ Some (sim (record nothing { explain = true }) None))
-unfolding clap_on_literals
-explained = (refl, refl)
 
 traced : (refusals (line (codes "sim" ∷ codes "--pcap" ∷ codes "a" ∷ codes "--trace" ∷ [])) ≡ [])
     × (asked_of (line (codes "sim" ∷ codes "--pcap" ∷ codes "a" ∷ codes "--trace" ∷ [])) ≡ Some (sim (record nothing { trace = true; pcap = Some (codes "a") }) None))
@@ -59,46 +50,16 @@ plain_pdus : (refusals (line (codes "dump" ∷ codes "pdus" ∷ [])) ≡ []) × 
 unfolding clap_on_literals
 plain_pdus = (refl, refl)
 
-plain_frames : (refusals (line (codes "dump" ∷ codes "frames" ∷ [])) ≡ [])
-    × (asked_of (line (codes "dump" ∷ codes "frames" ∷ [])) ≡ Some (dump (Frames, bare 256, Short, false, false) None))
+full_frames : (refusals (line (codes "dump" ∷ codes "frames" ∷ codes "a" ∷ codes "--zone" ∷ codes "300" ∷ codes "--error-control" ∷ codes "--insert-zone" ∷ codes "8" ∷ codes "--deep" ∷ codes "--long" ∷ codes "--text" ∷ [])) ≡ [])
+    × (asked_of (line (codes "dump" ∷ codes "frames" ∷ codes "a" ∷ codes "--zone" ∷ codes "300" ∷ codes "--error-control" ∷ codes "--insert-zone" ∷ codes "8" ∷ codes "--deep" ∷ codes "--long" ∷ codes "--text" ∷ []))
+    ≡ Some (dump (Frames, record { zone = 300; fields = record { insert_zone = 8; control_field = false; error_control = true } }, Long, true, true) (Some (codes "a"))))
 unfolding clap_on_literals
-plain_frames = (refl, refl)
-
-zoned_frames : (refusals (line (codes "dump" ∷ codes "frames" ∷ codes "--zone" ∷ codes "300" ∷ [])) ≡ [])
-    × (asked_of (line (codes "dump" ∷ codes "frames" ∷ codes "--zone" ∷ codes "300" ∷ [])) ≡ Some (dump (Frames, bare 300, Short, false, false) None))
-unfolding clap_on_literals
-zoned_frames = (refl, refl)
-
-filled_frames : (refusals (line (codes "dump" ∷ codes "frames" ∷ codes "--error-control" ∷ codes "--insert-zone" ∷ codes "8" ∷ [])) ≡ [])
-    × (asked_of (line (codes "dump" ∷ codes "frames" ∷ codes "--error-control" ∷ codes "--insert-zone" ∷ codes "8" ∷ []))
-    ≡ Some (dump (Frames, record { zone = 256; fields = record { insert_zone = 8; control_field = false; error_control = true } }, Short, false, false) None))
-unfolding clap_on_literals
-filled_frames = (refl, refl)
-
-long_pdus : (refusals (line (codes "dump" ∷ codes "--long" ∷ codes "pdus" ∷ [])) ≡ [])
-    × (asked_of (line (codes "dump" ∷ codes "--long" ∷ codes "pdus" ∷ [])) ≡ Some (dump (Pdus, bare 256, Long, false, false) None))
-unfolding clap_on_literals
-long_pdus = (refl, refl)
+full_frames = (refl, refl)
 
 fields_of_frames : (refusals (line (codes "dump" ∷ codes "--fields" ∷ codes "frames" ∷ codes "--long" ∷ [])) ≡ [])
     × (asked_of (line (codes "dump" ∷ codes "--fields" ∷ codes "frames" ∷ codes "--long" ∷ [])) ≡ Some (dump (Frames, bare 256, Fields, false, false) None))
 unfolding clap_on_literals
 fields_of_frames = (refl, refl)
-
-deep_frames : (refusals (line (codes "dump" ∷ codes "frames" ∷ codes "--deep" ∷ codes "--long" ∷ [])) ≡ [])
-    × (asked_of (line (codes "dump" ∷ codes "frames" ∷ codes "--deep" ∷ codes "--long" ∷ [])) ≡ Some (dump (Frames, bare 256, Long, true, false) None))
-unfolding clap_on_literals
-deep_frames = (refl, refl)
-
-pdus_of_text : (refusals (line (codes "dump" ∷ codes "pdus" ∷ codes "--text" ∷ [])) ≡ [])
-    × (asked_of (line (codes "dump" ∷ codes "pdus" ∷ codes "--text" ∷ [])) ≡ Some (dump (Pdus, bare 256, Short, false, true) None))
-unfolding clap_on_literals
-pdus_of_text = (refl, refl)
-
-pdus_of_file : (refusals (line (codes "dump" ∷ codes "pdus" ∷ codes "a" ∷ [])) ≡ [])
-    × (asked_of (line (codes "dump" ∷ codes "pdus" ∷ codes "a" ∷ [])) ≡ Some (dump (Pdus, bare 256, Short, false, false) (Some (codes "a"))))
-unfolding clap_on_literals
-pdus_of_file = (refl, refl)
 
 -- ---- loop
 
@@ -108,44 +69,8 @@ plain_loop : (refusals (line (codes "loop" ∷ codes "a" ∷ codes "b" ∷ codes
 unfolding clap_on_literals
 plain_loop = (refl, refl)
 
-lossy_loop : (refusals (line (codes "loop" ∷ codes "--drop" ∷ codes "7" ∷ codes "a" ∷ codes "b" ∷ codes "x" ∷ codes "y" ∷ codes "--turns" ∷ codes "50" ∷ [])) ≡ [])
-    × (asked_of (line (codes "loop" ∷ codes "--drop" ∷ codes "7" ∷ codes "a" ∷ codes "b" ∷ codes "x" ∷ codes "y" ∷ codes "--turns" ∷ codes "50" ∷ []))
-    ≡ Some (loop (record { from = codes "a"; to = codes "b"; source = codes "x"; destination = codes "y"; turns = 50; losses = record { every = 7; percent = 0; seed = 1 }; sets = []; shown = nothing })))
-unfolding clap_on_literals
-lossy_loop = (refl, refl)
-
-watched_loop : (refusals (line (codes "loop" ∷ codes "--trace" ∷ codes "a" ∷ codes "b" ∷ codes "--pcap" ∷ codes "c" ∷ codes "x" ∷ codes "y" ∷ codes "--chart" ∷ codes "d" ∷ [])) ≡ [])
-    × (asked_of (line (codes "loop" ∷ codes "--trace" ∷ codes "a" ∷ codes "b" ∷ codes "--pcap" ∷ codes "c" ∷ codes "x" ∷ codes "y" ∷ codes "--chart" ∷ codes "d" ∷ []))
-    ≡ Some (loop (record {
-      from = codes "a";
-      to = codes "b";
-      source = codes "x";
-      destination = codes "y";
-      turns = 10000;
-      losses = no_losses;
-      sets = [];
-      shown = record { explain = false; trace = true; pcap = Some (codes "c"); chart = Some (codes "d") };
-    })))
-unfolding clap_on_literals
-watched_loop = (refl, refl)
-
-set_loop : (refusals (line (codes "loop" ∷ codes "a" ∷ codes "--set" ∷ codes "zone" ∷ codes "64" ∷ codes "b" ∷ codes "x" ∷ codes "--set" ∷ codes "crc" ∷ codes "1" ∷ codes "y" ∷ [])) ≡ [])
-    × (asked_of (line (codes "loop" ∷ codes "a" ∷ codes "--set" ∷ codes "zone" ∷ codes "64" ∷ codes "b" ∷ codes "x" ∷ codes "--set" ∷ codes "crc" ∷ codes "1" ∷ codes "y" ∷ []))
-    ≡ Some (loop (record {
-      from = codes "a";
-      to = codes "b";
-      source = codes "x";
-      destination = codes "y";
-      turns = 10000;
-      losses = no_losses;
-      sets = codes "zone" ∷ codes "64" ∷ codes "crc" ∷ codes "1" ∷ [];
-      shown = nothing;
-    })))
-unfolding clap_on_literals
-set_loop = (refl, refl)
-
-random_loop : (refusals (line (codes "loop" ∷ codes "a" ∷ codes "b" ∷ codes "x" ∷ codes "y" ∷ codes "--loss" ∷ codes "100" ∷ codes "--seed" ∷ codes "18446744073709551615" ∷ codes "--drop" ∷ codes "3" ∷ codes "--turns" ∷ codes "1000000" ∷ [])) ≡ [])
-    × (asked_of (line (codes "loop" ∷ codes "a" ∷ codes "b" ∷ codes "x" ∷ codes "y" ∷ codes "--loss" ∷ codes "100" ∷ codes "--seed" ∷ codes "18446744073709551615" ∷ codes "--drop" ∷ codes "3" ∷ codes "--turns" ∷ codes "1000000" ∷ []))
+full_loop : (refusals (line (codes "loop" ∷ codes "a" ∷ codes "--set" ∷ codes "zone" ∷ codes "64" ∷ codes "b" ∷ codes "x" ∷ codes "--set" ∷ codes "crc" ∷ codes "1" ∷ codes "y" ∷ codes "--loss" ∷ codes "100" ∷ codes "--seed" ∷ codes "18446744073709551615" ∷ codes "--drop" ∷ codes "3" ∷ codes "--turns" ∷ codes "1000000" ∷ codes "--trace" ∷ codes "--pcap" ∷ codes "c" ∷ codes "--chart" ∷ codes "d" ∷ [])) ≡ [])
+    × (asked_of (line (codes "loop" ∷ codes "a" ∷ codes "--set" ∷ codes "zone" ∷ codes "64" ∷ codes "b" ∷ codes "x" ∷ codes "--set" ∷ codes "crc" ∷ codes "1" ∷ codes "y" ∷ codes "--loss" ∷ codes "100" ∷ codes "--seed" ∷ codes "18446744073709551615" ∷ codes "--drop" ∷ codes "3" ∷ codes "--turns" ∷ codes "1000000" ∷ codes "--trace" ∷ codes "--pcap" ∷ codes "c" ∷ codes "--chart" ∷ codes "d" ∷ []))
     ≡ Some (loop (record {
       from = codes "a";
       to = codes "b";
@@ -153,23 +78,15 @@ random_loop : (refusals (line (codes "loop" ∷ codes "a" ∷ codes "b" ∷ code
       destination = codes "y";
       turns = 1000000;
       losses = record { every = 3; percent = 100; seed = 18446744073709551615 };
-      sets = [];
-      shown = nothing;
+      sets = codes "zone" ∷ codes "64" ∷ codes "crc" ∷ codes "1" ∷ [];
+      shown = record { explain = false; trace = true; pcap = Some (codes "c"); chart = Some (codes "d") };
     })))
 unfolding clap_on_literals
-random_loop = (refl, refl)
+full_loop = (refl, refl)
 
 few_words : refusals (line (codes "loop" ∷ codes "a" ∷ codes "b" ∷ codes "x" ∷ [])) ≡ MissingRequiredArgument ∷ []
 unfolding clap_on_literals
 few_words = refl
-
-no_turn : refusals (line (codes "loop" ∷ codes "a" ∷ codes "b" ∷ codes "x" ∷ codes "y" ∷ codes "--turns" ∷ codes "0" ∷ [])) ≡ ValueValidation ∷ []
-unfolding clap_on_literals
-no_turn = refl
-
-many_turns : refusals (line (codes "loop" ∷ codes "a" ∷ codes "b" ∷ codes "x" ∷ codes "y" ∷ codes "--turns" ∷ codes "1000001" ∷ [])) ≡ ValueValidation ∷ []
-unfolding clap_on_literals
-many_turns = refl
 
 more_than_all : refusals (line (codes "loop" ∷ codes "a" ∷ codes "b" ∷ codes "x" ∷ codes "y" ∷ codes "--loss" ∷ codes "101" ∷ [])) ≡ ValueValidation ∷ []
 unfolding clap_on_literals
@@ -223,11 +140,12 @@ unfolding clap_on_literals
 defaults_said = (refl, refl)
 
 sending_station : (refusals (line (codes "station" ∷ codes "--put" ∷ codes "x" ∷ codes "y" ∷ codes "--id" ∷ codes "3" ∷ codes "--peer" ∷ codes "4" ∷ codes "--set" ∷ codes "zone" ∷ codes "512" ∷ codes
-    "--listen" ∷ codes "a" ∷ codes "--to" ∷ codes "b" ∷ codes "--put" ∷ codes "v" ∷ codes "w" ∷ codes "--outbox" ∷ codes "o" ∷ codes "--state" ∷ codes "s" ∷ codes "--idle" ∷ codes "9" ∷ [])) ≡ [])
+    "--listen" ∷ codes "a" ∷ codes "--to" ∷ codes "b" ∷ codes "--put" ∷ codes "v" ∷ codes "w" ∷ codes "--outbox" ∷ codes "o" ∷ codes "--state" ∷ codes "s" ∷ codes "--idle" ∷ codes "9" ∷ codes "--carrier=packets" ∷ codes "--loss" ∷ codes "10" ∷ codes "--seed" ∷ codes "5" ∷ [])) ≡ [])
     × (asked_of (line (codes "station" ∷ codes "--put" ∷ codes "x" ∷ codes "y" ∷ codes "--id" ∷ codes "3" ∷ codes "--peer" ∷ codes "4" ∷ codes "--set" ∷ codes "zone" ∷ codes "512" ∷ codes "--listen" ∷
-    codes "a" ∷ codes "--to" ∷ codes "b" ∷ codes "--put" ∷ codes "v" ∷ codes "w" ∷ codes "--outbox" ∷ codes "o" ∷ codes "--state" ∷ codes "s" ∷ codes "--idle" ∷ codes "9" ∷ []))
+    codes "a" ∷ codes "--to" ∷ codes "b" ∷ codes "--put" ∷ codes "v" ∷ codes "w" ∷ codes "--outbox" ∷ codes "o" ∷ codes "--state" ∷ codes "s" ∷ codes "--idle" ∷ codes "9" ∷ codes "--carrier=packets" ∷ codes "--loss" ∷ codes "10" ∷ codes "--seed" ∷ codes "5" ∷ []))
     ≡ Some (station (record plain {
-      numbers = record { id = 3; peer = 4; idle = 9; first_number = 0; rate = 1000; losses = no_losses };
+      numbers = record { id = 3; peer = 4; idle = 9; first_number = 0; rate = 1000; losses = record { every = 0; percent = 10; seed = 5 } };
+      carrier = Packets;
       outbox = Some (codes "o");
       state = Some (codes "s");
       puts = codes "x" ∷ codes "y" ∷ codes "v" ∷ codes "w" ∷ [];
@@ -253,33 +171,13 @@ operated_station : (refusals (named operating) ≡ [])
 unfolding clap_on_literals
 operated_station = (refl, refl)
 
-packets_carried : (refusals (named (codes "--carrier=packets" ∷ [])) ≡ []) × (asked_of (named (codes "--carrier=packets" ∷ [])) ≡ Some (station (record plain { carrier = Packets })))
-unfolding clap_on_literals
-packets_carried = (refl, refl)
-
-lossy_station : (refusals (named (codes "--loss" ∷ codes "10" ∷ codes "--seed" ∷ codes "5" ∷ [])) ≡ [])
-    × (asked_of (named (codes "--loss" ∷ codes "10" ∷ codes "--seed" ∷ codes "5" ∷ []))
-    ≡ Some (station (record plain {
-      numbers = record { id = 1; peer = 2; idle = 0; first_number = 0; rate = 1000; losses = record { every = 0; percent = 10; seed = 5 } };
-    })))
-unfolding clap_on_literals
-lossy_station = (refl, refl)
-
 other_carrier : refusals (named (codes "--carrier" ∷ codes "Frames" ∷ [])) ≡ InvalidValue ∷ []
 unfolding clap_on_literals
 other_carrier = refl
 
-other_unit : refusals (named (codes "--unit" ∷ codes "us" ∷ [])) ≡ InvalidValue ∷ []
-unfolding clap_on_literals
-other_unit = refl
-
 none_at_once : refusals (named (codes "--at-once" ∷ codes "0" ∷ [])) ≡ ValueValidation ∷ []
 unfolding clap_on_literals
 none_at_once = refl
-
-many_retries : refusals (named (codes "--retries" ∷ codes "1001" ∷ [])) ≡ ValueValidation ∷ []
-unfolding clap_on_literals
-many_retries = refl
 
 no_peer : refusals (line (codes "station" ∷ codes "--id" ∷ codes "1" ∷ codes "--listen" ∷ codes "a" ∷ codes "--to" ∷ codes "b" ∷ [])) ≡ MissingRequiredArgument ∷ []
 unfolding clap_on_literals
@@ -292,20 +190,11 @@ plain_play : (refusals (line (codes "play" ∷ [])) ≡ [])
 unfolding clap_on_literals
 plain_play = (refl, refl)
 
-play_elsewhere : (refusals (line (codes "play" ∷ codes "--listen" ∷ codes "a" ∷ [])) ≡ [])
-    × (asked_of (line (codes "play" ∷ codes "--listen" ∷ codes "a" ∷ [])) ≡ Some (play (codes "a")))
-unfolding clap_on_literals
-play_elsewhere = (refl, refl)
-
 play_of_a_file : refusals (line (codes "play" ∷ codes "a" ∷ [])) ≡ UnknownArgument ∷ []
 unfolding clap_on_literals
 play_of_a_file = refl
 
 -- ---- ask
-
-asked_list : (refusals (line (codes "ask" ∷ codes "a" ∷ codes "list" ∷ [])) ≡ []) × (asked_of (line (codes "ask" ∷ codes "a" ∷ codes "list" ∷ [])) ≡ Some (ask (codes "a") (codes "list" ∷ [])))
-unfolding clap_on_literals
-asked_list = (refl, refl)
 
 asked_put : (refusals (line (codes "ask" ∷ codes "a" ∷ codes "put" ∷ codes "x" ∷ codes "y" ∷ [])) ≡ [])
     × (asked_of (line (codes "ask" ∷ codes "a" ∷ codes "put" ∷ codes "x" ∷ codes "y" ∷ [])) ≡ Some (ask (codes "a") (codes "put" ∷ codes "x" ∷ codes "y" ∷ [])))
@@ -341,10 +230,6 @@ other_kind = refl
 small_zone : refusals (line (codes "dump" ∷ codes "frames" ∷ codes "--zone" ∷ codes "15" ∷ [])) ≡ ValueValidation ∷ []
 unfolding clap_on_literals
 small_zone = refl
-
-large_zone : refusals (line (codes "dump" ∷ codes "frames" ∷ codes "--zone" ∷ codes "2041" ∷ [])) ≡ ValueValidation ∷ []
-unfolding clap_on_literals
-large_zone = refl
 
 flag_of_another : refusals (line (codes "sim" ∷ codes "--long" ∷ [])) ≡ UnknownArgument ∷ []
 unfolding clap_on_literals

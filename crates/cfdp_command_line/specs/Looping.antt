@@ -32,7 +32,7 @@ pairs_rule name = record (new_rule name) {
   long = Some name;
   action = Some Append;
   range = Some (record { start_inclusive = 2; end_inclusive = 2 });
-  value_names = 1;
+  value_names = 2;
 }
 
 -- the most turns: 1 to 1,000,000, and 10,000 where none are given

@@ -16,16 +16,16 @@ use Rattle.clap.specs.declared.builder.value_parser.ValueParser.TheVariants.{Uns
 use Rattle.clap.specs.declared.error.kind.ErrorKind.{ErrorKind}
 use Rattle.clap.specs.declared.error.kind.ErrorKind.TheVariants.{DisplayHelp, DisplayVersion, InvalidValue, OutOfMemory}
 use Rattle.clap.specs.declared.parser.matches.ArgMatches.{ArgMatches}
-use Rattle.cfdp_report.specs.declared.dump.form.DumpForm.{DumpForm}
-use Rattle.cfdp_report.specs.declared.dump.form.DumpForm.TheVariants.{Short, Long, Fields}
-use Rattle.cfdp_report.specs.declared.dump.shape.FrameShape.{FrameShape}
-use Rattle.cfdp_report.specs.Dump.Shape.{IsShape}
+use Rattle.cfdp_dump.specs.declared.spelled.form.DumpForm.{DumpForm}
+use Rattle.cfdp_dump.specs.declared.spelled.form.DumpForm.TheVariants.{Short, Long, Fields}
+use Rattle.cfdp_dump.specs.declared.spelled.shape.FrameShape.{FrameShape}
+use Rattle.cfdp_dump.specs.Spelled.Shape.{IsShape}
 use Rattle.frame_fields.specs.declared.config.FrameFields.{FrameFields}
-use Rattle.cfdp_script.specs.declared.dump.DumpRequest.{DumpRequest}
+use Rattle.cfdp_dump.specs.declared.dump.DumpRequest.{DumpRequest}
 use Rattle.cfdp_command_line.specs.declared.arguments.Request.{Request}
 use Rattle.cfdp_command_line.specs.declared.arguments.Request.TheVariants.{Sim, Dump, Loop, Station, Ask, Play, Version}
-use Rattle.cfdp_script.specs.declared.dump.DumpKind.{DumpKind}
-use Rattle.cfdp_script.specs.declared.dump.DumpKind.TheVariants.{Pdus, Frames}
+use Rattle.cfdp_dump.specs.declared.dump.DumpKind.{DumpKind}
+use Rattle.cfdp_dump.specs.declared.dump.DumpKind.TheVariants.{Pdus, Frames}
 use Rattle.cfdp_command_line.specs.Looping.{LoopAsked, loop_app, loop_asked, loop_of, number_in, number_rule, place_rule, words_for}
 use Rattle.cfdp_command_line.specs.Station.{StationAsked, station_app, station_asked, station_of}
 use Rattle.cfdp_command_line.specs.Shown.{ShownAsked, asked_shown, flag_rule, is_given, shown_of, with_shown}

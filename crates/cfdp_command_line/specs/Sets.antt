@@ -1,11 +1,11 @@
 -- What pairs of words set: the keys of settings, each with its value behind it.
 use Rattle.std.specs.Prelude.{◌≡◌, ◌⊎◌, List, [], ◌∷◌, Option, Some, None, option_and_then, option_map}
 use Rattle.clap.specs.Walk.{Text}
-use Rattle.link_sim.specs.declared.world_config.WorldConfig.{WorldConfig}
+use Rattle.station_pair.specs.declared.world_config.WorldConfig.{WorldConfig}
 use Rattle.cfdp_report.specs.Numbers.{number_of}
 use Rattle.cfdp_report.specs.Settings.{default_settings, set_value, setting_of, world_of}
 use Rattle.cfdp_report.specs.declared.settings.Settings.{Settings}
-use Rattle.cfdp_script.specs.Script.Lines.{AreValid}
+use Rattle.cfdp_report.specs.Settings.{AreValid}
 
 -- the settings after one pair; none where the first word is no key, or the second one no number
 abbrev pub set_by : (key value : Text) → Settings → Option Settings

@@ -5,7 +5,7 @@ use Rattle.std.specs.Str.{bytes_eq}
 use Rattle.clap.specs.Simple.{App, new_rule, with_rule}
 use Rattle.clap.specs.Walk.{Row, Rule, Text, first_of}
 use Rattle.clap.specs.declared.builder.action.ArgAction.TheVariants.{SetTrue}
-use Rattle.cfdp_report.specs.declared.watch.shown.Shown.{Shown}
+use Rattle.cfdp_watch.specs.declared.shown.Shown.{Shown}
 
 -- ---- the grammar
 

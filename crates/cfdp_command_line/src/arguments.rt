@@ -17,20 +17,21 @@ ghost use Rattle.cfdp_command_line.specs.Request.{frames_app, insert_rule, lines
 ghost use Rattle.cfdp_command_line.specs.Request.{told_app, top_app, zone_of_word, zone_rule};
 ghost use Rattle.cfdp_command_line.specs.Request.{listen_rule, play_app, play_of, read_app};
 ghost use Rattle.cfdp_command_line.specs.Request as asks;
-ghost use Rattle.cfdp_report.specs.Dump.Shape.{IsShape};
+ghost use Rattle.cfdp_dump.specs.Spelled.Shape.{IsShape};
 ghost use Rattle.cfdp_command_line.specs.Looping.{loop_app, loop_of};
 ghost use Rattle.cfdp_command_line.specs.Station.{station_app, station_of};
 ghost use Rattle.cfdp_command_line.specs.Shown.{file_rule, flag_rule};
 ghost use Rattle.cfdp_command_line.specs.Shown as showing;
 
-use crate::dropping::let_go;
 use crate::looping::{LoopRequest, loop_command, loop_request, number_in};
 use crate::settings_file::with_settings;
 use crate::shown::{shown_by, shown_command};
 use crate::station::{StationRequest, owned_words, station_command, station_request};
 use aos_frame::{FrameFields, LEAST_ZONE, MOST_ZONE};
-use cfdp_report::{DumpForm, FrameShape, SettingsHelp, Shown};
-use cfdp_script::{DumpKind, DumpRequest};
+use cfdp_config::value_said;
+use cfdp_dump::{DumpForm, DumpKind, DumpRequest, FrameShape};
+use cfdp_report::SettingsHelp;
+use cfdp_watch::Shown;
 use clap::error::ErrorKind;
 use clap::{Arg, ArgAction, ArgMatches, Command, Error, value_parser};
 use std::alloc::{AllocError, Global};
@@ -81,165 +82,150 @@ const NO_MEMORY: u8 = 3;
 
 // What stands before the settings in the help of `sim`, and what stands behind them.
 const SIM_COMMANDS: &str = "\
-The script is read from FILE, or from standard input: at most 1,048,576 octets
-in lines of at most 4,096 that end with LF or CR LF, ASCII, one command a line,
-words with one space between. Empty lines and lines that begin with # are
-skipped. S is the station, 1 or 2; ID is a transaction, SOURCE:NUMBER.
+A script is ASCII text, one command a line, with one space between words. Empty
+lines and lines that begin with # are skipped. S is a station, 1 or 2. ID is a
+transaction, such as 1:7. LANE is data (frames of file data) or dir (all other
+frames); without it, both. Limits: 1,048,576 octets in a script and in
+a file, 4,096 in a line.
+
 First, what the stations have:
-  set KEY N             a setting of both stations, see below
-  file S NAME TEXT      a file in the outbox of S; TEXT is the rest of the line,
-                        and the last line of a name counts
-  fill S NAME N HH      a file of N octets, each hexadecimal HH; N to 1048576
+  set KEY N              set a key of both stations (see below)
+  file S NAME TEXT       give S a file with the rest of the line in it
+  fill S NAME N HH       give S a file of N octets HH (hexadecimal)
 Then, what happens:
-  put S SRC DST         S sends its file SRC to the other station, as DST
-  cancel S ID           S gives the transaction up
-  suspend S ID          S sends nothing more of it, until resume S ID
-  prompt S ID nak       S asks the receiver of its file what it misses, or, with
-                        keep for nak, how far it has come
-  poll S                S sends its next PDU, and all frames that are full then
-  flush S               S fills up the begun frame of each lane and sends it
-  spread S              S polls until nothing is due, with a flush after each PDU
-  burst S               S polls until nothing is due, then flushes once
-  tick S N              S is told that the time is N
-  deliver S [N]         the N oldest frames of S arrive (default 1; 0: none)
-  strike S [N]          the N oldest frames that S sent are lost (default 1)
-  deliver S LANE [N], strike S LANE [N]
-                        the same of a lane: data, whose frames carry file data,
-                        or dir, whose frames carry all other PDUs
-  damage S [LANE] AT HH the oldest frame that S sent comes with the octet HH
-                        behind its first AT octets; the other station drops it,
-                        if error_control is set
-  settle                both poll and flush and all arrives, until nothing is due
-  recover               settle, then tick the station whose timer is next, again
-                        and again, until no timer but for inactivity is left
-With one of these the link keeps no order, and nothing can be shown:
-  overtake S [LANE] N   a frame arrives before the N that S sent before it
-  repeat S [LANE] N     the frame of S that arrived N ago (1: the last) comes again
-  restart S             S starts anew: it keeps its files, and no transaction
+  put S SRC DST          send the file SRC of S to the other station, as DST
+  cancel S ID            cancel the transaction
+  suspend S ID           suspend it, until resume S ID
+  prompt S ID nak|keep   ask the receiver for its NAKs, or for a Keep Alive
+  poll S                 send the next PDU, and all frames that are full
+  flush S                fill up the unfinished frame of each lane, and send it
+  spread S               poll until nothing is due, with a flush after each PDU
+  burst S                poll until nothing is due, then flush once
+  tick S N               tell S that the time is N
+  deliver S [LANE] [N]   deliver the N oldest frames that S sent (default: 1)
+  strike S [LANE] [N]    lose the N oldest frames that S sent (default: 1)
+  damage S [LANE] AT HH  deliver the oldest frame that S sent with octet AT
+                         (from 0) set to HH; needs error_control to be noticed
+  settle                 poll, flush and deliver until nothing is due
+  recover                settle, then tick the next timer, until only inactivity
+                         timers are left
+After one of these the link keeps no order, and no option of Output works:
+  overtake S [LANE] N    deliver a frame ahead of the N that S sent before it
+  repeat S [LANE] N      deliver again the frame that arrived N ago (1: last)
+  restart S              restart S: it keeps its files, but no transaction
 
 Settings, with their defaults:
 ";
 
 const SIM_REPORT: &str = "
-Report: a line for each command that could not do its work, what each station
-tells its user, the files received with their checksums, and how many of the
-puts were completed. A command that could not do its work is told as
-  line N Nothing        there was nothing to do
-  line N NoSuchFile     or Name, TooLarge, TableFull, NumbersSpent: a put refused
-  line N Unknown        or WrongSide, AlreadyClosed, AlreadySo: a call refused
-  line N LossRunTooLong too many frames lost in a row
-  line N NotDamaged     the other station would not see that it is damaged
-  line N NoMemory       or StoreFailed, TableFull: it ended early
-  line N StillArmed     after 24576 ticks of recover a timer is left
-  line N NoSuchFrame    no such frame waits, or has arrived
-Conditions, as in 'fault ID 7': 0 none, 1 no ACK came, 4 the store failed,
-5 checksum, 6 size, 7 NAKs were of no use, 8 silence, 11 unknown checksum type,
-14 suspended, 15 cancelled. --explain tells them in words.
+Report: what each station tells its user, the files received with their
+checksums, and how many puts were completed. Before that, 'line N ANSWER' for
+each command that failed:
+  Nothing                       nothing to do
+  NoSuchFile, Name, TooLarge, TableFull, NumbersSpent   put refused
+  Unknown, WrongSide, AlreadyClosed, AlreadySo          call refused
+  NoSuchFrame                   no such frame waits, or has arrived
+  LossRunTooLong                too many frames lost in a row
+  NotDamaged                    the other station would not notice the damage
+  StillArmed                    a timer is left after 24576 ticks of recover
+  NoMemory, StoreFailed         it ended early; also TableFull
+Condition codes, as in 'fault ID 7': 0 no error, 1 ACK limit, 4 filestore, 5
+checksum, 6 file size, 7 NAK limit, 8 inactivity, 11 unsupported checksum type,
+14 suspended, 15 cancelled.
 
-With --explain, on standard error at the end: how many frames a command took if
-fewer waited than it asked for, what the conditions say that came up, and what
-each station sent, what of that was lost, and what it dropped. Of a bad script
-it says why that line is bad.
-With --trace, a line for each thing that a station did, on standard error: the
-line of the script and the number of the event, as 3.10, the station, and what
-it did: ticks (it was told the time), sends, takes a frame or hears a PDU, which
-arrive, loses a frame that it sent, drops, tells its user. In front of a frame
-stands its lane.
-With --chart FILE, the same as a sequence diagram in Mermaid's text.
-With --pcap FILE, the PDUs that are sent go to FILE for Wireshark, with the
-number of the event as time and the lane as interface. There, in Preferences,
-Protocols, DLT_USER, User 0 (DLT=147) is to have the payload dissector cfdp.
+In Wireshark, set the payload dissector of User 0 (DLT=147) to cfdp, in
+Preferences, Protocols, DLT_USER.
 
 Exit status: 0 all puts completed, 1 some not, 2 bad script or arguments,
-3 a failed read, write or store, or no memory (told on standard error).
+3 failed read, write or store, or out of memory.
 
 Example:
   printf 'file 1 a.txt hello\\nput 1 a.txt b.txt\\nsettle\\n' | cfdp_node sim";
 
 const DUMP_HELP: &str = "\
-Input, from FILE or standard input: a PDU or a frame a line, as pairs of
-hexadecimal digits of either case, at most 1,048,576 octets in all. With --text
-spaces may stand between the digits and 0x before a word, lines may end with
-CR LF, and a PDU or a frame may stand in several lines with offsets, as xxd,
-hexdump -C and Wireshark write them, with an empty line between two. A capture,
-pcap or pcapng, needs no option: each UDP datagram has a PDU or a frame, or with
-link types 147 to 162 each packet. Captures and text have at most 67,108,864
-octets.
-Output: a line for each; ID is the source and the number of the transaction.
+Input: one PDU or frame a line, as pairs of hexadecimal digits, in all at most
+1,048,576 octets; or a capture (pcap or pcapng), whose UDP payloads are decoded.
+A capture, and lines with --text, may have 67,108,864 octets.
+
+Output: one line each; ID is SOURCE:NUMBER.
   data ID OFFSET LENGTH
   metadata ID CHECKSUM-TYPE SIZE SRC DST
   eof ID CONDITION CHECKSUM SIZE
   finished ID CONDITION DELIVERY STATUS
   ack ID OF CONDITION STATUS        OF is 4 for an EOF, 5 for a Finished
-  nak ID START END A-B ..           a pair for each range that is asked for
+  nak ID START END A-B ..           A-B is a missing range
   prompt ID nak, prompt ID keep
   keepalive ID N
   frame SPACECRAFT CHANNEL COUNT POINTER
-  error N NAME                      why it is none
-With --long a line goes on. That of a frame:
-  dir, data                         its lane, where CHANNEL is one of those that
-                                    scripts use: 5 and 6 dir, 7 and 8 data
-  cycle                             its COUNT has 28 bits; else it has 24
+  error N NAME                      not a PDU or frame; see below
+Words that --long adds to a frame:
+  dir, data                         its lane: channels 5 and 6 dir, 7 and 8 data
+  cycle                             COUNT has 28 bits (otherwise 24)
   insert VV.., control VV.., check VV..
-                                    its insert zone, its operational control
-                                    field, its frame error control field
-That of a PDU:
-  toward receiver destination N     or sender; N is the entity that receives the
-                                    file, whichever way the PDU goes
-  large                             sizes and offsets have 8 octets; else 4
-  fault-location N                  the entity that a fault location names
-  tlv TT:VV..                       each option, type and value in hexadecimal
-  crc VVVV                          its CRC, where it has one
-With --fields there is a line for each field instead, NAME: VALUE (SECTION), and
-an empty line behind each PDU, frame or error. SECTION is one of CCSDS
-727.0-B-5, as CFDP 5.2.4, or of CCSDS 732.0-B-4, as AOS 4.1.2.3.
-With --deep lines behind that of a frame say what it carries:
-  missing N                         so many frames of its channel before it
-  idle                              idle data only
-  cut                               a begun packet doesn't go on in it
-  bad N                             so many packet headers of another version
-  packet APID COUNT LENGTH          a packet ends in it; behind that its PDU
+                                    insert zone, operational control field and
+                                    frame error control field
+Words that --long adds to a PDU:
+  toward receiver destination N     or toward sender; N receives the file
+  large                             sizes and offsets have 8 octets
+  fault-location N                  the entity that found the fault
+  tlv TT:VV..                       an option: type and value
+  crc VVVV                          its CRC
+Lines that --deep adds to a frame:
+  missing N                         frames of its channel missing before it
+  idle                              it has only idle data
+  cut                               the packet before does not continue in it
+  bad N                             packet headers of another version
+  packet APID COUNT LENGTH          a packet that ends in it; then its PDU
   unfollowed                        64 other channels are followed already
-Errors of any line: 0 Hex (no such digits). With --long or --fields the column
-follows, or 'odd digits', and after 1 Length how many octets there are.
-Errors of PDUs: 1 Short, 2 Version, 3 BadCrc, 4 Length, 5 Unacknowledged,
-7 Directive, 8 Truncated, 9 Trailing, 10 Tlv, 11 Condition; 6 is no longer used.
-Errors of frames: 1 Length (mostly: another --zone, or other fields, are meant),
-12 Damaged (with --error-control), 2 Version, 3 OtherProfile, 6 OnlyIdle.
-Errors of captures: 20 CutOff, 21 BadLength, 22 BadOrder, 23 BadVersion,
-24 BadInterface; of packets in them: 25 SnapLength, 26 OtherLink, 27 NotIp,
+Errors: 0 Hex; of PDUs 1 Short, 2 Version, 3 BadCrc, 4 Length, 5 Unacknowledged,
+7 Directive, 8 Truncated, 9 Trailing, 10 Tlv, 11 Condition; of frames 1 Length
+(check --zone and the options of its fields), 2 Version, 3 OtherProfile,
+6 OnlyIdle, 12 Damaged; of captures 20 CutOff, 21 BadLength, 22 BadOrder,
+23 BadVersion, 24 BadInterface, 25 SnapLength, 26 OtherLink, 27 NotIp,
 28 Fragment, 29 NotUdp, 30 Malformed.
 
-Exit status: 0 whatever the lines say, 2 bad arguments, 3 a failed read or
-write, or no memory (told on standard error).
+Exit status: 0 whatever the lines say, 2 bad arguments, 3 failed read or write,
+or out of memory.
 
-Example, which prints 'eof 1:1 0 D7656C6C 5':
-  echo 20000A1300010000000100020400D7656C6C00000005 | cfdp_node dump pdus";
+Examples (the first prints 'eof 1:1 0 D7656C6C 5'):
+  echo 20000A1300010000000100020400D7656C6C00000005 | cfdp_node dump pdus
+  cfdp_node dump frames --deep capture.pcap";
 
 // What is said where KIND is none.
 const NO_KIND: &str = "\
-KIND says what each line of the input is: pdus or frames. An example:
+KIND must be pdus or frames. Example:
   echo 20000A1300010000000100020400D7656C6C00000005 | cfdp_node dump pdus";
 
 const ASK_HELP: &str = "\
-Connects to a station that runs with '--control ADDR', and sends it the words as
-one line. What it answers goes to standard output.
+Commands of a station:
+  put [--first] SRC DST  send the file SRC as DST; --first: before waiting files
+  cancel ID              cancel the transaction ID, e.g. 1:7
+  suspend ID             suspend the transaction
+  resume ID              resume the transaction
+  prompt ID nak|keep     ask the peer for its NAKs, or for a Keep Alive
+  freeze                 planned outage: send and accept nothing, stop timers
+  thaw                   end the planned outage
+  list                   list open transactions
+  counters               print the counters
+  stop [now]             finish the open puts, then exit; now: exit at once
+  help                   list all commands
 
-Exit status: 0 it answered, 1 it refused the command, 2 bad arguments, 3 nothing
-answers there (told on standard error).
+Exit status: 0 done, 1 command refused, 2 bad arguments, 3 no answer.
 
-Example:
-  cfdp_node ask 127.0.0.1:5101 list";
+Examples:
+  cfdp_node ask 127.0.0.1:5101 list
+  cfdp_node ask 127.0.0.1:5101 put --first a.bin b.bin";
 
 const PLAY_HELP: &str = "\
-Writes the address of a page, and serves it until it is ended (Ctrl-C). In the
-page two stations and the link between them run a script, which grows by what is
-clicked: what 'cfdp_node sim' writes for that script, the page shows. It has all
-that it needs in itself. Nothing is kept from one request to the next. Nobody
-but this machine reaches it.
+Prints the address of the page, and serves it until Ctrl-C. Click in the page to
+send files, and to deliver, lose or damage frames; it shows the script of your
+clicks, and what 'cfdp_node sim' prints for it. ADDR is HOST:PORT, an address of
+this machine alone, so no other machine can reach the page.
 
-Exit status: 2 bad arguments, 3 the address can't be had (told on standard
-error).";
+Exit status: 2 bad arguments, 3 the address is not available.
+
+Example:
+  cfdp_node play --listen 127.0.0.1:8090";
 
 /// Reads the process's arguments.
 ///
@@ -351,24 +337,26 @@ fn misfit(alloc: Global, words: &[String]) -> Result<Error, AllocError>
     ensures { IfOk result (λ e. kind_of e ≡ ErrorKind.InvalidValue) }
 {
     match words {
-        [_, command, ..] if command.as_str() == "station" => station_misfit(alloc),
+        [_, command, said @ ..] if command.as_str() == "station" => station_misfit(alloc, said),
         _ => dump_misfit(alloc),
     }
 }
 
-/// What is wrong with words of `station` whose carrier or unit is none.
+/// What is wrong with the words behind `station`, of which the carrier or the unit is none.
 ///
 /// # Errors
 ///
 /// `AllocError` where there is no memory.
-fn station_misfit(alloc: Global) -> Result<Error, AllocError>
+fn station_misfit(alloc: Global, said: &[String]) -> Result<Error, AllocError>
     ensures { IfOk result (λ e. kind_of e ≡ ErrorKind.InvalidValue) }
 {
+    let carrier = value_said(said, "carrier").unwrap_or("frames");
+    let unit = value_said(said, "unit").unwrap_or("s");
+    let wrong = format!(in alloc;
+        "--carrier must be frames, packets or pdus (got {carrier}), and --unit s or ms (got {unit})"
+    )?;
     let mut station = station_command(alloc)?.bin_name("cfdp_node station")?;
-    station.error(
-        ErrorKind::InvalidValue,
-        "--carrier is frames, packets or pdus, and --unit is s or ms",
-    )
+    station.error(ErrorKind::InvalidValue, wrong.as_str())
 }
 
 /// What is wrong with words of `dump` whose KIND is none.
@@ -622,7 +610,7 @@ fn grammar<'a>(alloc: Global, sim_help: &'a str) -> Result<Command<'a>, AllocErr
     match play_command(alloc) {
         Ok(play) => told.subcommand(play),
         Err(AllocError) => {
-            let_go(told);
+            drop(told);
             Err(AllocError)
         }
     }
@@ -638,7 +626,7 @@ fn asking_grammar<'a>(alloc: Global, sim_help: &'a str) -> Result<Command<'a>, A
     match ask_command(alloc) {
         Ok(ask) => told.subcommand(ask),
         Err(AllocError) => {
-            let_go(told);
+            drop(told);
             Err(AllocError)
         }
     }
@@ -653,7 +641,7 @@ fn stations_grammar<'a>(alloc: Global, sim_help: &'a str) -> Result<Command<'a>,
     match station_command(alloc) {
         Ok(station) => told.subcommand(station),
         Err(AllocError) => {
-            let_go(told);
+            drop(told);
             Err(AllocError)
         }
     }
@@ -668,7 +656,7 @@ fn files_grammar<'a>(alloc: Global, sim_help: &'a str) -> Result<Command<'a>, Al
     match loop_command(alloc) {
         Ok(looped) => told.subcommand(looped),
         Err(AllocError) => {
-            let_go(told);
+            drop(told);
             Err(AllocError)
         }
     }
@@ -683,7 +671,7 @@ fn lines_grammar<'a>(alloc: Global, sim_help: &'a str) -> Result<Command<'a>, Al
     match dump_command(alloc) {
         Ok(dump) => told.subcommand(dump),
         Err(AllocError) => {
-            let_go(told);
+            drop(told);
             Err(AllocError)
         }
     }
@@ -697,7 +685,7 @@ fn script_grammar<'a>(alloc: Global, sim_help: &'a str) -> Result<Command<'a>, A
     match sim_command(alloc, sim_help) {
         Ok(sim) => top.subcommand(sim),
         Err(AllocError) => {
-            let_go(top);
+            drop(top);
             Err(AllocError)
         }
     }
@@ -708,19 +696,17 @@ fn top_command<'a>(alloc: Global) -> Result<Command<'a>, AllocError>
 {
     Command::new(alloc, "cfdp_node")
         .bin_name("cfdp_node")?
-        .about("Sends files by the CCSDS File Delivery Protocol, between two stations or as one")
-        .after_help(
-            "'cfdp_node sim --help' shows the commands of a script, 'cfdp_node dump --help' the lines of a dump, 'cfdp_node loop --help' what is sent how, 'cfdp_node station --help' how one station runs, 'cfdp_node ask --help' how a station that runs is told what to do.",
-        )
+        .about("Transfer files by CFDP class 2, over space packets and AOS frames")
+        .after_help("'cfdp_node COMMAND --help' shows the options of a command, with examples.")
         .arg_required_else_help(true)
-        .arg(flag(alloc, "version", "Prints the version"))
+        .arg(flag(alloc, "version", "Print the version"))
 }
 
 fn sim_command<'a>(alloc: Global, help: &'a str) -> Result<Command<'a>, AllocError>
     ensures { IfOk result (IsCommand sim_app) }
 {
     let plain = Command::new(alloc, "sim")
-        .about("Runs a script of two stations, and reports on standard output")
+        .about("Run a script of two simulated stations, and print a report")
         .after_help(help);
     shown_command(alloc, plain)?.arg(input_argument(alloc))
 }
@@ -736,20 +722,23 @@ fn told_command<'a>(alloc: Global) -> Result<Command<'a>, AllocError>
     ensures { IfOk result (IsCommand told_app) }
 {
     read_command(alloc)?
-        .arg(flag(
+        .arg(flag_under(
             alloc,
+            "Output",
             "long",
-            "Tells also direction, destination, fault location and options of a PDU",
+            "Add direction, destination, options and other fields",
         ))?
-        .arg(flag(
+        .arg(flag_under(
             alloc,
+            "Output",
             "fields",
-            "Tells each field in a line of its own, with its section of the standard",
+            "Print each field on its own line, with its section",
         ))?
-        .arg(flag(
+        .arg(flag_under(
             alloc,
+            "Output",
             "deep",
-            "Tells also the packets in frames, and the PDUs in these",
+            "Add the packets in frames, and the PDUs in these",
         ))
 }
 
@@ -757,8 +746,9 @@ fn told_command<'a>(alloc: Global) -> Result<Command<'a>, AllocError>
 fn read_command<'a>(alloc: Global) -> Result<Command<'a>, AllocError>
     ensures { IfOk result (IsCommand read_app) }
 {
-    frames_command(alloc)?.arg(flag(
+    frames_command(alloc)?.arg(flag_under(
         alloc,
+        "Input",
         "text",
         "Read lines as xxd, hexdump -C and Wireshark write them",
     ))
@@ -770,15 +760,17 @@ fn frames_command<'a>(alloc: Global) -> Result<Command<'a>, AllocError>
 {
     lines_command(alloc)?
         .arg(insert_argument(alloc))?
-        .arg(flag(
+        .arg(flag_under(
             alloc,
+            "Frames",
             "control-field",
-            "Frames have an operational control field",
+            "Expect an operational control field",
         ))?
-        .arg(flag(
+        .arg(flag_under(
             alloc,
+            "Frames",
             "error-control",
-            "Frames have a frame error control field",
+            "Expect a frame error control field",
         ))
 }
 
@@ -787,7 +779,7 @@ fn lines_command<'a>(alloc: Global) -> Result<Command<'a>, AllocError>
     ensures { IfOk result (IsCommand lines_app) }
 {
     Command::new(alloc, "dump")
-        .about("Tells on standard output what lines spell")
+        .about("Decode PDUs or transfer frames, one per line")
         .after_help(DUMP_HELP)
         .arg(kind_argument(alloc))?
         .arg(zone_argument(alloc))
@@ -803,7 +795,7 @@ fn play_command<'a>(alloc: Global) -> Result<Command<'a>, AllocError>
     ensures { IfOk result (IsCommand play_app) }
 {
     Command::new(alloc, "play")
-        .about("Serves a page in a browser in which two stations can be tried")
+        .about("Serve a web page to try out two stations")
         .after_help(PLAY_HELP)
         .arg(listen_argument(alloc))
 }
@@ -813,7 +805,7 @@ fn address_command<'a>(alloc: Global) -> Result<Command<'a>, AllocError>
     ensures { IfOk result (IsCommand address_app) }
 {
     Command::new(alloc, "ask")
-        .about("Sends a command to a station, and prints what it answers")
+        .about("Send a command to a running station, and print its answer")
         .after_help(ASK_HELP)
         .arg(address_argument(alloc))
 }
@@ -826,7 +818,7 @@ fn listen_argument<'a>(alloc: Global) -> Arg<'a>
         .long("listen")
         .value_name("ADDR")
         .default_value("127.0.0.1:8090")
-        .help("The TCP address of the page, on this machine: HOST:PORT")
+        .help("Serve the page at this address")
 }
 
 /// A command with one argument more.
@@ -848,6 +840,13 @@ pub fn flag<'a>(alloc: Global, name: &'a str, help: &'a str) -> Arg<'a>
         .action(ArgAction::SetTrue)
 }
 
+/// The same, under a heading of the help.
+pub fn flag_under<'a>(alloc: Global, heading: &'a str, name: &'a str, help: &'a str) -> Arg<'a>
+    ensures { (rule_of result ≡ flag_rule name.now) × (result.global ≡ false) }
+{
+    flag(alloc, name, help).help_heading(heading)
+}
+
 /// A file that something is written to.
 pub fn file_for<'a>(alloc: Global, name: &'a str, help: &'a str) -> Arg<'a>
     ensures { (rule_of result ≡ file_rule name.now) × (result.global ≡ false) }
@@ -858,12 +857,19 @@ pub fn file_for<'a>(alloc: Global, name: &'a str, help: &'a str) -> Arg<'a>
         .help(help)
 }
 
+/// The same, under a heading of the help.
+pub fn file_under<'a>(alloc: Global, heading: &'a str, name: &'a str, help: &'a str) -> Arg<'a>
+    ensures { (rule_of result ≡ file_rule name.now) × (result.global ≡ false) }
+{
+    file_for(alloc, name, help).help_heading(heading)
+}
+
 fn input_argument<'a>(alloc: Global) -> Arg<'a>
     ensures { (rule_of result ≡ input_rule) × (result.global ≡ false) }
 {
     Arg::new(alloc, "file")
         .value_name("FILE")
-        .help("What is read; standard input without it")
+        .help("The file to read (default: standard input)")
 }
 
 fn address_argument<'a>(alloc: Global) -> Arg<'a>
@@ -871,7 +877,7 @@ fn address_argument<'a>(alloc: Global) -> Arg<'a>
 {
     Arg::new(alloc, "address")
         .value_name("ADDR")
-        .help("The address of --control of that station")
+        .help("The --control address of the station, e.g. 127.0.0.1:5101")
         .required(true)
 }
 
@@ -880,7 +886,7 @@ fn words_argument<'a>(alloc: Global) -> Arg<'a>
 {
     Arg::new(alloc, "words")
         .value_name("WORD")
-        .help("The words of the command; help lists all commands")
+        .help("The words of the command (see below)")
         .action(ArgAction::Append)
         .num_args(1..)
         .required(true)
@@ -891,7 +897,7 @@ fn kind_argument<'a>(alloc: Global) -> Arg<'a>
 {
     Arg::new(alloc, "kind")
         .value_name("KIND")
-        .help("What the lines are: pdus or frames")
+        .help("What each line is: pdus or frames")
         .required(true)
 }
 
@@ -900,8 +906,9 @@ fn zone_argument<'a>(alloc: Global) -> Arg<'a>
 {
     Arg::new(alloc, "zone")
         .long("zone")
-        .value_name("Z")
-        .help("Octets of a frame's packet zone, 16 to 2040")
+        .value_name("OCTETS")
+        .help("Set the zone length, 16 to 2040")
+        .help_heading("Frames")
         .value_parser(value_parser!(u64).range(LEAST_ZONE as i64..=MOST_ZONE as i64))
         .default_value("256")
 }
@@ -911,8 +918,9 @@ fn insert_argument<'a>(alloc: Global) -> Arg<'a>
 {
     Arg::new(alloc, "insert-zone")
         .long("insert-zone")
-        .value_name("I")
-        .help("Octets of a frame's insert zone, 0 to 64")
+        .value_name("OCTETS")
+        .help("Set the insert zone length, 0 to 64")
+        .help_heading("Frames")
         .value_parser(value_parser!(u64).range(0..=64))
         .default_value("0")
 }
@@ -928,7 +936,9 @@ fn answered(rt: &HostRuntime, error: &Error) -> u8
     }
     let printed = error.print(rt);
     if error.kind() == ErrorKind::ValueValidation {
-        let _ = eprintln!(rt; "A number is a whole one from 0 to 18446744073709551615, in digits.");
+        let _ = eprintln!(rt;
+            "help: numbers are whole, in decimal digits, 0 to 18446744073709551615"
+        );
     }
     if error.use_stderr() {
         MISTAKE
@@ -944,7 +954,7 @@ fn unread_status(rt: &HostRuntime, error: &io::Error) -> u8
     ensures { (result ≡ MISTAKE) ⊎ (result ≡ NO_MEMORY) }
 {
     if error.kind() == io::ErrorKind::InvalidData {
-        let _ = eprintln!(rt; "error: an argument isn't UTF-8");
+        let _ = eprintln!(rt; "error: an argument is not valid UTF-8");
         MISTAKE
     } else {
         NO_MEMORY

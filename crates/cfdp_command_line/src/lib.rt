@@ -4,7 +4,6 @@
 #![tactic(auto)]
 
 mod arguments;
-mod dropping;
 mod looping;
 mod losses;
 mod sets;
@@ -14,7 +13,7 @@ mod station;
 
 pub use arguments::{Request, SimRequest, parse, read, version_status};
 pub use looping::LoopRequest;
-pub use losses::LossRequest;
+pub use losses::{LossRequest, frame_losses, note_losses};
 pub use sets::SetError;
 pub use station::{
     CarrierKind, StationFlags, StationLimits, StationNumbers, StationRequest, TimeUnit,

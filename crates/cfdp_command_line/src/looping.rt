@@ -15,9 +15,9 @@ use crate::losses::{LossRequest, losses_command, losses_of};
 use crate::sets::{SetError, configuration};
 use crate::shown::{shown_by, shown_command};
 use crate::station::{owned_words, pairs};
-use cfdp_report::Shown;
+use cfdp_watch::Shown;
 use clap::{Arg, ArgMatches, Command, value_parser};
-use link_sim::WorldConfig;
+use station_pair::WorldConfig;
 use std::alloc::{AllocError, Global};
 use valid_config::Valid;
 
@@ -70,37 +70,23 @@ struct LoopWords<'a> {
 }
 
 const LOOP_HELP: &str = "\
-Two stations of this process, over two UDP sockets of 127.0.0.1: the first
-sends the file SRC of the folder FROM, the second puts it into the folder TO,
-as DST. A name is 1 to 64 of A-Z a-z 0-9 . _ - and begins with no point. A file
-of up to 2^48 octets is read as it is sent. Where a read finds that it changed,
-a line on standard error says so, and nothing comes. DST appears whole or not at
-all, in the place of a file of that name.
-In a turn both stations are told its number as the time, send, and take what
-came: 16 PDUs of each at most. The run ends when the transfer is over at both,
-or after N turns; if it isn't over then, a line on standard error says so.
-With --loss P each frame is lost with a probability of P percent, and has to be
-asked for: the same frames with the same --seed. With --drop K each Kth frame is
-lost, counted over both stations in the order in which the frames leave. Both
-options may be given.
-With --set KEY N, as often as it is said, both are set up as by 'set KEY N' in a
-script: 'sim --help' has the keys and their defaults. So frames of both
-directions have the fields that insert_zone, control_field and error_control
-set. Times are numbers of turns. Where on_ack_limit, on_nak_limit or
-on_inactivity is 1 or 2, a transfer may stay open until the turns are used up.
+Two stations of this process, with UDP sockets of 127.0.0.1: the first sends SRC
+of FROM, the second publishes it as DST in TO, whole or not at all, and replaces
+a file of that name. Names are 1 to 64 of A-Z a-z 0-9 . _ - with no point first.
+In each turn both stations get the number of the turn as their time, send up to
+16 PDUs, and receive. The run ends when the transfer is over at both stations,
+or after --turns.
 
-Report: as that of sim, without the files.
---trace, --chart FILE, --pcap FILE and --explain show as those of sim what
-passes, and what went wrong; in the place of a script's line stands the number
-of the turn, 0 for the put.
-Where standard error is a terminal, one line on it says how far the transfer is:
-octets received, gaps between them, and PDUs that both stations sent.
+Keys of --set and their defaults are in 'sim --help'. Times are in turns.
+If on_ack_limit, on_nak_limit or on_inactivity is 1 or 2, a transfer may stay
+open until the last turn. The report is that of 'sim', without the files; a
+trace shows the number of the turn where 'sim' shows the line.
 
-Exit status: 0 the file was delivered, 1 it wasn't, 2 bad arguments, 3 a folder,
-a file, a socket or the output failed, or no memory (told on standard error).
+Exit status: 0 the file was delivered, 1 it was not, 2 bad arguments,
+3 a folder, a file, a socket or the output failed, or out of memory.
 
 Examples:
-  mkdir a b && echo hello > a/x && cfdp_node loop a b x y --loss 20
+  mkdir a b && echo hello > a/x && cfdp_node loop a b x y --loss 20 --trace
   cfdp_node loop a b x y --set zone 1024 --set error_control 1";
 
 /// The grammar of what stands behind `loop`.
@@ -117,8 +103,8 @@ fn set_command<'a>(alloc: Global) -> Result<Command<'a>, AllocError>
     numbers_command(alloc)?.arg(pairs(
         alloc,
         "set",
-        "WORD",
-        "Sets the value of a key, for both stations",
+        &["KEY", "N"],
+        "Set a key of both stations; repeatable",
     ))
 }
 
@@ -134,8 +120,8 @@ fn files_command<'a>(alloc: Global) -> Result<Command<'a>, AllocError>
     ensures { IfOk result (IsCommand files_app) }
 {
     folders_command(alloc)?
-        .arg(place(alloc, "source", "SRC", "Its name in FROM"))?
-        .arg(place(alloc, "destination", "DST", "Its name in TO"))
+        .arg(place(alloc, "source", "SRC", "The name of the file in FROM"))?
+        .arg(place(alloc, "destination", "DST", "The name that it gets in TO"))
 }
 
 /// The same with both folders alone.
@@ -143,10 +129,10 @@ fn folders_command<'a>(alloc: Global) -> Result<Command<'a>, AllocError>
     ensures { IfOk result (IsCommand folders_app) }
 {
     Command::new(alloc, "loop")
-        .about("Sends a file from one folder to another, by two stations over two UDP sockets")
+        .about("Send a file from one folder to another, through two stations over UDP")
         .after_help(LOOP_HELP)
-        .arg(place(alloc, "from", "FROM", "The folder that the file lies in"))?
-        .arg(place(alloc, "to", "TO", "The folder that it is to come to"))
+        .arg(place(alloc, "from", "FROM", "The folder to send from"))?
+        .arg(place(alloc, "to", "TO", "The folder to receive into"))
 }
 
 /// A word that has to be said.
@@ -165,7 +151,7 @@ fn turns_argument<'a>(alloc: Global) -> Arg<'a>
     Arg::new(alloc, "turns")
         .long("turns")
         .value_name("N")
-        .help("The most turns, 1 to 1000000")
+        .help("Stop after N turns, 1 to 1000000")
         .value_parser(value_parser!(u64).range(1..=1000000))
         .default_value("10000")
 }
@@ -173,6 +159,7 @@ fn turns_argument<'a>(alloc: Global) -> Arg<'a>
 /// A number up to 1,000,000, and the one that stands for it where none is said.
 pub fn tuned<'a>(
     alloc: Global,
+    heading: &'a str,
     name: &'a str,
     shown: &'a str,
     default: &'a str,
@@ -184,6 +171,7 @@ pub fn tuned<'a>(
         .long(name)
         .value_name(shown)
         .help(help)
+        .help_heading(heading)
         .value_parser(value_parser!(u64).range(0..=1000000))
         .default_value(default)
 }

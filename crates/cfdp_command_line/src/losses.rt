@@ -9,6 +9,7 @@ ghost use Rattle.cfdp_command_line.specs.Request.{HasNoGlobals, IsCommand};
 
 use crate::arguments::with_argument;
 use crate::looping::{number_in, tuned};
+use cfdp_port::FrameLosses;
 use clap::{Arg, ArgMatches, Command, value_parser};
 use std::alloc::{AllocError, Global};
 
@@ -38,10 +39,11 @@ fn drop_argument<'a>(alloc: Global) -> Arg<'a>
 {
     tuned(
         alloc,
+        "Simulated losses",
         "drop",
         "K",
         "0",
-        "Loses each Kth frame, up to 1000000; 0 loses none",
+        "Lose each Kth frame (0: none)",
     )
 }
 
@@ -50,8 +52,9 @@ fn loss_argument<'a>(alloc: Global) -> Arg<'a>
 {
     Arg::new(alloc, "loss")
         .long("loss")
-        .value_name("P")
-        .help("Loses each frame with a probability of P percent, 0 to 100")
+        .value_name("PERCENT")
+        .help("Lose each frame with this probability")
+        .help_heading("Simulated losses")
         .value_parser(value_parser!(u64).range(0..=100))
         .default_value("0")
 }
@@ -62,7 +65,8 @@ fn seed_argument<'a>(alloc: Global) -> Arg<'a>
     Arg::new(alloc, "seed")
         .long("seed")
         .value_name("N")
-        .help("Where the random numbers of --loss begin")
+        .help("Seed the random numbers of --loss")
+        .help_heading("Simulated losses")
         .value_parser(value_parser!(u64))
         .default_value("1")
 }
@@ -76,4 +80,19 @@ pub fn losses_of(arguments: &ArgMatches<'_>) -> Option<LossRequest>
         percent: number_in(arguments, "loss", 0, 100)?,
         seed: number_in(arguments, "seed", 0, u64::MAX)?,
     })
+}
+
+/// Says on standard error where no frame is left of those that are sent.
+pub fn note_losses(rt: &HostRuntime, losses: LossRequest) {
+    if losses.every == 1 {
+        let _ = eprintln!(rt; "note: --drop 1 loses all frames; --drop 2 loses half of them");
+    } else if losses.percent == 100 {
+        let _ = eprintln!(rt; "note: --loss 100 loses all frames; --loss 50 loses half of them");
+    }
+}
+
+/// The losses that are asked for, of which none was counted yet.
+pub fn frame_losses(losses: LossRequest) -> FrameLosses {
+    let percent = u32::try_from(losses.percent).unwrap_or(u32::MAX);
+    FrameLosses::new(losses.every, percent, losses.seed)
 }

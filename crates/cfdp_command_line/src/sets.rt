@@ -6,7 +6,7 @@ ghost use Rattle.cfdp_command_line.specs.Sets.{CannotBeSet, IsSetBy, set_all, se
 use cfdp_report::{
     Hint, LineError, Nearest, Quote, Setting, Settings, consider_keys, parse_number, parse_setting,
 };
-use link_sim::WorldConfig;
+use station_pair::WorldConfig;
 use std::alloc::{AllocError, Global};
 use valid_config::Valid;
 
@@ -17,8 +17,8 @@ pub enum SetError<'a> {
     Key { key: &'a str, value: &'a str },
     /// The value behind this key is no number.
     Number { key: &'a str, value: &'a str },
-    /// The value of this setting is out of its range.
-    OutOfRange(Setting),
+    /// This value of the setting is out of its range.
+    OutOfRange(Setting, u64),
     /// The stations can't be set up so.
     Misfit,
 }
@@ -35,11 +35,11 @@ impl SetError<'_> {
                 let (error, hint) = (LineError::BadNumber, value_hint(key));
                 eprintln!(rt; "error: --set {key} {value}: {error}{hint}")
             }
-            SetError::OutOfRange(setting) => {
+            SetError::OutOfRange(setting, value) => {
                 let (key, range) = (setting.key(), setting.range());
-                eprintln!(rt; "error: {key} is out of its range, {range}")
+                eprintln!(rt; "error: {key} must be {range} (got {value})")
             }
-            SetError::Misfit => eprintln!(rt; "error: the stations can't be set up so"),
+            SetError::Misfit => eprintln!(rt; "error: these settings do not fit together"),
         };
     }
 }
@@ -90,7 +90,7 @@ pub fn configuration(words: &[String]) -> Result<Valid<WorldConfig>, SetError<'_
 /// Why no stations can be set up by these settings.
 fn misfit<'a>(settings: &Settings) -> SetError<'a> {
     match settings.out_of_range() {
-        Some(setting) => SetError::OutOfRange(setting),
+        Some((setting, value)) => SetError::OutOfRange(setting, value),
         None => SetError::Misfit,
     }
 }

@@ -65,14 +65,22 @@ fn printed_status(rt: &HostRuntime) -> u8
 fn read(rt: &HostRuntime, path: &str, said: &[String]) -> Result<Vec<String>, u8>
     ensures { IfErr result (λ status. (status ≡ 2) ⊎ (status ≡ 3)) }
 {
-    let text = match fs::read_to_string(rt, path) {
-        Ok(text) => text,
+    let octets = match fs::read(rt, path) {
+        Ok(octets) => octets,
         Err(error) => {
             let _ = eprintln!(rt; "error: {path}: {}", cause_text(error.kind()));
             return Err(DEVICE);
         }
     };
-    match settings_words(rt.alloc(), text.as_str(), &OPTIONS, said) {
+    let text = match str::from_utf8(octets.as_slice()) {
+        Ok(text) => text,
+        Err(error) => {
+            let place = error.valid_up_to();
+            let _ = eprintln!(rt; "error: {path}: not valid UTF-8 at octet {place}");
+            return Err(DEVICE);
+        }
+    };
+    match settings_words(rt.alloc(), text, &OPTIONS, said) {
         Ok(words) => Ok(words),
         Err(SettingsError::NoMemory) => Err(DEVICE),
         Err(error) => {

@@ -6,8 +6,8 @@ ghost use Rattle.clap.specs.Walk.{rows_of};
 ghost use Rattle.cfdp_command_line.specs.Request.{HasNoGlobals, IsCommand};
 ghost use Rattle.cfdp_command_line.specs.Shown.{asked_shown, shown_of, with_shown, with_told};
 
-use crate::arguments::{file_for, flag, is_given, owned_word, with_argument};
-use cfdp_report::Shown;
+use crate::arguments::{file_under, flag_under, is_given, owned_word, with_argument};
+use cfdp_watch::Shown;
 use clap::{ArgMatches, Command};
 use std::alloc::{AllocError, Global};
 
@@ -19,18 +19,20 @@ pub fn shown_command<'a>(alloc: Global, command: Command<'a>) -> Result<Command<
     let told = told_command(alloc, command)?;
     let captured = with_argument(
         told,
-        file_for(
+        file_under(
             alloc,
+            "Output",
             "pcap",
-            "Writes the PDUs of both directions to FILE, as a capture",
+            "Write all PDUs to FILE, as a capture for Wireshark",
         ),
     )?;
     with_argument(
         captured,
-        file_for(
+        file_under(
             alloc,
+            "Output",
             "chart",
-            "Writes what passes to FILE, as a sequence diagram in Mermaid's text",
+            "Write a sequence diagram to FILE, in Mermaid's text",
         ),
     )
 }
@@ -41,15 +43,17 @@ fn told_command<'a>(alloc: Global, command: Command<'a>) -> Result<Command<'a>, 
     ensures { IfOk result (IsCommand (with_told (app_of command.entry))) }
 {
     command
-        .arg(flag(
+        .arg(flag_under(
             alloc,
+            "Output",
             "explain",
-            "Says what conditions say, and what was sent, lost and dropped",
+            "Explain condition codes; print a summary",
         ))?
-        .arg(flag(
+        .arg(flag_under(
             alloc,
+            "Output",
             "trace",
-            "Tells what passes on standard error, in the order of events",
+            "Print each event on standard error",
         ))
 }
 

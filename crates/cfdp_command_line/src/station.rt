@@ -16,11 +16,11 @@ ghost use Rattle.cfdp_command_line.specs.Station.{said_rule, sent_app, spooled_a
 ghost use Rattle.cfdp_command_line.specs.Station.{station_asked, station_of, stores_app};
 ghost use Rattle.cfdp_command_line.specs.Station.{told_app, unit_of_word, words_asked};
 
-use crate::arguments::{file_for, flag, is_given, owned_word, word_of};
+use crate::arguments::{file_for, file_under, flag, flag_under, is_given, owned_word, word_of};
 use crate::looping::{number_in, tuned};
 use crate::losses::{LossRequest, losses_command, losses_of};
 use crate::shown::{shown_by, shown_command};
-use cfdp_report::Shown;
+use cfdp_watch::Shown;
 use clap::builder::ValueParser;
 use clap::{Arg, ArgAction, ArgMatches, Command, value_parser};
 use std::alloc::{AllocError, Global};
@@ -144,109 +144,48 @@ struct StationWords<'a> {
 }
 
 const STATION_HELP: &str = "\
-One station over a UDP socket: it sends the files that --put names and those that
-come to the folder of --spool, and puts those that come from its peer into the
-folder of --inbox. The system drops datagrams that come from other addresses than
-the peer's. ADDR is as in 127.0.0.1:5001. The names of files in folders are 1 to
-64 of A-Z a-z 0-9 . _ - and begin with no point. Files of up to 2^48 octets are
-read as they are sent, and written as they come. One that is sent is as it was
-when its put was made: where a read finds that it changed, a line on standard
-error says so, the peer publishes nothing of it, and the other puts go on.
+ADDR is HOST:PORT, e.g. 127.0.0.1:5001. Datagrams that do not come from the peer
+are dropped. File names are 1 to 64 of A-Z a-z 0-9 . _ - with no point first.
+Both stations must set the same --carrier, zone and spacecraft.
 
-A datagram is one AOS frame, with --carrier packets one space packet, and with
---carrier pdus one PDU. Both stations have to say the same.
+--idle: make it longer than every timer of both stations, or a retransmission
+may be missed.
+--spool: write a file under a name that begins with a point, and rename it when
+it is whole. A sent file moves to .sent in that folder. After limits, silence, a
+wrong checksum or a failed disk it is retried; otherwise it moves to .failed.
+--control, --console: whoever reaches the address commands the station, so it
+must be one of this machine, e.g. 127.0.0.1:5101. With --console-token (16 to
+256 visible ASCII characters) a console may have another address.
+--state: without it FOLDER.state, beside --outbox or --spool, otherwise --inbox.
+No transaction number is used twice as long as this file stays.
 
-It ends once all puts are made and all its transactions are closed, those that it
-receives too, and no frame of the link came for as many seconds as --idle says;
-without --idle it never does. Let that be longer than all times of both stations,
-since so long an answer that was lost is waited for.
-4096 transactions can be open at once. A put waits while --at-once others are
-open, or while only 1024 more could be: these are for what the peer sends. What
-is over is let go.
-
-A file that is moved into the folder of --spool is sent, under its own name. One
-that is still written has to have a name that begins with a point, as .a.part:
-such a file is left alone. Rename it once it is whole. What was sent is moved to
-.sent in that folder, or removed with --remove-sent. After a fault that may pass,
-as silence, it is sent anew, --retries times; else it is moved to .failed.
-
---most-size, --most-open and --no-overwrite say which files are refused that the
-peer sends; without --no-overwrite one takes the place of another of its name.
-
---commands reads a command a line from standard input while it runs, and
---control takes them on a TCP address, as 'cfdp_node ask' sends them. The command
-help lists them all. Whoever can reach that address can give commands: let it be
-one of this machine, as 127.0.0.1:5101.
-
---console shows the station to a browser, as at http://127.0.0.1:8080/, with its
-link, transactions and log, and buttons for put, cancel, suspend, resume, freeze
-and thaw; the same as JSON and for Prometheus (docs/CONSOLE.md). Without
---console-token the address has to be one of this machine, and whoever reaches it
-commands the station. With it, each request has to show the token that stands in
-FILE: 16 to 256 visible ASCII characters.
-
---config takes from a TOML file what the command line doesn't say, by the names
-of the options: a number as at-once = 4, a word as inbox = 'RECEIVED', a flag as
-json = true, pairs as put = [['a.bin', 'b.bin']], and in a table [set] the keys
-of --set, as zone = 1024. An option that is said counts in place of the file's,
-but --put and --set add to it. --print-config prints such a file with all
-options, what each means, and the values that hold where nothing is said.
-
-Numbers of transactions are reserved in a file before they are used, so that none
-comes back when a station is killed and started anew: FOLDER.state beside the
-folder of --outbox or --spool, else of --inbox. --state names another file, and
---first-number a number, for which you answer then.
---rate N sends a frame each 1/N seconds; with 0 as fast as it can. The system
-drops what a socket has no room for, and it is sent again.
-To try what losses do: --loss P loses each datagram that it sends with a
-probability of P percent, the same ones with the same --seed, and --drop K loses
-each Kth one. Both may be given.
-
-What is wrong with the link is told on standard error at once, and then once a
-minute at most, as 'note: ..': where the peer is set up otherwise, what was
-dropped, and what is waited for.
-
-Keys of --set, beside those of 'sim --help', which hold for this station alone:
-  spacecraft 42            of both directions, 0 to 255
-  virtual_channel 5, data_virtual_channel 7, apid 100
-                           of the frames that it sends, with directives and with
-                           file data: 0 to 62, and 0 to 2046
-  peer_virtual_channel 6, peer_data_virtual_channel 8, peer_apid 101
-                           of those that it takes
-  insert_zone 0, control_field 0, error_control 0
-                           of the frames that it sends: octets of the insert
-                           zone, 0 to 64; 1 with an operational control field;
-                           1 with a frame error control field (CRC-16)
-  peer_insert_zone 0, peer_control_field 0, peer_error_control 0
-                           of those that it takes
-Of the two stations that with the greater id has channels and APIDs exchanged.
-  packet_type 0            of packets that leave by --carrier packets: 0 telemetry,
-                           1 telecommands
+Keys of --set, with their defaults, beside those of 'sim --help' (number_width 8
+and pdu_crc 1 here). Keys peer_.. are for frames or packets that the peer sends:
+  spacecraft 42            0 to 255
+  virtual_channel 5, peer_virtual_channel 6
+                           of directives, 0 to 62
+  data_virtual_channel 7, peer_data_virtual_channel 8
+                           of file data, 0 to 62
+  apid 100, peer_apid 101  0 to 2046
+  insert_zone 0, peer_insert_zone 0
+                           octets of the insert zone, 0 to 64
+  control_field 0, peer_control_field 0
+                           1: frames have an operational control field
+  error_control 0, peer_error_control 0
+                           1: frames have a frame error control field (CRC-16)
+  packet_type 0            with --carrier packets: 0 telemetry, 1 telecommand
   secondary_header 0, peer_secondary_header 0
-                           octets of the secondary header of those, all zero, and
-                           of those that come, which are passed over: 0 to 63
-number_width is 8 here. Times are in seconds, or with --unit ms in milliseconds.
+                           octets of the packet secondary header, 0 to 63
+The station with the higher id uses the defaults of channels and APIDs swapped.
 
-Report, as it happens: what the station tells its user, as in that of sim, with
-its id in front, and 'line N NAME' where the Nth put was refused. Last
-comes 'complete K of N'. Each line begins with the time, without --no-time; with
---json it is a JSON object.
---trace, --chart FILE and --pcap FILE show as it passes, and --explain at the end,
-as those of sim, what passed; in the place of a script's line stands the number of
-the turn. There 1 is the station with the lesser id.
-Where standard error is a terminal, one line on it says how far the transfer is:
-octets and gaps of the file that began to come last, and PDUs sent.
+Exit status: 0 all puts completed, 1 some not, 2 bad arguments or settings file,
+3 a folder, a file, a socket or the output failed, or out of memory.
 
-Exit status: 0 all puts completed, 1 some not, 2 bad arguments or a bad settings
-file, 3 a folder, a file, a socket or the output failed, or no memory (told on
-standard error).
-
-Example, on two terminals:
-  cfdp_node station --id 2 --peer 1 --listen 127.0.0.1:5002 --to 127.0.0.1:5001 \\
-    --inbox RECEIVED --idle 30
-  cfdp_node station --id 1 --peer 2 --listen 127.0.0.1:5001 --to 127.0.0.1:5002 \\
-    --outbox FILES --put a.bin b.bin --put log.txt log.txt --idle 30
-And one that runs on:
+Examples: two terminals that transfer two files; a station that keeps running:
+  cfdp_node station --id 2 --peer 1 --listen 127.0.0.1:5002 \\
+    --to 127.0.0.1:5001 --inbox RECEIVED --idle 30
+  cfdp_node station --id 1 --peer 2 --listen 127.0.0.1:5001 \\
+    --to 127.0.0.1:5002 --outbox FILES --put a.bin b.bin --put x y --idle 30
   cfdp_node station --print-config > station.toml
   cfdp_node station --config station.toml --id 1 --peer 2 --spool SEND \\
     --listen 127.0.0.1:5001 --to 127.0.0.1:5002 --control 127.0.0.1:5101";
@@ -263,11 +202,15 @@ fn file_command<'a>(alloc: Global) -> Result<Command<'a>, AllocError>
     ensures { IfOk result (IsCommand file_app) }
 {
     told_command(alloc)?
-        .arg(file_for(alloc, "config", "Takes from this TOML file what isn't said"))?
+        .arg(file_for(
+            alloc,
+            "config",
+            "Read options from a TOML file; the command line wins",
+        ))?
         .arg(flag(
             alloc,
             "print-config",
-            "Prints such a file, with all options, and does nothing else",
+            "Print such a file with all options, and exit",
         ))
 }
 
@@ -276,8 +219,8 @@ fn told_command<'a>(alloc: Global) -> Result<Command<'a>, AllocError>
     ensures { IfOk result (IsCommand told_app) }
 {
     consoled_command(alloc)?
-        .arg(flag(alloc, "no-time", "Begins lines with no time"))?
-        .arg(flag(alloc, "json", "Writes an object a line, in JSON"))
+        .arg(flag_under(alloc, "Output", "no-time", "Omit timestamps"))?
+        .arg(flag_under(alloc, "Output", "json", "Write each line as a JSON object"))
 }
 
 /// The same without what says how lines are written.
@@ -287,14 +230,16 @@ fn consoled_command<'a>(alloc: Global) -> Result<Command<'a>, AllocError>
     operated_command(alloc)?
         .arg(word_for(
             alloc,
+            "Operation",
             "console",
             "ADDR",
-            "Shows itself to a browser on this TCP address",
+            "Serve a web console at this TCP address",
         ))?
-        .arg(file_for(
+        .arg(file_under(
             alloc,
+            "Operation",
             "console-token",
-            "The file with the token that its console wants",
+            "Ask visitors for the token in FILE",
         ))
 }
 
@@ -303,12 +248,18 @@ fn operated_command<'a>(alloc: Global) -> Result<Command<'a>, AllocError>
     ensures { IfOk result (IsCommand operated_app) }
 {
     incoming_command(alloc)?
-        .arg(flag(alloc, "commands", "Reads commands from standard input"))?
+        .arg(flag_under(
+            alloc,
+            "Operation",
+            "commands",
+            "Read commands from standard input",
+        ))?
         .arg(word_for(
             alloc,
+            "Operation",
             "control",
             "ADDR",
-            "Takes commands on this TCP address",
+            "Accept commands at this TCP address",
         ))
 }
 
@@ -316,10 +267,11 @@ fn operated_command<'a>(alloc: Global) -> Result<Command<'a>, AllocError>
 fn incoming_command<'a>(alloc: Global) -> Result<Command<'a>, AllocError>
     ensures { IfOk result (IsCommand incoming_app) }
 {
-    held_command(alloc)?.arg(flag(
+    held_command(alloc)?.arg(flag_under(
         alloc,
+        "Files",
         "no-overwrite",
-        "Refuses a file whose name is there already",
+        "Refuse a file whose name is taken",
     ))
 }
 
@@ -330,19 +282,23 @@ fn held_command<'a>(alloc: Global) -> Result<Command<'a>, AllocError>
     sent_command(alloc)?
         .arg(ranged(
             alloc,
+            "Files",
             "most-size",
+            "OCTETS",
             "0",
             0,
             281474976710656,
-            "Refuses files that come of more than N octets, up to 2^48; 0 any size",
+            "Refuse files longer than this (0: any)",
         ))?
         .arg(ranged(
             alloc,
+            "Files",
             "most-open",
+            "N",
             "0",
             0,
             4096,
-            "Refuses a file while N others come, up to 4096; 0 any number",
+            "Receive up to N files at once (0: any)",
         ))
 }
 
@@ -353,19 +309,23 @@ fn sent_command<'a>(alloc: Global) -> Result<Command<'a>, AllocError>
     spooled_command(alloc)?
         .arg(ranged(
             alloc,
+            "Files",
             "retries",
+            "N",
             "3",
             0,
             1000,
-            "Sends a file of the spool up to N times more after a fault that may pass",
+            "Retry a spool file up to N times",
         ))?
         .arg(ranged(
             alloc,
+            "Files",
             "at-once",
+            "N",
             "4",
             1,
             3072,
-            "Has up to N puts open at a time, 1 to 3072",
+            "Send up to N files at once, 1 to 3072",
         ))
 }
 
@@ -376,14 +336,16 @@ fn spooled_command<'a>(alloc: Global) -> Result<Command<'a>, AllocError>
     lists_command(alloc)?
         .arg(word_for(
             alloc,
+            "Files",
             "spool",
             "FOLDER",
-            "The folder whose files are sent as they come there",
+            "Send each file that is put into FOLDER",
         ))?
-        .arg(flag(
+        .arg(flag_under(
             alloc,
+            "Files",
             "remove-sent",
-            "Removes a file of the spool that was sent, in place of keeping it",
+            "Delete sent spool files, instead of keeping them",
         ))
 }
 
@@ -392,8 +354,20 @@ fn lists_command<'a>(alloc: Global) -> Result<Command<'a>, AllocError>
     ensures { IfOk result (IsCommand lists_app) }
 {
     stores_command(alloc)?
-        .arg(pairs(alloc, "put", "NAME", "Sends the first file as the second"))?
-        .arg(pairs(alloc, "set", "WORD", "Sets the value of a key"))
+        .arg(pairs_under(
+            alloc,
+            "Files",
+            "put",
+            &["SRC", "DST"],
+            "Send SRC of the outbox as DST; repeatable",
+        ))?
+        .arg(pairs_under(
+            alloc,
+            "Link",
+            "set",
+            &["KEY", "N"],
+            "Set a key (see below); repeatable",
+        ))
 }
 
 /// The same without what may be said more than once.
@@ -401,12 +375,25 @@ fn stores_command<'a>(alloc: Global) -> Result<Command<'a>, AllocError>
     ensures { IfOk result (IsCommand stores_app) }
 {
     carried_command(alloc)?
-        .arg(file_for(alloc, "inbox", "The folder that files come to"))?
-        .arg(file_for(alloc, "outbox", "The folder that files lie in"))?
-        .arg(file_for(
+        .arg(word_for(
             alloc,
+            "Files",
+            "inbox",
+            "FOLDER",
+            "Receive files into FOLDER",
+        ))?
+        .arg(word_for(
+            alloc,
+            "Files",
+            "outbox",
+            "FOLDER",
+            "Find the files of --put in FOLDER",
+        ))?
+        .arg(file_under(
+            alloc,
+            "Identity",
             "state",
-            "The file that keeps which numbers were used",
+            "Keep the used transaction numbers in FILE",
         ))
 }
 
@@ -417,15 +404,19 @@ fn carried_command<'a>(alloc: Global) -> Result<Command<'a>, AllocError>
     own_numbers_command(alloc)?
         .arg(named(
             alloc,
+            "Link",
             "carrier",
+            "KIND",
             "frames",
-            "What a datagram carries: frames, packets or pdus",
+            "Send frames, packets or pdus over UDP",
         ))?
         .arg(named(
             alloc,
+            "Link",
             "unit",
+            "UNIT",
             "s",
-            "The unit of the times that --set sets: s or ms",
+            "Give the times of --set in s or ms",
         ))
 }
 
@@ -435,10 +426,11 @@ fn own_numbers_command<'a>(alloc: Global) -> Result<Command<'a>, AllocError>
 {
     let paced = numbered_command(alloc)?.arg(tuned(
         alloc,
+        "Link",
         "rate",
         "N",
         "1000",
-        "Sends N frames a second at most; 0 any number",
+        "Send at most N frames a second (0: any)",
     ))?;
     losses_command(alloc, paced)
 }
@@ -450,10 +442,11 @@ fn numbered_command<'a>(alloc: Global) -> Result<Command<'a>, AllocError>
     addresses_command(alloc)?
         .arg(tuned(
             alloc,
+            "Link",
             "idle",
             "N",
             "0",
-            "Ends after N seconds in which nothing came or was open; 0 never",
+            "Stop after N idle seconds (0: never)",
         ))?
         .arg(first_number_argument(alloc))
 }
@@ -463,8 +456,20 @@ fn addresses_command<'a>(alloc: Global) -> Result<Command<'a>, AllocError>
     ensures { IfOk result (IsCommand addresses_app) }
 {
     names_command(alloc)?
-        .arg(said(alloc, "listen", "ADDR", "The address at which it listens"))?
-        .arg(said(alloc, "to", "ADDR", "The address of its peer"))
+        .arg(said(
+            alloc,
+            "Link",
+            "listen",
+            "ADDR",
+            "Listen at this UDP address",
+        ))?
+        .arg(said(
+            alloc,
+            "Link",
+            "to",
+            "ADDR",
+            "Send to this UDP address of the peer",
+        ))
 }
 
 /// The same with ids alone.
@@ -472,55 +477,79 @@ fn names_command<'a>(alloc: Global) -> Result<Command<'a>, AllocError>
     ensures { IfOk result (IsCommand names_app) }
 {
     Command::new(alloc, "station")
-        .about("Sends and receives files over UDP, as one of two stations")
+        .about("Run one end of a link over UDP: send and receive files")
         .after_help(STATION_HELP)
-        .arg(said_number(alloc, "id", "The id of its entity"))?
-        .arg(said_number(alloc, "peer", "The id of its peer"))
+        .arg(said_number(alloc, "Identity", "id", "Set the entity id of this station"))?
+        .arg(said_number(alloc, "Identity", "peer", "Set the entity id of the peer"))
 }
 
 /// A number that has to be said.
-fn said_number<'a>(alloc: Global, name: &'a str, help: &'a str) -> Arg<'a>
+fn said_number<'a>(alloc: Global, heading: &'a str, name: &'a str, help: &'a str) -> Arg<'a>
     ensures { (rule_of result ≡ said_number_rule name.now) × (result.global ≡ false) }
 {
-    said(alloc, name, "N", help).value_parser(value_parser!(u64))
+    said(alloc, heading, name, "ID", help).value_parser(value_parser!(u64))
 }
 
 /// A word that has to be said behind its option.
-fn said<'a>(alloc: Global, name: &'a str, shown: &'a str, help: &'a str) -> Arg<'a>
+fn said<'a>(
+    alloc: Global,
+    heading: &'a str,
+    name: &'a str,
+    shown: &'a str,
+    help: &'a str,
+) -> Arg<'a>
     ensures { (rule_of result ≡ said_rule name.now) × (result.global ≡ false) }
 {
     Arg::new(alloc, name)
         .long(name)
         .value_name(shown)
         .help(help)
+        .help_heading(heading)
         .required(true)
 }
 
 /// A word that may be said behind its option.
-fn word_for<'a>(alloc: Global, name: &'a str, shown: &'a str, help: &'a str) -> Arg<'a>
+fn word_for<'a>(
+    alloc: Global,
+    heading: &'a str,
+    name: &'a str,
+    shown: &'a str,
+    help: &'a str,
+) -> Arg<'a>
     ensures { (rule_of result ≡ file_rule name.now) × (result.global ≡ false) }
 {
     Arg::new(alloc, name)
         .long(name)
         .value_name(shown)
         .help(help)
+        .help_heading(heading)
 }
 
 /// A word that may be said, and the one that stands for it where none is.
-fn named<'a>(alloc: Global, name: &'a str, default: &'a str, help: &'a str) -> Arg<'a>
+fn named<'a>(
+    alloc: Global,
+    heading: &'a str,
+    name: &'a str,
+    shown: &'a str,
+    default: &'a str,
+    help: &'a str,
+) -> Arg<'a>
     ensures { (rule_of result ≡ named_rule name.now default.now) × (result.global ≡ false) }
 {
     Arg::new(alloc, name)
         .long(name)
-        .value_name("WORD")
+        .value_name(shown)
         .help(help)
+        .help_heading(heading)
         .default_value(default)
 }
 
 /// A number between these two or one of them, and the one that stands for it where none is said.
 fn ranged<'a>(
     alloc: Global,
+    heading: &'a str,
     name: &'a str,
+    shown: &'a str,
     default: &'a str,
     low: u64,
     high: u64,
@@ -531,8 +560,9 @@ fn ranged<'a>(
 {
     Arg::new(alloc, name)
         .long(name)
-        .value_name("N")
+        .value_name(shown)
         .help(help)
+        .help_heading(heading)
         .value_parser(ValueParser::unsigned(low, high))
         .default_value(default)
 }
@@ -543,21 +573,35 @@ fn first_number_argument<'a>(alloc: Global) -> Arg<'a>
     Arg::new(alloc, "first-number")
         .long("first-number")
         .value_name("N")
-        .help("The number of its first transaction; 0 the next that was never used")
+        .help("Number the first put N (0: next unused)")
+        .help_heading("Identity")
         .value_parser(value_parser!(u64))
         .default_value("0")
 }
 
 /// Two words, as often as they are said.
-pub fn pairs<'a>(alloc: Global, name: &'a str, shown: &'a str, help: &'a str) -> Arg<'a>
+pub fn pairs<'a>(alloc: Global, name: &'a str, shown: &'a [&'a str; 2], help: &'a str) -> Arg<'a>
     ensures { (rule_of result ≡ pairs_rule name.now) × (result.global ≡ false) }
 {
     Arg::new(alloc, name)
         .long(name)
-        .value_name(shown)
+        .value_names(shown)
         .help(help)
         .action(ArgAction::Append)
         .num_args(2)
+}
+
+/// The same, under a heading of the help.
+fn pairs_under<'a>(
+    alloc: Global,
+    heading: &'a str,
+    name: &'a str,
+    shown: &'a [&'a str; 2],
+    help: &'a str,
+) -> Arg<'a>
+    ensures { (rule_of result ≡ pairs_rule name.now) × (result.global ≡ false) }
+{
+    pairs(alloc, name, shown, help).help_heading(heading)
 }
 
 /// What the words behind `station` ask for.

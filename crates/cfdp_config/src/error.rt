@@ -68,9 +68,9 @@ impl fmt::Display for SettingsError {
                 let message = error.message();
                 write!(f, "line {line}: {message}")
             }
-            SettingsError::NoSuchKey(key) => write!(f, "there is no option {key}"),
-            SettingsError::OtherValue { key, expected } => write!(f, "{key} has to be {expected}"),
-            SettingsError::NoMemory => f.write_str("no memory"),
+            SettingsError::NoSuchKey(key) => write!(f, "unknown option {key}"),
+            SettingsError::OtherValue { key, expected } => write!(f, "{key} must be {expected}"),
+            SettingsError::NoMemory => f.write_str("out of memory"),
         }
     }
 }

@@ -3,91 +3,89 @@
 /// A settings file with all options, a comment for each, and what holds where nothing is said. What
 /// has no such value stands in a comment.
 pub const EXAMPLE: &str = "\
-# Settings of 'cfdp_node station --config FILE': what is said on the command line counts in place of
-# what stands here, but --put and --set add to it. Without '#' in front stand the values that hold
-# where nothing is said.
+# Settings of 'cfdp_node station --config FILE'. An option of the command line replaces one here;
+# --put and --set add to those here. Values without '#' are the defaults.
 
-# Who it is and where. These four have to be said, here or on the command line.
-# id = 1                        # the id of its entity
-# peer = 2                      # the id of its peer
-# listen = \"127.0.0.1:5001\"     # the address at which it listens
-# to = \"127.0.0.1:5002\"         # the address of its peer
+# Identity and addresses: required, here or on the command line.
+# id = 1                        # entity id of this station
+# peer = 2                      # entity id of the peer
+# listen = \"127.0.0.1:5001\"     # listen at this UDP address
+# to = \"127.0.0.1:5002\"         # send to this UDP address of the peer
 
-# How it runs.
-idle = 0                        # ends after N seconds in which nothing came or was open; 0 never
-first-number = 0                # of its first transaction; 0 the next that was never used
-rate = 1000                     # sends N frames a second at most, to 1000000; 0 any number
-drop = 0                        # loses each Kth frame, for trials; 0 loses none
-loss = 0                        # loses each frame with a probability of P percent, for trials
-seed = 1                        # where the random numbers of loss begin
-carrier = \"frames\"              # what a datagram carries: frames, packets or pdus
-unit = \"s\"                      # of the times in [set] below: s or ms
+# Link.
+idle = 0                        # stop after N idle seconds (0: never)
+first-number = 0                # transaction number of the first put (0: next unused)
+rate = 1000                     # send at most N frames a second, to 1000000 (0: any)
+drop = 0                        # for tests: lose each Kth frame (0: none)
+loss = 0                        # for tests: lose each frame with a probability of P percent
+seed = 1                        # seed the random numbers of loss
+carrier = \"frames\"              # send frames, packets or pdus over UDP
+unit = \"s\"                      # unit of the times in [set] below: s or ms
 
-# Its folders, and the file that keeps which numbers were used.
-# inbox = \"RECEIVED\"            # the folder that files come to
-# outbox = \"FILES\"              # the folder that files lie in
-# state = \"FILES.state\"         # beside the folder of outbox, or of inbox without one
+# Folders, and the file that keeps the used transaction numbers.
+# inbox = \"RECEIVED\"            # receive files into this folder
+# outbox = \"FILES\"              # find the files of put in this folder
+# state = \"FILES.state\"         # default: beside outbox or spool, otherwise beside inbox
 
-# What it sends.
+# Files to send.
 put = []                        # files of outbox with their names there: [[\"a.bin\", \"b.bin\"]]
-# spool = \"SEND\"                # the folder whose files are sent as they come there
-remove-sent = false             # removes a file of the spool that was sent, in place of keeping it
-retries = 3                     # sends it up to N times more after a fault that may pass, to 1000
-at-once = 4                     # has up to N puts open at a time, 1 to 3072
+# spool = \"SEND\"                # send each file that is put into this folder
+remove-sent = false             # delete sent spool files, instead of keeping them
+retries = 3                     # retry a spool file up to N times, to 1000
+at-once = 4                     # send up to N files at once, 1 to 3072
 
-# What it takes.
-most-size = 0                   # refuses files of more than N octets, to 2^48; 0 any size
-most-open = 0                   # refuses a file while N others come, to 4096; 0 any number
-no-overwrite = false            # refuses a file whose name is there already
+# Files to accept.
+most-size = 0                   # refuse files of more than N octets, to 2^48 (0: any)
+most-open = 0                   # receive at most N files at once, to 4096 (0: any)
+no-overwrite = false            # refuse a file whose name is taken
 
-# How it is operated.
-commands = false                # reads commands from standard input
-# control = \"127.0.0.1:5101\"    # takes commands on this TCP address
-# console = \"127.0.0.1:8080\"    # shows itself to a browser on this TCP address
-# console-token = \"TOKEN\"       # the file with the token that its console wants
+# Operation.
+commands = false                # read commands from standard input
+# control = \"127.0.0.1:5101\"    # accept commands at this TCP address
+# console = \"127.0.0.1:8080\"    # serve a web console at this TCP address
+# console-token = \"TOKEN\"       # ask visitors for the token in this file
 
-# What it writes.
-no-time = false                 # begins lines with no time
-json = false                    # writes an object a line, in JSON
-explain = false                 # says what conditions say, and what was dropped
-trace = false                   # tells what passes on standard error
-# pcap = \"station.pcap\"         # writes the PDUs of both directions, as a capture
-# chart = \"station.mmd\"         # writes what passes, as a sequence diagram
+# Output.
+no-time = false                 # omit timestamps
+json = false                    # write each line as a JSON object
+explain = false                 # explain condition codes; print a summary
+trace = false                   # print each event on standard error
+# pcap = \"station.pcap\"         # write all PDUs, as a capture for Wireshark
+# chart = \"station.mmd\"         # write a sequence diagram, in Mermaid's text
 
 # Keys of --set.
 [set]
-zone = 256                      # octets of a frame's packet zone, 16 to 2040
-insert_zone = 0                 # octets of the insert zone in frames that it sends, 0 to 64
-control_field = 0               # 1 where these have an operational control field
-error_control = 0               # 1 where these have a frame error control field
-peer_insert_zone = 0            # the same of frames that it takes
+zone = 256                      # octets of the packet zone of a frame, 16 to 2040
+insert_zone = 0                 # octets of the insert zone in frames sent, 0 to 64
+control_field = 0               # 1: frames sent have an operational control field
+error_control = 0               # 1: frames sent have a frame error control field
+peer_insert_zone = 0            # the same for frames received
 peer_control_field = 0
 peer_error_control = 0
-segment = 1024                  # octets of a file in one PDU at most, 1 to 4096
+segment = 1024                  # most octets of file data in one PDU, 1 to 4096
 id_width = 2                    # octets of an entity id, 1 to 8
-number_width = 8                # octets of a transaction's number, 1 to 8
-checksum = 0                    # 0 modular, 15 null; CRC-32: 1 Proximity-1, 2 C, 3 IEEE
-pdu_crc = 0                     # 1 where the PDUs that it sends end in a CRC
-eof_limit = 3                   # how often an EOF is sent again, 0 to 255
-nak_limit = 3                   # how often a NAK is sent again, 0 to 255
-finished_limit = 3              # how often a Finished is sent again, 0 to 255
-eof_time = 10                   # how long the ACK of an EOF is waited for, in units, below 2^32
-nak_time = 10                   # how long what a NAK asked for is waited for
-finished_time = 10              # how long the ACK of a Finished is waited for
-inactivity_time = 100           # how long any PDU of a transaction is waited for
-on_ack_limit = 0                # where no ACK comes: 0 cancel, 1 suspend, 2 ignore, 3 abandon
-on_nak_limit = 0                # the same where nothing comes after NAKs
-on_inactivity = 0               # the same where nothing at all comes
-spacecraft = 42                 # of both directions, 0 to 255
-packet_type = 0                 # of packets that leave by carrier = 'packets': 0 telemetry, 1
-                                # telecommands
-secondary_header = 0            # octets of their secondary header, all zero, 0 to 63
-peer_secondary_header = 0       # the same of packets that come, which are passed over
-# What follows is so for the station with the lesser id; for the other one it is exchanged.
-# virtual_channel = 5           # of the frames that it sends, with directives, 0 to 62
-# data_virtual_channel = 7      # the same with file data
-# apid = 100                    # of the packets that it sends, 0 to 2046
-# peer_virtual_channel = 6      # of those that it takes
+number_width = 8                # octets of a transaction number, 1 to 8
+checksum = 0                    # 0 modular, 1 Proximity-1, 2 CRC-32C, 3 CRC-32, 15 null
+pdu_crc = 1                     # 1: PDUs sent end in a CRC
+eof_limit = 3                   # retransmissions of an EOF before a fault, 0 to 255
+nak_limit = 3                   # retransmissions of a NAK before a fault, 0 to 255
+finished_limit = 3              # retransmissions of a Finished before a fault, 0 to 255
+eof_time = 10                   # time to wait for the ACK of an EOF, in units, below 2^32
+nak_time = 10                   # time to wait for data requested by a NAK
+finished_time = 10              # time to wait for the ACK of a Finished
+inactivity_time = 100           # time to wait for any PDU of a transaction
+on_ack_limit = 0                # no ACK: 0 cancel, 1 suspend, 2 ignore, 3 abandon
+on_nak_limit = 0                # the same if data is still missing after all NAKs
+on_inactivity = 0               # the same if no PDU arrives in inactivity_time
+spacecraft = 42                 # spacecraft id of both directions, 0 to 255
+packet_type = 0                 # with carrier = 'packets': 0 telemetry, 1 telecommand
+secondary_header = 0            # octets of the secondary header in packets sent, 0 to 63
+peer_secondary_header = 0       # the same for packets received
+# These defaults are for the station with the lower id; the other one uses them swapped.
+# virtual_channel = 5           # of frames sent, with directives, 0 to 62
+# data_virtual_channel = 7      # of frames sent, with file data
+# apid = 100                    # of packets sent, 0 to 2046
+# peer_virtual_channel = 6      # the same for frames and packets received
 # peer_data_virtual_channel = 8
 # peer_apid = 101
 ";

@@ -371,11 +371,11 @@ impl ValueKind {
     /// What a value of this kind is, in words.
     fn wording(self) -> &'static str {
         match self {
-            ValueKind::Text => "a text, in quotes",
+            ValueKind::Text => "text in quotes",
             ValueKind::Number => "a whole number, 0 or more",
             ValueKind::Flag => "true or false",
             ValueKind::Pairs => {
-                "pairs of names, as [[\"a.bin\", \"b.bin\"]], that begin with no hyphen"
+                "pairs of names with no hyphen first, e.g. [[\"a.bin\", \"b.bin\"]]"
             }
             ValueKind::Numbers => "a table of keys with whole numbers, 0 or more",
         }

@@ -36,15 +36,16 @@ impl Denial {
     /// What it says, in one line.
     pub fn meaning(self) -> &'static str {
         match self {
-            Denial::NotFound => "there is nothing at this path",
-            Denial::WrongMethod => "this path takes another method",
+            Denial::NotFound => "nothing at this path",
+            Denial::WrongMethod => "wrong method for this path",
             Denial::Foreign =>
-                "it was sent to a foreign name or by a page of another site; use the address in \
+                "sent to another host name, or by a page of another site: use the address in \
                  digits, or localhost",
-            Denial::NoToken => "it shows no token, or another: Authorization: Bearer TOKEN",
+            Denial::NoToken =>
+                "no token, or a wrong one: send the header Authorization: Bearer TOKEN",
             Denial::BadBody =>
-                "the body is to be JSON with source, and destination and first where they are \
-                 wanted; names are words without a space",
+                "the body must be JSON with source, and optionally destination and first; names \
+                 must have no space",
             Denial::NoMemory => "out of memory",
         }
     }

@@ -7,9 +7,9 @@ ghost use Rattle.cfdp_console.specs.Shown.{number_or_null, open_data, text_or_nu
 use crate::ledger::{Closed, Way};
 use crate::log_lines::LogLine;
 use crate::samples::Samples;
-use crate::shown::{Counters, Dropped, LinkStatus, Open, Shown, Status};
+use crate::shown::{Counters, Dropped, LinkStatus, Open, Shown};
 use cfdp_header::TransactionId;
-use serde_json::{Value, json};
+use serde_json::{Map, Value, json};
 use std::alloc::{AllocError, Global};
 
 /// The most closed transactions, and the most lines of the log, that an answer has, and after so
@@ -60,13 +60,12 @@ pub fn open_value(alloc: Global, it: &Open) -> Result<Value, AllocError>
     ensures { IfOk result (λ value. view value ≡ open_data it.now) }
 {
     let (source, destination) = (text(alloc, &it.source)?, text(alloc, &it.destination)?);
-    let (size, octets) = (number(it.size), number(it.octets));
     json!(in alloc; {
         "destination": destination,
         "id": it.id.as_str(),
-        "octets": octets,
+        "octets": number(it.octets),
         "phase": it.phase,
-        "size": size,
+        "size": number(it.size),
         "source": source,
         "suspended": it.is_suspended,
         "waits_for": it.waits_for,
@@ -82,15 +81,14 @@ pub fn open_value(alloc: Global, it: &Open) -> Result<Value, AllocError>
 pub fn link_value(alloc: Global, link: &LinkStatus) -> Result<Value, AllocError>
     ensures { IfOk result (λ it. view it ≡ link_data link.now) }
 {
-    let (silent, control) = (number(link.silent), number(link.control_field));
     let state = if link.is_frozen { "frozen" } else { "up" };
     json!(in alloc; {
         "carrier": link.carrier,
-        "control_field": control,
+        "control_field": number(link.control_field),
         "missing": link.frames.missing,
         "received": link.frames.received,
         "sent": link.frames.sent,
-        "silent": silent,
+        "silent": number(link.silent),
         "state": state,
         "thrown_away": link.thrown_away,
         "to": link.to.as_str(),
@@ -150,20 +148,23 @@ pub fn closed_value(alloc: Global, closed: &Closed) -> Result<Value, AllocError>
         ),
         None => (None, None),
     };
-    let (source, destination) = (str_value(alloc, source)?, str_value(alloc, destination)?);
-    let size = number(known.size);
     let id = id_text(alloc, closed.id)?;
-    json!(in alloc; {
-        "complete": closed.is_complete,
-        "destination": destination,
-        "id": id.as_str(),
-        "number": closed.number,
-        "size": size,
-        "source": source,
-        "time": closed.time,
-        "way": way_word(known.way),
-        "why": closed.why,
-    })
+    let mut object = Value::Object(Map::new(alloc));
+    insert_text(alloc, &mut object, "id", Some(id.as_str()))?;
+    insert_text(alloc, &mut object, "source", source)?;
+    insert_text(alloc, &mut object, "destination", destination)?;
+    insert_text(alloc, &mut object, "way", Some(way_word(known.way)))?;
+    insert_text(alloc, &mut object, "why", Some(closed.why))?;
+    let complete = Value::Bool(closed.is_complete);
+    insert(alloc, &mut object, "complete", complete)?;
+    for (name, value) in &[
+        ("number", Some(closed.number)),
+        ("size", known.size),
+        ("time", Some(closed.time)),
+    ] {
+        insert(alloc, &mut object, name, number(*value))?;
+    }
+    Ok(object)
 }
 
 /// The two numbers of a transaction, as in `1:7`.
@@ -190,31 +191,62 @@ fn str_value(alloc: Global, value: Option<&str>) -> Result<Value, AllocError> {
 /// `AllocError` where there is no memory for it.
 pub fn status_value(alloc: Global, shown: Shown<'_>) -> Result<Value, AllocError> {
     let status = shown.status;
-    let (link, counters) = (
-        link_value(alloc, &status.link)?,
-        counters_of(alloc, status)?,
-    );
+    let mut object = numbers_of(alloc, shown)?;
+    insert(alloc, &mut object, "timeout", number(status.timeout))?;
+    let link = link_value(alloc, &status.link)?;
+    insert(alloc, &mut object, "link", link)?;
+    let counters = counters_value(alloc, &status.counters)?;
+    insert(alloc, &mut object, "counters", counters)?;
     let dropped = dropped_values(alloc, status.dropped.as_slice())?;
-    let timeout = number(status.timeout);
-    let (closed, lines) = (shown.ledger.closings(), shown.log.count());
-    json!(in alloc; {
-        "closed": closed,
-        "counters": counters,
-        "dropped": dropped,
-        "lines": lines,
-        "link": link,
-        "open": status.open,
-        "peer": status.peer,
-        "seconds": status.seconds,
-        "station": status.station,
-        "time": status.time,
-        "timeout": timeout,
-        "waiting": status.waiting,
-    })
+    insert(alloc, &mut object, "dropped", dropped)?;
+    Ok(object)
 }
 
-fn counters_of(alloc: Global, status: &Status) -> Result<Value, AllocError> {
-    counters_value(alloc, &status.counters)
+/// An object of the numbers that are always known of a station.
+fn numbers_of(alloc: Global, shown: Shown<'_>) -> Result<Value, AllocError> {
+    let status = shown.status;
+    let mut object = Value::Object(Map::new(alloc));
+    for (name, number) in &[
+        ("closed", shown.ledger.closings()),
+        ("lines", shown.log.count()),
+        ("open", status.open),
+        ("peer", status.peer),
+        ("seconds", status.seconds),
+        ("station", status.station),
+        ("time", status.time),
+        ("waiting", status.waiting),
+    ] {
+        insert(alloc, &mut object, name, Value::from(*number))?;
+    }
+    Ok(object)
+}
+
+/// Adds a member to an object.
+///
+/// # Errors
+///
+/// `AllocError` if there is no memory for it.
+fn insert(alloc: Global, object: &mut Value, name: &str, value: Value) -> Result<(), AllocError> {
+    let name = String::from_str(alloc, name)?;
+    if let Some(members) = object.as_object_mut() {
+        members.insert(name, value)?;
+    }
+    Ok(())
+}
+
+/// Adds a member to an object: a text, or null if it isn't known.
+///
+/// # Errors
+///
+/// `AllocError` if there is no memory for it.
+fn insert_text(
+    alloc: Global,
+    object: &mut Value,
+    name: &str,
+    text: Option<&str>,
+) -> Result<(), AllocError> {
+    let text = str_value(alloc, text)?;
+    insert(alloc, object, name, text)
 }
 
 /// The array of the causes by which something was dropped.

@@ -76,6 +76,6 @@ impl LogLines {
 
 /// The text of a line, or that it is none.
 fn text_of(alloc: Global, octets: &[u8]) -> Result<String, AllocError> {
-    let text = str::from_utf8(octets).unwrap_or("(a line that is no UTF-8)");
+    let text = str::from_utf8(octets).unwrap_or("(a line that is not valid UTF-8)");
     String::from_str(alloc, text)
 }

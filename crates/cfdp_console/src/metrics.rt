@@ -66,32 +66,32 @@ fn link_metrics(status: &Status) -> [Metric; 6] {
     [
         gauge(
             "cfdp_uptime_seconds",
-            "Since the station was started.",
+            "Seconds since the station started.",
             status.seconds,
         ),
         gauge(
             "cfdp_link_frozen",
-            "1 where the link is down by plan.",
+            "1 if the link is frozen.",
             u64::from(link.is_frozen),
         ),
         counter(
             "cfdp_sent_frames_total",
-            "Datagrams that left.",
+            "Datagrams sent.",
             link.frames.sent,
         ),
         counter(
             "cfdp_received_frames_total",
-            "Datagrams that came.",
+            "Datagrams received.",
             link.frames.received,
         ),
         counter(
             "cfdp_missing_frames_total",
-            "Frames missing by their counts.",
+            "Frames lost on the way here, by their counts.",
             link.frames.missing,
         ),
         counter(
             "cfdp_thrown_away_frames_total",
-            "Datagrams that came while the link was down by plan.",
+            "Datagrams received while the link was frozen.",
             link.thrown_away,
         ),
     ]
@@ -100,75 +100,63 @@ fn link_metrics(status: &Status) -> [Metric; 6] {
 fn file_metrics(status: &Status) -> [Metric; 8] {
     let it = status.counters;
     [
-        gauge(
-            "cfdp_open_transactions",
-            "Transactions that are open.",
-            status.open,
-        ),
+        gauge("cfdp_open_transactions", "Open transactions.", status.open),
         gauge(
             "cfdp_waiting_files",
-            "Files that wait for their put.",
+            "Files that wait to be sent.",
             status.waiting,
         ),
         counter(
             "cfdp_sent_files_total",
-            "Files that lie at the peer.",
+            "Files that the peer has received.",
             it.files_sent,
         ),
         counter(
             "cfdp_sent_file_bytes_total",
-            "Octets of these.",
+            "Octets of the files that the peer has received.",
             it.octets_sent,
         ),
         counter(
             "cfdp_received_files_total",
-            "Files that were received.",
+            "Files received.",
             it.files_received,
         ),
         counter(
             "cfdp_received_file_bytes_total",
-            "Octets of these.",
+            "Octets of the files received.",
             it.octets_received,
         ),
         counter(
             "cfdp_failed_files_total",
-            "Files of the peer that didn't come whole.",
+            "Files of the peer that were not received whole.",
             it.files_failed,
         ),
-        counter(
-            "cfdp_refused_puts_total",
-            "Puts that were refused.",
-            it.puts_refused,
-        ),
+        counter("cfdp_refused_puts_total", "Refused puts.", it.puts_refused),
     ]
 }
 
 fn pdu_metrics(status: &Status) -> [Metric; 4] {
     let it = status.counters;
     [
-        counter("cfdp_sent_pdus_total", "PDUs that were sent.", it.pdus_sent),
+        counter("cfdp_sent_pdus_total", "PDUs sent.", it.pdus_sent),
         counter(
             "cfdp_sent_file_data_pdus_total",
-            "File data, first time.",
+            "File data PDUs sent for the first time.",
             it.file_data_sent,
         ),
         counter(
             "cfdp_resent_file_data_pdus_total",
-            "File data that a NAK asked for.",
+            "File data PDUs sent again, as requested by a NAK.",
             it.file_data_sent_again,
         ),
-        counter(
-            "cfdp_sent_nak_pdus_total",
-            "NAKs that were sent.",
-            it.naks_sent,
-        ),
+        counter("cfdp_sent_nak_pdus_total", "NAKs sent.", it.naks_sent),
     ]
 }
 
 fn write_dropped(out: &mut String, dropped: &[Dropped]) -> Result<(), AllocError> {
     writeln!(
         out,
-        "# HELP cfdp_dropped_total What was dropped, by its cause."
+        "# HELP cfdp_dropped_total Dropped frames and PDUs, by cause."
     )?;
     writeln!(out, "# TYPE cfdp_dropped_total counter")?;
     for it in dropped {

@@ -4,7 +4,7 @@
 /// checksums (SHA-256 of what stands between their tags), and it asks nobody but the console.
 pub const POLICY: &str = "default-src 'none'; connect-src 'self'; img-src data:; \
     style-src 'sha256-ciEet665SB6eacwrvNPd1VaughUFKYuos5DUVB1DfVI='; \
-    script-src 'sha256-NoP1e6TKaq3SVmbTXHazetylkepKUAcgseZRPcocltM='; \
+    script-src 'sha256-Iie7Dz4vRHYtcgSM3xnNW4nc6EJHXLf4F1IZu9hx+oY='; \
     base-uri 'none'; form-action 'none'; frame-ancestors 'none'";
 
 /// The page, in HTML.
@@ -182,7 +182,7 @@ td.time { white-space: nowrap; font-variant-numeric: tabular-nums; }
 <a class="skip" href="#work">To the transactions</a>
 <header>
   <h1 id="title">Station</h1>
-  <span id="state" class="pill is-gone" role="status">not reached yet</span>
+  <span id="state" class="pill is-gone" role="status">connecting</span>
   <span id="heard" class="dim"></span>
   <span class="fill"></span>
   <span id="clock" class="dim num"></span>
@@ -191,20 +191,21 @@ td.time { white-space: nowrap; font-variant-numeric: tabular-nums; }
 </header>
 <main>
   <section class="wide" id="ask" aria-labelledby="ask-title">
-    <h2 id="ask-title">This console wants a token</h2>
+    <h2 id="ask-title">Token required</h2>
     <form id="ask-form" class="row">
       <label>Token
         <input id="token" type="password" autocomplete="current-password"></label>
-      <button class="main">Go on</button>
+      <button class="main">Continue</button>
     </form>
   </section>
   <section aria-labelledby="link-title">
     <div class="head"><h2 id="link-title">Link</h2><span id="route" class="dim"></span></div>
     <figure>
-      <canvas id="plot" role="img" aria-label="Frames a second in the last ten minutes"></canvas>
+      <canvas id="plot" role="img" aria-label="Frames per second in the last ten minutes"></canvas>
       <figcaption>
-        <span class="key sent">sent a second</span><span class="key came">received a second</span>
-        <span class="key lost">lost a second</span><span class="dim">ten minutes</span>
+        <span class="key sent">sent per second</span>
+        <span class="key came">received per second</span>
+        <span class="key lost">lost per second</span><span class="dim">last ten minutes</span>
       </figcaption>
     </figure>
     <dl class="figures">
@@ -212,7 +213,7 @@ td.time { white-space: nowrap; font-variant-numeric: tabular-nums; }
       <div><dt>received</dt><dd id="f-came">-</dd><dd id="r-came" class="rate"></dd></div>
       <div><dt>lost</dt><dd id="f-lost">-</dd><dd id="r-lost" class="rate"></dd></div>
       <div><dt>dropped here</dt><dd id="f-dropped">-</dd></div>
-      <div><dt>sent again</dt><dd id="f-again">-</dd></div>
+      <div><dt>resent</dt><dd id="f-again">-</dd></div>
       <div><dt>files sent</dt><dd id="f-files-sent">-</dd></div>
       <div><dt>files received</dt><dd id="f-files-came">-</dd></div>
       <div><dt>files failed</dt><dd id="f-failed">-</dd></div>
@@ -223,34 +224,34 @@ td.time { white-space: nowrap; font-variant-numeric: tabular-nums; }
   <section aria-labelledby="put-title">
     <div class="head"><h2 id="put-title">Send a file</h2></div>
     <form id="put" class="put">
-      <label class="line">Name in the outbox
+      <label class="line">File name in the outbox
         <input id="source" type="text" required autocapitalize="off" autocomplete="off"
           spellcheck="false" title="Key: p"></label>
-      <label class="line">Name at the peer, where it is to be another
+      <label class="line">Destination name (optional)
         <input id="destination" type="text" autocapitalize="off" autocomplete="off"
           spellcheck="false"></label>
       <div class="row">
-        <label><input id="first" type="checkbox"> ahead of all that wait</label>
-        <button class="main">Put</button>
+        <label><input id="first" type="checkbox"> Send first</label>
+        <button class="main">Send</button>
       </div>
     </form>
-    <div class="head"><h2>Dropped, by cause</h2></div>
-    <p id="no-drops" class="none">Nothing was dropped.</p>
+    <div class="head"><h2>Dropped data, by cause</h2></div>
+    <p id="no-drops" class="none">None dropped.</p>
     <table id="drops" hidden>
-      <thead><tr><th scope="col">Cause</th><th scope="col" class="num">How often</th></tr></thead>
+      <thead><tr><th scope="col">Cause</th><th scope="col" class="num">Count</th></tr></thead>
       <tbody></tbody>
     </table>
   </section>
   <section class="wide" id="work" tabindex="-1" aria-labelledby="open-title">
     <div class="head"><h2 id="open-title">Open transactions</h2>
       <span id="open-count" class="dim"></span></div>
-    <p id="no-open" class="none">None is open.</p>
+    <p id="no-open" class="none">No open transactions.</p>
     <ul id="open" class="rows" hidden></ul>
   </section>
   <section class="wide" aria-labelledby="closed-title">
     <div class="head"><h2 id="closed-title">Closed transactions</h2>
-      <span class="dim">the last 200</span></div>
-    <p id="no-closed" class="none">None was closed yet.</p>
+      <span class="dim">last 200</span></div>
+    <p id="no-closed" class="none">No closed transactions yet.</p>
     <div class="scroll" tabindex="0" role="region" aria-labelledby="closed-title"
       id="closed-box" hidden>
       <table>
@@ -263,7 +264,7 @@ td.time { white-space: nowrap; font-variant-numeric: tabular-nums; }
   </section>
   <section class="wide" aria-labelledby="log-title">
     <div class="head"><h2 id="log-title">Log</h2>
-      <span class="tools"><label for="filter" class="dim">shows lines with</label>
+      <span class="tools"><label for="filter" class="dim">Filter</label>
         <input id="filter" type="search" title="Key: /"></span></div>
     <div class="scroll" tabindex="0" role="region" aria-labelledby="log-title" id="log-box">
       <ol id="lines"></ol>
@@ -327,8 +328,8 @@ async function does(path, what, body) {
     const answer = await asks(path, "POST", body);
     if (answer.ok) { says(what); return true; }
     const why = await answer.json().catch(() => ({}));
-    says("Not done: " + (why.error || "status " + answer.status));
-  } catch (error) { says("The station doesn't answer: " + error.message); }
+    says("Failed: " + (why.error || "status " + answer.status));
+  } catch (error) { says("No answer from the station: " + error.message); }
   return false;
 }
 function shows_token(is_asked) {
@@ -346,9 +347,9 @@ function shows_status() {
   const is_silent = link.silent !== null && link.silent >= 10;
   const state = link.state === "frozen" ? "frozen" : is_silent ? "silent" : "up";
   at("state").className = "pill is-" + state;
-  writes(at("state"), state === "frozen" ? "frozen by plan" : state === "silent"
+  writes(at("state"), state === "frozen" ? "frozen" : state === "silent"
     ? "link up, peer silent" : "link up");
-  writes(at("heard"), link.silent === null ? "" : "heard " + link.silent + " s ago");
+  writes(at("heard"), link.silent === null ? "" : "last received " + link.silent + " s ago");
   writes(at("clock"), clock(status.time) + " UTC");
   writes(at("route"), link.carrier + " to " + link.to);
   writes(at("freeze"), state === "frozen" ? "Thaw the link" : "Freeze the link");
@@ -372,9 +373,9 @@ function shows_status() {
 function shows_rates() {
   const last = samples[samples.length - 1] || { sent: 0, came: 0, lost: 0 };
   for (const what of ["sent", "came", "lost"]) {
-    writes(at("r-" + what), grouped(Math.round(last[what])) + " a second");
+    writes(at("r-" + what), grouped(Math.round(last[what])) + " per second");
   }
-  at("plot").setAttribute("aria-label", "Frames a second in the last ten minutes; now "
+  at("plot").setAttribute("aria-label", "Frames per second in the last ten minutes; now "
     + Math.round(last.sent) + " sent, " + Math.round(last.came) + " received, "
     + Math.round(last.lost) + " lost");
 }
@@ -477,10 +478,10 @@ function open_row(it) {
   hold.type = cancel.type = "button";
   hold.addEventListener("click", () => {
     const word = row.classList.contains("suspended") ? "resume" : "suspend";
-    does("/transactions/" + it.id + "/" + word, it.id + ": " + word + " was done").then(renews);
+    does("/transactions/" + it.id + "/" + word, it.id + ": " + word + " done").then(renews);
   });
   cancel.addEventListener("click", () => {
-    does("/transactions/" + it.id + "/cancel", it.id + ": cancel was done").then(renews);
+    does("/transactions/" + it.id + "/cancel", it.id + ": cancel done").then(renews);
   });
   acts.append(hold, cancel);
   top.append(acts);
@@ -506,13 +507,13 @@ function shows_open(all) {
   for (const row of rows.values()) row.remove();
   list.hidden = all.length === 0;
   at("no-open").hidden = all.length > 0;
-  const shown = all.length < status.open ? ", of which " + all.length + " are shown" : "";
+  const shown = all.length < status.open ? ", " + all.length + " shown" : "";
   writes(at("open-count"), grouped(status.open) + " open" + shown + "; "
-    + grouped(status.waiting) + " more files wait");
+    + grouped(status.waiting) + " files waiting");
 }
 function fills_row(row, it) {
   const to = it.destination && it.destination !== it.source ? " \u2192 " + it.destination : "";
-  const name = (it.source || "name not known yet") + to;
+  const name = (it.source || "name not yet known") + to;
   row.className = it.way + (it.suspended ? " suspended" : "");
   writes(row.querySelector(".name"), name);
   writes(row.querySelector(".way"), it.phase);
@@ -521,7 +522,7 @@ function fills_row(row, it) {
   writes(hold, it.suspended ? "Resume" : "Suspend");
   hold.setAttribute("aria-label", hold.textContent + " " + it.id + ", " + name);
   row.querySelector(".harm").setAttribute("aria-label", "Cancel " + it.id + ", " + name);
-  progress.setAttribute("aria-label", "How far " + it.id + " is");
+  progress.setAttribute("aria-label", "Progress of " + it.id);
   const is_known = it.size !== null && it.octets !== null;
   if (is_known) {
     progress.max = Math.max(it.size, 1);
@@ -596,13 +597,13 @@ async function takes_all() {
     if (shownClosed < status.closed || shownLine < status.lines) setTimeout(renews, 100);
   } catch (error) {
     at("state").className = "pill is-gone";
-    writes(at("state"), isAsking ? "wants a token" : "the station doesn't answer");
+    writes(at("state"), isAsking ? "token required" : "no answer");
   }
   draws();
 }
 async function begins() {
   try { await takes_token(); }
-  catch (error) { says("The station doesn't answer: " + error.message); }
+  catch (error) { says("No answer from the station: " + error.message); }
   await takes_history();
   await renews();
   setInterval(renews, 1000);
@@ -623,7 +624,7 @@ at("put").addEventListener("submit", async (event) => {
   const source = at("source").value.trim(), destination = at("destination").value.trim();
   const body = { source, first: at("first").checked };
   if (destination) body.destination = destination;
-  if (await does("/puts", source + " is to be sent", body)) {
+  if (await does("/puts", source + " is queued", body)) {
     at("source").value = at("destination").value = "";
     at("first").checked = false;
   }
@@ -634,11 +635,11 @@ at("ask-form").addEventListener("submit", async (event) => {
   token = at("token").value.trim();
   await takes_history();
   await renews();
-  if (isAsking) says("It is another token.");
+  if (isAsking) says("Wrong token.");
 });
 at("freeze").addEventListener("click", async () => {
   const word = status && status.link.state === "frozen" ? "thaw" : "freeze";
-  await does("/" + word, word === "thaw" ? "The link is up again" : "Nothing leaves until thaw");
+  await does("/" + word, word === "thaw" ? "Link is up" : "Link is frozen until thaw");
   renews();
 });
 at("form").addEventListener("click", () => {

@@ -15,34 +15,34 @@ use valid_config::Config;
 #[derive(Clone, Copy, Debug, PartialEq, Eq, Error)]
 pub enum EntityField {
     /// The width of ids.
-    #[error("the width of ids is not 1 to 8 octets")]
+    #[error("id_width must be 1 to 8 octets")]
     IdWidth,
     /// The entity's own id.
-    #[error("the entity's id does not fit the width of ids")]
+    #[error("entity must fit in id_width octets")]
     Entity,
     /// The peer's id.
-    #[error("the peer's id does not fit the width of ids, or is the entity's own")]
+    #[error("peer must fit in id_width octets and differ from entity")]
     Peer,
     /// The width of sequence numbers.
-    #[error("the width of sequence numbers is not 1 to 8 octets")]
+    #[error("number_width must be 1 to 8 octets")]
     NumberWidth,
     /// The octets of the file in one PDU.
-    #[error("the segment is not 1 to 4096 octets")]
+    #[error("segment must be 1 to 4096 octets")]
     Segment,
     /// The kind of checksum.
-    #[error("the checksum is of no type that is known")]
+    #[error("checksum must be 0 to 3 or 15")]
     ChecksumKind,
     /// How long the ACK of an EOF is waited for.
-    #[error("the time of EOF is 0")]
+    #[error("eof_time must be at least 1")]
     EofTime,
     /// How long what a NAK asked for is waited for.
-    #[error("the time of NAK is 0")]
+    #[error("nak_time must be at least 1")]
     NakTime,
     /// How long the ACK of a Finished is waited for.
-    #[error("the time of Finished is 0")]
+    #[error("finished_time must be at least 1")]
     FinishedTime,
     /// How long any PDU of a transaction is waited for.
-    #[error("the time of inactivity is 0")]
+    #[error("inactivity_time must be at least 1")]
     InactivityTime,
 }
 

@@ -13,22 +13,22 @@ pub enum EntityDrop {
     #[error("{0}")]
     Pdu(PduError),
     /// The direction bit of the header isn't the one for what the PDU says.
-    #[error("the direction bit does not fit the PDU")]
+    #[error("the direction bit is wrong for this PDU")]
     WrongDirection,
     /// By direction, the ids of source and destination are not the peer's and this entity's.
     #[error("the PDU is not for this entity, or not from its peer")]
     NotForUs,
     /// Metadata names no file: a name is empty.
-    #[error("a name is empty")]
+    #[error("a file name is empty")]
     NoFile,
     /// An ACK, a NAK, a Prompt or a Keep Alive of a transaction that has no record here.
-    #[error("the transaction is not known")]
+    #[error("unknown transaction")]
     Unknown,
     /// There is no room for one more record, or for one more stray acknowledgement.
-    #[error("the table is full")]
+    #[error("the transaction table is full")]
     TableFull,
     /// There is no memory for what the PDU brings. Told last.
-    #[error("there is no memory for it")]
+    #[error("out of memory")]
     NoMemory,
 }
 
@@ -100,25 +100,25 @@ impl EntityDrop {
 #[derive(Clone, Copy, Debug, PartialEq, Eq, Error)]
 pub enum PutError {
     /// A name has no octet, or more than 255. Told first.
-    #[error("a name does not have 1 to 255 octets")]
+    #[error("file names must be 1 to 255 octets")]
     Name,
     /// There is no room for one more record.
-    #[error("the table is full")]
+    #[error("the transaction table is full")]
     TableFull,
     /// The next sequence number doesn't fit its width.
-    #[error("the sequence numbers are used up")]
+    #[error("no sequence number is left")]
     NumbersSpent,
     /// The outbox failed when it was asked for the file.
-    #[error("the outbox failed")]
+    #[error("the outbox could not read the file")]
     SourceFault,
     /// The outbox has no file of that name.
-    #[error("there is no such file")]
+    #[error("no such file")]
     NoSuchFile,
     /// The file has more than 2^48 octets.
-    #[error("the file is too large")]
+    #[error("file must be at most 2^48 octets")]
     TooLarge,
     /// There is no memory for the record. Told last.
-    #[error("there is no memory for it")]
+    #[error("out of memory")]
     NoMemory,
 }
 
@@ -159,7 +159,7 @@ impl PutError {
 #[derive(Clone, Copy, Debug, PartialEq, Eq, Error)]
 pub enum RequestError {
     /// The transaction has no record here. Told first.
-    #[error("the transaction is not known")]
+    #[error("unknown transaction")]
     Unknown,
     /// A prompt is for the file's sender alone.
     #[error("only the file's sender can prompt")]
@@ -169,10 +169,10 @@ pub enum RequestError {
     AlreadyClosed,
     /// It is suspended already, or isn't suspended, or a Prompt is due already. Never told of a
     /// cancel.
-    #[error("it is so already")]
+    #[error("already in that state")]
     AlreadySo,
     /// There is no memory for what the call indicates. Told last.
-    #[error("there is no memory for it")]
+    #[error("out of memory")]
     NoMemory,
 }
 
@@ -208,16 +208,16 @@ impl RequestError {
 #[derive(Clone, Copy, Debug, PartialEq, Eq, Error)]
 pub enum ForgetError {
     /// The transaction has no record here. Told first.
-    #[error("the transaction is not known")]
+    #[error("unknown transaction")]
     Unknown,
     /// The transaction isn't closed.
-    #[error("the transaction is not over")]
+    #[error("the transaction is still open")]
     StillOpen,
     /// It has an acknowledgement due, which a poll sends.
-    #[error("an acknowledgement is due")]
+    #[error("an acknowledgement must be sent first")]
     AnswerDue,
     /// There is no memory to keep that it is over. Told last.
-    #[error("there is no memory for it")]
+    #[error("out of memory")]
     NoMemory,
 }
 
@@ -225,9 +225,9 @@ pub enum ForgetError {
 #[derive(Clone, Copy, Debug, PartialEq, Eq, Error)]
 pub enum AddError {
     /// The outbox has a file of that name already. Told first.
-    #[error("there is a file of that name")]
+    #[error("a file of that name already exists")]
     Taken,
     /// There is no memory for the file.
-    #[error("there is no memory for it")]
+    #[error("out of memory")]
     NoMemory,
 }

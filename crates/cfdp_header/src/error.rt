@@ -8,24 +8,24 @@ use thiserror::Error;
 #[derive(Clone, Copy, Debug, PartialEq, Eq, Error)]
 pub enum HeaderError {
     /// Fewer than 4 octets, or fewer than the whole header that the fourth octet tells of.
-    #[error("fewer octets than the header has")]
+    #[error("the PDU is shorter than its header")]
     Short,
     /// The version isn't `001`.
-    #[error("the version is not 1")]
+    #[error("PDU version must be 1")]
     Version,
     /// The CRC flag is 1, and the data field doesn't end in the CRC of all octets before it (CCSDS
     /// 727.0-B-5, 4.1). Told last.
-    #[error("the CRC is wrong")]
+    #[error("the CRC of the PDU is wrong")]
     BadCrc,
     /// The octets behind the header aren't as many as its length says.
-    #[error("the data field has another length than the header says")]
+    #[error("the length in the PDU header is not the length of the data field")]
     Length,
     /// The transmission mode is 1, unacknowledged.
-    #[error("the transmission mode is unacknowledged")]
+    #[error("the PDU has unacknowledged mode (class 1)")]
     Unacknowledged,
     /// The large file flag is 1. Nothing tells it any more, since both flags are read: its number
     /// stays unused.
-    #[error("the file is large: its offsets have 64 bits")]
+    #[error("the large file flag is set")]
     LargeFile,
 }
 

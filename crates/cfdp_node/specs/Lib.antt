@@ -1,2 +1,1 @@
-pub mod Wire
 pub mod Looping

@@ -10,16 +10,15 @@ ghost use Rattle.cfdp_report.specs.Report.Lines.{count_line};
 ghost use Rattle.cfdp_port.specs.Pair.{pair};
 
 pub mod folders;
-pub mod telling;
+pub mod udp;
 
-use crate::dropping::let_go;
 use cfdp_port::{Lookout, Port, Wire, take_turns};
 use cfdp_report::{
     Answer, Answered, Exit, Fault, own_completions, write_answer, write_indications,
 };
 use cfdp_station::{PutError, StationConfig};
 use cfdp_store::{Inbox, MemoryOutbox, NoInbox, Outbox};
-use link_sim::{Refusal, Side, WorldConfig};
+use station_pair::{Refusal, Side, WorldConfig};
 use std::alloc::{AllocError, Global};
 use std::io;
 use std::io::{BufWriter, Write};
@@ -125,7 +124,7 @@ fn run_first<O: Outbox, I: Inbox, W: Wire, V: Write, L: Lookout>(
                 wire,
             };
             let exit = run_second(alloc, options, &mut one, second, out, lookout);
-            let_go(one);
+            drop(one);
             exit
         }
         Err(AllocError) => Exit::Device(Fault::NoMemoryAtStart),
@@ -160,7 +159,7 @@ fn run_second<O: Outbox, I: Inbox, J: Inbox, W: Wire, V: Write, L: Lookout>(
     ) {
         Ok(mut two) => {
             let exit = run_both(options, one, &mut two, out, lookout);
-            let_go(two);
+            drop(two);
             exit
         }
         Err(AllocError) => Exit::Device(Fault::NoMemoryAtStart),

@@ -1,35 +1,26 @@
 //! One station over folders and a UDP socket.
 ghost use Rattle.std.specs.Prelude.{IfOk};
 
-pub mod beacon;
 pub mod console_door;
-pub mod exchange;
 pub mod notices;
 pub mod operation;
 pub mod operator;
 pub mod setup;
-pub mod state_file;
 
-use crate::looping::folders::{
-    check_file, check_name, folder, folder_outbox, note_losses, tell_untold,
-};
-use crate::station::beacon::Beacon;
 use crate::station::console_door::door;
-use crate::station::exchange::Exchange;
 use crate::station::operation::{Context, StationParts, StationSpool, ran};
 use crate::station::setup::{StationSetup, key_hint};
-use crate::station::state_file::{Reservation, StateError};
-use crate::wire::peer_socket::{Pace, PeerSocket, Unit, Unusable};
-use cfdp_command_line::{CarrierKind, StationNumbers, StationRequest, TimeUnit};
-use cfdp_host::carrier::Carrier;
-use cfdp_host::{
-    FolderSpool, HeldFolder, LineSources, StandardErrorTeller, address_cause, try_folder,
-};
-use cfdp_report::{
-    Hint, LineError, Progress, cause_text, parse_number, parse_setting, shown_status,
-};
+use crate::transfers::named_files::{check_file, check_name, folder, folder_outbox, tell_untold};
+use cfdp_command_line::{CarrierKind, StationNumbers, StationRequest, TimeUnit, note_losses};
+use cfdp_control::{LineSources, address_cause};
+use cfdp_datagrams::{Carrier, Pace, PeerSocket, Unit, Unusable};
+use cfdp_exchange::{Beacon, Exchange};
+use cfdp_files::{HeldFolder, Reservation, StateError, is_same_folder, lies_in, try_folder};
+use cfdp_report::{Hint, LineError, cause_text, parse_number, parse_setting};
+use cfdp_spool::{FolderSpool, StandardErrorTeller};
 use cfdp_station::StationConfig;
-use link_sim::{Side, WorldConfig};
+use cfdp_watch::{Progress, shown_status};
+use station_pair::{Side, WorldConfig};
 use std::cell::Cell;
 use std::io::ErrorKind;
 use std::{fs, io};
@@ -73,29 +64,67 @@ pub fn station_status(rt: &HostRuntime, request: &StationRequest) -> u8 {
 fn started_status(rt: &HostRuntime, request: &StationRequest) -> Result<u8, u8> {
     // First of all: a process that was given no standard input has none once a file is opened.
     let sources = sources(rt, request)?;
+    match prepare(rt, request) {
+        Ok(prepared) => bound_status(rt, request, sources, prepared),
+        Err(status) => {
+            drop(sources);
+            Err(status)
+        }
+    }
+}
+
+/// Looks at all that was said, and takes what the station needs before it opens its socket.
+///
+/// # Errors
+///
+/// The exit status, where something is wrong, which was told on standard error.
+fn prepare<'a>(rt: &'a HostRuntime, request: &StationRequest) -> Result<Prepared<'a>, u8> {
     check_addresses(rt, request)?;
     let setup = set_up(rt, request)?;
     check_fields(rt, request, &setup)?;
+    begun(rt, request, &setup)
+}
+
+/// Opens the station's socket, and runs the station.
+///
+/// # Errors
+///
+/// The exit status, where the socket can't be had, which was told on standard error.
+fn bound_status<'a>(
+    rt: &'a HostRuntime,
+    request: &'a StationRequest,
+    sources: LineSources<'a>,
+    prepared: Prepared<'a>,
+) -> Result<u8, u8> {
     let Prepared {
         config,
         carrier,
         reservation,
         held: _held,
         spool,
-    } = begun(rt, request, &setup)?;
+    } = prepared;
     let exchange = Exchange::new();
     exchange.numbers_left.set(reservation.numbers_left());
     let frame_count = reservation.frame_count();
     let own = WorldConfig::station(config, side_of(request)).get();
     let pace = pace_of(request, &own, carrier);
-    let parts = StationParts {
-        socket: socket(rt, request, pace, reservation, &exchange)?,
-        frame_count,
-        sources,
-        config,
-        carrier,
-    };
-    Ok(ran_status(rt, request, parts, spool, &exchange))
+    match socket(rt, request, pace, reservation, &exchange) {
+        Ok(socket) => {
+            let parts = StationParts {
+                socket,
+                frame_count,
+                sources,
+                config,
+                carrier,
+            };
+            Ok(ran_status(rt, request, parts, spool, &exchange))
+        }
+        Err(status) => {
+            drop(sources);
+            drop(spool);
+            Err(status)
+        }
+    }
 }
 
 /// Looks whether the station has another address than its peer, and says where none of its frames
@@ -108,7 +137,7 @@ fn check_addresses(rt: &HostRuntime, request: &StationRequest) -> Result<(), u8>
     note_losses(rt, request.numbers.losses);
     let to = request.to.as_str();
     if to == request.listen.as_str() {
-        let _ = eprintln!(rt; "error: --listen and --to are both {to}: --to is that of the peer");
+        let _ = eprintln!(rt; "error: --listen and --to must differ (both are {to})");
         return Err(MISTAKE);
     }
     Ok(())
@@ -137,7 +166,7 @@ fn sources<'a>(rt: &'a HostRuntime, request: &StationRequest) -> Result<LineSour
     if has_any_port(control)
         && let Some(address) = sources.control_address()
     {
-        let _ = eprintln!(rt; "note: commands are taken at {address}");
+        let _ = eprintln!(rt; "note: accepting commands at {address}");
     }
     tell_console(rt, &sources);
     Ok(sources)
@@ -148,7 +177,7 @@ fn tell_console(rt: &HostRuntime, sources: &LineSources<'_>) {
     if let Some(door) = sources.door()
         && let Ok(address) = door.listener().local_addr()
     {
-        let _ = eprintln!(rt; "note: the console is at http://{address}/");
+        let _ = eprintln!(rt; "note: console at http://{address}/");
     }
 }
 
@@ -200,13 +229,32 @@ fn spool<'a>(
         return Ok(None);
     };
     if request.outbox.is_some() {
-        let _ = eprintln!(rt; "error: a station sends from one folder: --spool or --outbox");
+        let _ = eprintln!(rt; "error: --spool and --outbox exclude each other");
         return Err(MISTAKE);
     }
     folder(rt, path.as_str())?;
+    check_apart(rt, request, path.as_str())?;
     let teller = StandardErrorTeller(rt);
     let spool = FolderSpool::open(rt, path.as_str(), request.flags.remove_sent, teller)?;
     Ok(Some(spool))
+}
+
+/// Looks whether what arrives isn't sent again at once: by a spool that is the inbox too.
+///
+/// # Errors
+///
+/// The exit status, where it is, which was told on standard error.
+fn check_apart(rt: &HostRuntime, request: &StationRequest, spool: &str) -> Result<(), u8> {
+    if let Some(inbox) = &request.inbox
+        && matches!(is_same_folder(rt, inbox.as_str(), spool), Ok(true))
+    {
+        let _ = eprintln!(rt;
+            "error: --inbox and --spool must differ (both are the folder {spool}): the station \
+             would send what it receives"
+        );
+        return Err(MISTAKE);
+    }
+    Ok(())
 }
 
 /// How the station and its peer are set up, and what a datagram between them is.
@@ -243,7 +291,7 @@ fn check_fields(
         return Ok(());
     }
     let _ = eprintln!(rt;
-        "error: an insert zone, a control field and error control are of frames: --carrier frames"
+        "error: insert_zone, control_field and error_control need --carrier frames"
     );
     Err(MISTAKE)
 }
@@ -251,9 +299,9 @@ fn check_fields(
 /// Says why a station can't be set up so.
 fn tell_bad(rt: &HostRuntime, setup: &StationSetup, id: u64, peer: u64) {
     let _ = match setup.out_of_range() {
-        Some(setting) => {
+        Some((setting, value)) => {
             let (key, range) = (setting.key(), setting.range());
-            eprintln!(rt; "error: {key} is out of its range, {range}")
+            eprintln!(rt; "error: {key} must be {range} (got {value})")
         }
         None => eprintln!(rt; "error: {}", setup.misfit(id, peer)),
     };
@@ -314,7 +362,7 @@ fn set_one(rt: &HostRuntime, setup: &mut StationSetup, key: &str, word: &str) ->
     };
     if !setup.set(key, value) {
         let hint = key_hint(rt.alloc(), key);
-        let _ = eprintln!(rt; "error: --set {key} {word}: there is no such key{hint}");
+        let _ = eprintln!(rt; "error: --set {key} {word}: unknown key{hint}");
         return Err(MISTAKE);
     }
     Ok(())
@@ -337,6 +385,7 @@ fn reserved<'a>(
     // Each put is two words: its source and its destination.
     let puts = request.puts.len() as u64 / 2;
     if let Some(path) = &request.state {
+        check_state_place(rt, request, path.as_str())?;
         return match Reservation::take(rt, path.as_str(), said, width, puts) {
             Ok(reservation) => Ok(reservation),
             Err(error) => Err(tell_state(rt, path.as_str(), &error)),
@@ -348,7 +397,9 @@ fn reserved<'a>(
     match numbers_folder(request) {
         Some(folder) => {
             let is_needed = puts > 0 || request.spool.is_some();
-            reserved_beside(rt, folder, is_needed, puts, width)
+            let path = beside_told(rt, folder)?;
+            check_state_place(rt, request, path.as_str())?;
+            reserved_in(rt, path.as_str(), is_needed, puts, width)
         }
         None => Ok(Reservation::by_clock(rt, None)),
     }
@@ -365,35 +416,61 @@ fn numbers_folder(request: &StationRequest) -> Option<&str> {
     }
 }
 
-/// Reserves numbers in the file beside a folder.
+/// Reserves numbers in the file at a path that nobody has named.
 ///
 /// # Errors
 ///
 /// The exit status, where that file can't be used, which was told on standard error. Where it is
 /// the system that refuses it, a station that puts nothing does without.
-fn reserved_beside<'a>(
+fn reserved_in<'a>(
     rt: &'a HostRuntime,
-    folder: &str,
+    path: &str,
     is_needed: bool,
     puts: u64,
     width: u64,
 ) -> Result<Reservation<'a>, u8> {
-    let path = match beside(rt, folder) {
-        Ok(path) => path,
-        Err(error) => return Err(tell_state(rt, folder, &StateError::System(error))),
-    };
-    match Reservation::take(rt, path.as_str(), None, width, puts) {
+    match Reservation::take(rt, path, None, width, puts) {
         Ok(reservation) => Ok(reservation),
         Err(StateError::System(_)) if !is_needed => Ok(Reservation::by_clock(rt, None)),
-        Err(error) => Err(tell_state(rt, path.as_str(), &error)),
+        Err(error) => Err(tell_state(rt, path, &error)),
     }
+}
+
+/// The path of the file beside a folder.
+///
+/// # Errors
+///
+/// The exit status, where the folder can't be found, which was told on standard error.
+fn beside_told(rt: &HostRuntime, folder: &str) -> Result<String, u8> {
+    match beside(rt, folder) {
+        Ok(path) => Ok(path),
+        Err(error) => Err(tell_state(rt, folder, &StateError::System(error))),
+    }
+}
+
+/// Looks whether the file of reserved numbers lies out of the peer's reach.
+///
+/// # Errors
+///
+/// The exit status, where it lies in the inbox, which was told on standard error.
+fn check_state_place(rt: &HostRuntime, request: &StationRequest, path: &str) -> Result<(), u8> {
+    if let Some(inbox) = &request.inbox
+        && lies_in(rt, path, inbox.as_str())
+    {
+        let _ = eprintln!(rt;
+            "error: {path}: lies in the inbox {inbox}, where the peer can replace it: choose \
+             another file with --state"
+        );
+        return Err(MISTAKE);
+    }
+    Ok(())
 }
 
 /// Says why the file of reserved numbers can't be used. Answers the exit status.
 fn tell_state(rt: &HostRuntime, path: &str, error: &StateError) -> u8 {
     let _ = eprintln!(rt;
-        "error: {path}: {error} (the numbers that were used are kept there; --state names another \
-         file)"
+        "error: {path}: {error} (used transaction numbers are kept there; choose another file with \
+         --state)"
     );
     DEVICE
 }
@@ -436,7 +513,7 @@ fn check_outbox(rt: &HostRuntime, request: &StationRequest) -> Result<(), u8> {
         if request.puts.is_empty() {
             return Ok(());
         }
-        let _ = eprintln!(rt; "error: --put wants a folder of files, --outbox FOLDER");
+        let _ = eprintln!(rt; "error: --put needs --outbox FOLDER or --spool FOLDER");
         return Err(MISTAKE);
     };
     folder(rt, path)?;
@@ -498,7 +575,7 @@ fn socket<'a>(
             if has_any_port(Some(listen))
                 && let Ok(address) = socket.local_address()
             {
-                let _ = eprintln!(rt; "note: listens at {address}");
+                let _ = eprintln!(rt; "note: listening at {address}");
             }
             Ok(socket)
         }

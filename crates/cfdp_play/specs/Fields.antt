@@ -1,13 +1,13 @@
 -- What is asked of frames and PDUs, and what is told of them.
 use Rattle.std.specs.Prelude.{◌≡◌, ◌⊎◌, ◌++◌, ◌∷◌, ℕ, Bool, true, false, List, [], codes, Some}
 use Rattle.cfdp_report.specs.Numbers.{number_of}
-use Rattle.cfdp_report.specs.declared.dump.form.DumpForm.TheVariants.{Fields}
-use Rattle.cfdp_report.specs.declared.dump.shape.FrameShape.{FrameShape}
-use Rattle.cfdp_script.specs.Dump.{WritesFile}
-use Rattle.cfdp_script.specs.Script.Words.{four_of, next_word, words_of}
-use Rattle.cfdp_script.specs.declared.dump.DumpKind.{DumpKind}
-use Rattle.cfdp_script.specs.declared.dump.DumpKind.TheVariants.{Frames, Pdus}
-use Rattle.cfdp_script.specs.declared.dump.DumpRequest.{DumpRequest}
+use Rattle.cfdp_dump.specs.declared.spelled.form.DumpForm.TheVariants.{Fields}
+use Rattle.cfdp_dump.specs.declared.spelled.shape.FrameShape.{FrameShape}
+use Rattle.cfdp_dump.specs.Dump.{WritesFile}
+use Rattle.cfdp_report.specs.Words.{four_of, next_word, words_of}
+use Rattle.cfdp_dump.specs.declared.dump.DumpKind.{DumpKind}
+use Rattle.cfdp_dump.specs.declared.dump.DumpKind.TheVariants.{Frames, Pdus}
+use Rattle.cfdp_dump.specs.declared.dump.DumpRequest.{DumpRequest}
 
 -- a number that says whether a field is there
 abbrev pub flag_of : Bool → ℕ

@@ -3,7 +3,7 @@ use Rattle.std.specs.Prelude.{◌≡◌, ◌<◌, ◌≤◌, ◌+◌, ◌*◌, �
 use Rattle.std.specs.Option.{option_map_or}
 use Rattle.std.specs.Str.{bytes_eq}
 use Rattle.cfdp_report.specs.Numbers.{number_of}
-use Rattle.cfdp_script.specs.Script.Words.{four_of, next_word, parts, words_of}
+use Rattle.cfdp_report.specs.Words.{four_of, next_word, parts, words_of}
 use Rattle.cfdp_play.specs.declared.load.Load.{Load}
 use Rattle.cfdp_play.specs.declared.load.TooMuch.{TooMuch}
 use Rattle.cfdp_play.specs.declared.load.TooMuch.TheVariants as too_many

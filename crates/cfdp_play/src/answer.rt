@@ -64,7 +64,7 @@ pub fn deny(denial: Denial, response: &mut Response) -> Result<(), AllocError>
     ensures { OnOk result (response.new.status ≡ status_of denial) }
 {
     let why = match denial {
-        Denial::BadBody => "the first line is to be `pdus`, or `frames ZONE INSERT CONTROL CHECK`",
+        Denial::BadBody => "the first line must be `pdus`, or `frames ZONE INSERT CONTROL CHECK`",
         denial => denial.meaning(),
     };
     fill(response, status(denial), Kind::Text, why.as_bytes())
@@ -101,7 +101,7 @@ fn answer_run(rt: &HostRuntime, script: &[u8], response: &mut Response) -> Resul
     }
     let ended = run_script(rt, script)?;
     let Ok(report) = str::from_utf8(ended.report.as_slice()) else {
-        let why = b"the report is no text".as_slice();
+        let why = b"the report is not valid UTF-8".as_slice();
         return fill(response, StatusCode::INTERNAL_SERVER_ERROR, Kind::Text, why);
     };
     let text = run_value(alloc, &ended.ran, report)?.to_string(alloc)?;

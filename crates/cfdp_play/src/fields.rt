@@ -1,14 +1,14 @@
 //! The fields of frames and of PDUs.
 ghost use Rattle.std.specs.Prelude.{◌≡◌, IfOk, IfSome, Some, []};
-ghost use Rattle.cfdp_report.specs.Dump.Shape.{IsShape};
+ghost use Rattle.cfdp_dump.specs.Spelled.Shape.{IsShape};
 ghost use Rattle.cfdp_report.specs.Numbers.{number_of};
-ghost use Rattle.cfdp_script.specs.Dump.{WritesFile};
-ghost use Rattle.cfdp_script.specs.Script.Words.{left};
+ghost use Rattle.cfdp_dump.specs.Dump.{WritesFile};
+ghost use Rattle.cfdp_report.specs.Words.{left};
 ghost use Rattle.cfdp_play.specs.Fields.{IsCut, SayShape, Says, TellsFields, flag_of};
 
 use aos_frame::FrameFields;
-use cfdp_report::{DumpForm, Exit, FrameShape, parse_number};
-use cfdp_script::{DumpKind, DumpRequest, Words, cut_at_first, run_dump};
+use cfdp_dump::{DumpForm, DumpKind, DumpRequest, FrameShape, run_dump};
+use cfdp_report::{Exit, Words, cut_at_first, parse_number};
 use std::alloc::{AllocError, Global};
 use std::io::BufWriter;
 

@@ -1,12 +1,11 @@
 //! How much a script that is posted may ask for.
 ghost use Rattle.std.specs.Prelude.{◌≡◌, MatchOption};
-ghost use Rattle.cfdp_script.specs.Script.Words.{left};
+ghost use Rattle.cfdp_report.specs.Words.{left};
 ghost use Rattle.cfdp_play.specs.Load as loads;
 ghost use Rattle.cfdp_play.specs.Load.{AreFewEnough, AreTooMany, Exceeds, IsWithin, Takes};
 ghost use Rattle.cfdp_play.specs.Load.{filled_by, lines_of, octets_by, puts_by};
 
-use cfdp_report::parse_number;
-use cfdp_script::{Words, cut_at_first};
+use cfdp_report::{Words, cut_at_first, parse_number};
 use std::fmt;
 
 /// The most lines of a script.
@@ -39,14 +38,17 @@ impl fmt::Display for TooMuch {
     fn fmt<W: fmt::Write>(&self, f: &mut fmt::Formatter<W>) -> fmt::Result {
         match self {
             TooMuch::Lines => write!(f, "the script has more than {MOST_LINES} lines"),
-            TooMuch::Octets => write!(f, "its files have more than {MOST_OCTETS} octets"),
-            TooMuch::Puts => write!(f, "it has more than {MOST_PUTS} puts"),
+            TooMuch::Octets => write!(
+                f,
+                "the files of the script have more than {MOST_OCTETS} octets"
+            ),
+            TooMuch::Puts => write!(f, "the script has more than {MOST_PUTS} puts"),
             TooMuch::Sent => write!(
                 f,
-                "its puts times the octets of its files are more than {MOST_SENT}"
+                "the number of puts times the octets of the files is more than {MOST_SENT}"
             ),
         }?;
-        f.write_str("; `cfdp_node sim` runs it, which this page doesn't")
+        f.write_str("; run it with `cfdp_node sim`")
     }
 }
 

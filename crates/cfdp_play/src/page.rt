@@ -4,7 +4,7 @@
 /// checksums (SHA-256 of what stands between their tags), and it asks nobody but this program.
 pub const POLICY: &str = "default-src 'none'; connect-src 'self'; img-src data:; \
     style-src 'sha256-+3fUDDRyN+MFSZaeEB4jEf//+SIuqJR2s5wu4SJMySs='; \
-    script-src 'sha256-mE4zGVZGzcW+59O0wRO2SOOd0nkoKtYGkOCnLvwNmy8='; \
+    script-src 'sha256-gI/xajv4dS8Azp7VdVq2MVl6FnsRFBq4KC49Y9H0+hU='; \
     base-uri 'none'; form-action 'none'; frame-ancestors 'none'";
 
 /// The page, in HTML.
@@ -197,71 +197,71 @@ textarea { width: 100%; height: 13rem; resize: vertical; white-space: pre; }
 </style>
 </head>
 <body>
-<a class="skip" href="#world">To the stations</a>
+<a class="skip" href="#world">Skip to the stations</a>
 <header>
   <h1>Two CFDP stations</h1>
-  <span id="status" class="pill dim" role="status">nothing has run yet</span>
+  <span id="status" class="pill dim" role="status">no script has run yet</span>
   <span class="fill"></span>
   <label class="check">Example
-    <select id="examples"><option value="">choose ..</option></select></label>
+    <select id="examples"><option value="">choose one</option></select></label>
   <label class="check">Speed
     <select id="speed">
-      <option value="0.4">slow</option><option value="1" selected>plain</option>
-      <option value="3">fast</option><option value="0">at once</option>
+      <option value="0.4">slow</option><option value="1" selected>normal</option>
+      <option value="3">fast</option><option value="0">no animation</option>
     </select></label>
 </header>
 <p id="said" class="shut" aria-live="polite"></p>
 <main>
   <section class="wide" id="world" tabindex="-1" aria-labelledby="world-title">
-    <div class="head"><h2 id="world-title">Stations, and the link between them</h2>
-      <span class="dim">A lane keeps its order: no frame overtakes, repeats or comes late, and no
-        station starts anew.</span></div>
+    <div class="head"><h2 id="world-title">Stations and link</h2>
+      <span class="dim">Each lane keeps the order of its frames. No frame is duplicated or late, and
+        no station restarts.</span></div>
     <div class="world">
       <div class="station" id="station-1"></div>
-      <div id="scene" role="group" aria-label="The link: frames that wait in its lanes"></div>
+      <div id="scene" role="group" aria-label="The link: frames waiting in its lanes"></div>
       <div class="station" id="station-2"></div>
     </div>
-    <div class="bar" role="group" aria-label="What happens next">
-      <button id="go" class="main" aria-pressed="false">Let frames travel</button>
-      <button id="settle" title="All is sent and arrives">Settle</button>
-      <button id="recover" title="Settle, with timers by turns">Recover</button>
-      <button id="timer" title="The station whose timer is next is told the time">Next
+    <div class="bar" role="group" aria-label="Controls">
+      <button id="go" class="main" aria-pressed="false">Deliver all frames</button>
+      <button id="settle" title="Send and deliver until nothing is due">Settle</button>
+      <button id="recover" title="Settle, then fire timers until all is recovered">Recover</button>
+      <button id="timer" title="Set the time of the next timer at its station">Next
         timer</button>
       <span class="fill"></span>
-      <button id="first" title="Key: Home">To the start</button>
+      <button id="first" title="Key: Home">First step</button>
       <button id="back" title="Key: ,">Step back</button>
       <button id="forth" title="Key: .">Step forward</button>
-      <button id="anew" class="harm">Start anew</button>
+      <button id="anew" class="harm">Start over</button>
       <label class="check"><input id="eager" type="checkbox" checked>
-        stations send what is due at once</label>
+        send due PDUs at once</label>
     </div>
   </section>
   <section aria-labelledby="chart-title">
-    <div class="head"><h2 id="chart-title">What passes</h2>
+    <div class="head"><h2 id="chart-title">Events</h2>
       <span class="dim"><label class="check"><input id="each" type="checkbox">
-        each frame too</label></span></div>
+        show each frame</label></span></div>
     <div class="scroll" id="chart-box" tabindex="0" role="region" aria-labelledby="chart-title">
       <ol id="chart"></ol>
-      <p id="no-chart" class="none">Nothing yet: drop a file on a station, or choose an
+      <p id="no-chart" class="none">No events yet: drop a file on a station, or choose an
         example.</p>
     </div>
   </section>
   <section aria-labelledby="opened-title" id="opened" tabindex="-1">
-    <div class="head"><h2 id="opened-title">A frame or a PDU</h2>
+    <div class="head"><h2 id="opened-title">Details</h2>
       <span class="dim" id="opened-state"></span></div>
     <div class="body" id="opened-body">
-      <p class="dim">Choose a frame in the link, or a line of what passes.</p>
+      <p class="dim">Select a frame in the link, or an event.</p>
     </div>
   </section>
   <section class="wide" aria-labelledby="open-title">
     <div class="head"><h2 id="open-title">Transactions</h2>
-      <span class="dim">as they are at the end of what has run</span></div>
-    <p id="no-open" class="none">There is none.</p>
+      <span class="dim">at the end of the run</span></div>
+    <p id="no-open" class="none">No transactions.</p>
     <div class="scroll" id="open-box" hidden>
       <table>
-        <thead><tr><th scope="col">At</th><th scope="col">Id</th><th scope="col">File</th>
+        <thead><tr><th scope="col">Station</th><th scope="col">Id</th><th scope="col">File</th>
           <th scope="col">Phase</th><th scope="col">Octets</th><th scope="col">Timers</th>
-          <th scope="col"><span class="shut">What can be done</span></th></tr></thead>
+          <th scope="col"><span class="shut">Actions</span></th></tr></thead>
         <tbody id="open"></tbody>
       </table>
     </div>
@@ -272,8 +272,8 @@ textarea { width: 100%; height: 13rem; resize: vertical; white-space: pre; }
       <label class="shut" for="text">The script</label>
       <textarea id="text" spellcheck="false" autocapitalize="off" autocomplete="off"></textarea>
       <div class="row">
-        <button id="run" class="main">Run this text</button>
-        <button id="link">Copy the address</button>
+        <button id="run" class="main">Run script</button>
+        <button id="link">Copy link</button>
         <a id="save" class="button" download="play.script" href="#">Save</a>
         <label class="button">Open <input id="load" type="file" class="shut"></label>
       </div>
@@ -281,22 +281,22 @@ textarea { width: 100%; height: 13rem; resize: vertical; white-space: pre; }
   </section>
   <section aria-labelledby="report-title">
     <div class="head"><h2 id="report-title">Report</h2>
-      <span class="dim">what <code>cfdp_node sim</code> writes for this script</span></div>
+      <span class="dim">output of <code>cfdp_node sim</code> for this script</span></div>
     <div class="body"><pre id="report" tabindex="0" aria-labelledby="report-title"></pre></div>
   </section>
 </main>
 <footer id="proved">
-  <h2>What is proved of what you see</h2>
+  <h2>What is proved</h2>
   <ol>
-    <li>The script runs in the proved world of two stations, by the function that
-      <code>cfdp_node sim</code> calls: the report is that of the same script.</li>
-    <li>Whatever you lose, cancel, suspend or delay: an inbox has whole and right files alone, no
-      transaction is finished twice at a station, and who says complete had every octet.</li>
-    <li>Settling ends, from everywhere. Recovering completes what was lost, where nothing was
-      cancelled, suspended, faulted or at a limit, and inactivity is ignored.</li>
-    <li>The fields of frames and PDUs are read by the proved decoders. Not proved: how this page
-      draws, its cut of frames into packets, its list of octets that haven't come, your
-      browser.</li>
+    <li>The script runs in the proved world of two stations, by the same function as
+      <code>cfdp_node sim</code>, so the report is the same.</li>
+    <li>Whatever you lose, cancel, suspend or delay: an inbox contains only whole and correct files,
+      no transaction is finished twice at a station, and a receiver that reports complete has
+      received every octet.</li>
+    <li>Settle always ends. Recover completes each transfer that was not cancelled, suspended,
+      faulted or at a limit, if inactivity is ignored.</li>
+    <li>Proved decoders read the fields of frames and PDUs. Not proved: the drawing, the division
+      of frames into packets, the list of missing octets, your browser.</li>
   </ol>
 </footer>
 <script>
@@ -432,8 +432,8 @@ async function ask(path, body) {
 
 // Why a script isn't run, by the status and the words of an answer.
 function reasonOf(status, words) {
-  if (status !== 413) return `this page's program answers ${status}: ${words}`;
-  return words || "the script has more than 65,536 octets; `cfdp_node sim` runs it";
+  if (status !== 413) return `the server answers ${status}: ${words}`;
+  return words || "the script has more than 65,536 octets; run it with `cfdp_node sim`";
 }
 
 // What no station and no frame does in the world that this page shows.
@@ -442,8 +442,8 @@ const disorder = /^(overtake|repeat|restart) /m;
 async function runOf(text) {
   const verb = disorder.exec(text)?.[1];
   if (verb) {
-    const error = `${verb}: here frames keep their order, and no station starts anew; `
-      + "`cfdp_node sim` runs this script";
+    const error = `${verb}: not possible here, as frames keep their order and no station restarts; `
+      + "run it with `cfdp_node sim`";
     return {error, status: 2, report: "", seen: null};
   }
   const answer = await fetch("/run", {method: "POST", body: text});
@@ -515,7 +515,7 @@ async function rerun(keeps = false) {
   try {
     answer = await runOf(text());
   } catch (error) {
-    answer = {error: `this page's program doesn't answer: ${error.message}`, status: 3,
+    answer = {error: `no answer from the server: ${error.message}`, status: 3,
       report: "", seen: null};
   }
   if (number !== asking) return false;
@@ -532,7 +532,7 @@ async function rerun(keeps = false) {
 // did something.
 async function happens(wanted, eager = []) {
   const ahead = lines.slice(at).filter(isCommand);
-  if (ahead.length) say("The lines that hadn't run yet are gone.");
+  if (ahead.length) say("Removed the lines that had not run yet.");
   lines = [...lines.slice(0, at), ...wanted, ...eager];
   at = lines.length;
   const first = at - eager.length + 1;
@@ -570,7 +570,7 @@ function letters(frame) {
   return all.length > 3 ? `${all.slice(0, 2).join("")}+` : all.join("") || "..";
 }
 
-const pdusIn = (frame) => frame.pdus.map((it) => it.words).join("; ") || "a part of a PDU";
+const pdusIn = (frame) => frame.pdus.map((it) => it.words).join("; ") || "part of a PDU";
 
 function nameOf(frame) {
   return `Frame of station ${frame.station}, ${LANE_NAMES[frame.lane]}: ${pdusIn(frame)}`;
@@ -631,7 +631,7 @@ function offered(it, frame) {
   it.setAttribute("role", "button");
   it.setAttribute("tabindex", "0");
   it.setAttribute("aria-label",
-    `${nameOf(frame)}; it waits. Enter opens it, d delivers, l loses, x damages it`);
+    `${nameOf(frame)}; waiting. Enter: open, d: deliver, l: lose, x: damage`);
   it.addEventListener("click", () => choose(frame, true));
   it.addEventListener("keydown", (event) => {
     if (event.key === "Enter" || event.key === " ") choose(frame, true);
@@ -820,7 +820,7 @@ async function steps(to) {
   at = Math.max(0, Math.min(lines.length, to));
   await rerun(at > before);
   const line = at ? lines[at - 1] : "";
-  say(`${at} of ${lines.length} lines have run${line ? `, the last: ${line}` : ""}`);
+  say(`${at} of ${lines.length} lines run${line ? `, last: ${line}` : ""}`);
 }
 
 // The end of the command before this line, or behind it.
@@ -867,7 +867,7 @@ const isLine = (octets) => octets.length > 0 && octets.length < 3800
 async function putFile(station, file) {
   const octets = new Uint8Array(await file.arrayBuffer());
   if (octets.length > 262144) {
-    say(`${file.name} has more than 262,144 octets, which is too much for this page.`);
+    say(`${file.name} is too long for this page: more than 262,144 octets.`);
     byId("status").textContent = `${file.name} is too long for this page`;
     return;
   }
@@ -879,7 +879,7 @@ async function putFile(station, file) {
     const octet = (octets[0] ?? 0).toString(16).padStart(2, "0");
     await puts(station, file.name,
       (name) => `fill ${station} ${name} ${octets.length} ${octet}`);
-    say(`A script has lines of text alone: ${octets.length} octets ${octet} stand for the file.`);
+    say(`A script contains only text: ${octets.length} octets ${octet} replace this file.`);
   }
 }
 
@@ -901,9 +901,9 @@ function stationPanel(station) {
     const name = event.target.elements.name.value;
     if (content) puts(station, name, (free) => `file ${station} ${free} ${content}`);
   }}, field("name", "Name", station === 1 ? "a.txt" : "b.txt"),
-  field("content", "Text in it", "hello"),
+  field("content", "Content", "hello"),
   make("div", {className: "row"},
-    make("button", {className: "small main"}, "Put"),
+    make("button", {className: "small main"}, "Send"),
     make("label", {className: "button small"}, "Choose a file",
       make("input", {type: "file", className: "shut", onchange: (event) => {
         putFiles(station, [...event.target.files]);
@@ -913,25 +913,25 @@ function stationPanel(station) {
     event.preventDefault();
     const now = event.target.elements.now.value;
     if (now) happens([`tick ${station} ${now}`], spreads(station));
-  }}, field("now", "Time to tell", "10", "number"),
+  }}, field("now", "Time", "10", "number"),
   make("button", {className: "small"}, "tick"));
   return [make("h3", {}, `Station ${station}`,
     make("span", {className: "dim", id: `clock-${station}`})), form,
-  make("div", {}, make("h3", {}, "Sends"), make("ul", {className: "files", id: `out-${station}`})),
-  make("div", {}, make("h3", {}, "Received"),
+  make("div", {}, make("h3", {}, "Outbox"), make("ul", {className: "files", id: `out-${station}`})),
+  make("div", {}, make("h3", {}, "Inbox"),
     make("ul", {className: "files", id: `in-${station}`})),
-  make("details", {}, make("summary", {}, "More: PDUs one by one, time"),
-    make("div", {className: "row"}, call("poll", "Its next PDU goes out"),
-      call("flush", "Fills the begun frame of each lane"),
-      call("spread", "All that is due, each PDU in a frame of its own"),
-      call("burst", "All that is due, packed into frames")), tick)];
+  make("details", {}, make("summary", {}, "More: single PDUs, time"),
+    make("div", {className: "row"}, call("poll", "Send the next PDU"),
+      call("flush", "Fill up and send the unfinished frame of each lane"),
+      call("spread", "Send all due PDUs, each in its own frame"),
+      call("burst", "Send all due PDUs, packed into frames")), tick)];
 }
 
 function makeStations() {
   for (const station of [1, 2]) {
     const box = byId(`station-${station}`);
     box.setAttribute("role", "group");
-    box.setAttribute("aria-label", `Station ${station}: a file that is dropped here is put`);
+    box.setAttribute("aria-label", `Station ${station}: drop a file here to send it`);
     box.replaceChildren(...stationPanel(station));
     box.addEventListener("dragover", (event) => {
       event.preventDefault();
@@ -958,9 +958,9 @@ function showFiles() {
     for (const [id, all] of [[`out-${station}`, given], [`in-${station}`, came]]) {
       byId(id).replaceChildren(...(all.length ? all.map(([name, size]) => make("li", {}, name,
         make("span", {className: "num dim"}, `${size} octets`)))
-        : [make("li", {className: "dim"}, "nothing")]));
+        : [make("li", {className: "dim"}, "none")]));
     }
-    byId(`clock-${station}`).textContent = `its time: ${clockOf(station)}`;
+    byId(`clock-${station}`).textContent = `time: ${clockOf(station)}`;
   }
 }
 
@@ -990,8 +990,8 @@ function chartRow(it) {
   const end = is_lost ? "\u2715" : begins ? "\u2026" : from === 1 ? "\u25b6" : "\u25c0";
   const classes = [`from-${from}`, is_lost && "is-lost", it.lane === "data" && "of-data",
     (it.kind === "sends" || it.kind === "takes") && "thin"].filter(Boolean).join(" ");
-  const way = `${{"sends": "sends a frame", "takes": "takes a frame", "loses": "loses a frame",
-    "sends-pdu": "sends", "hears": "hears"}[it.kind]}`;
+  const way = `${{"sends": "sends a frame", "takes": "receives a frame", "loses": "loses a frame",
+    "sends-pdu": "sends", "hears": "receives"}[it.kind]}`;
   const arrow = make("button", {className: "arrow", type: "button",
     "aria-label": `Station ${it.station} ${way}: ${rowWords(it)}`,
     onclick: () => choose(it, true)}, make("span", {className: "shaft"}), words,
@@ -1049,13 +1049,13 @@ function packetsOf(octets, shape) {
   const pointer = (octets[begin] % 8) * 256 + octets[begin + 1];
   const zone = octets.slice(begin + 2, begin + 2 + shape.zone);
   if (pointer >= 2046) {
-    return [pointer === 2046 ? "only idle data" : `${zone.length} octets of a packet that goes on`];
+    return [pointer === 2046 ? "idle data only" : `${zone.length} octets inside a packet`];
   }
-  const found = pointer ? [`${pointer} octets, the end of a packet begun before`] : [];
+  const found = pointer ? [`${pointer} octets: the end of an earlier packet`] : [];
   for (let place = pointer; place < zone.length;) {
     const head = zone.slice(place, place + 6);
     if (head.length < 6) {
-      found.push(`${head.length} octets, the begin of a packet's header`);
+      found.push(`${head.length} octets: the start of a packet header`);
       break;
     }
     const apid = (head[0] % 8) * 256 + head[1];
@@ -1063,7 +1063,7 @@ function packetsOf(octets, shape) {
     const here = Math.min(size, zone.length - place);
     const count = (head[2] % 64) * 256 + head[3];
     const what = apid === 2047 ? "idle packet" : `packet of APID ${apid}, count ${count}`;
-    found.push(`${what}, ${size} octets${here < size ? `, ${here} of them here` : ""}`);
+    found.push(`${what}, ${size} octets${here < size ? `, ${here} of them in this frame` : ""}`);
     place += here;
   }
   return found;
@@ -1087,10 +1087,10 @@ function frameParts(frame) {
     parts.push(make("div", {className: "row"}, knob("Deliver", "main", "d", deliver),
       knob("Lose", "harm", "l", strike), knob("Damage", "harm", "x", damage)));
     if (clears(frame).length) {
-      parts.push(make("p", {className: "dim"}, "Those before it in its lane arrive first."));
+      parts.push(make("p", {className: "dim"}, "Earlier frames of its lane arrive first."));
     }
   }
-  parts.push(make("h3", {}, "PDUs that end in it"));
+  parts.push(make("h3", {}, "PDUs that end in this frame"));
   parts.push(frame.pdus.length ? make("div", {className: "row"}, ...frame.pdus.map(pduButton))
     : make("p", {className: "dim"}, "none"));
   parts.push(make("h3", {}, "Packets (CCSDS 133.0-B-2, 4.1)"));
@@ -1100,8 +1100,8 @@ function frameParts(frame) {
 
 function stateOf(it) {
   if (it.kind !== "sends") return `line ${it.line}, event ${it.event}`;
-  if (!it.fate) return "it waits in the link";
-  return it.fate.kind === "takes" ? "it arrived" : "it is lost";
+  if (!it.fate) return "waiting in the link";
+  return it.fate.kind === "takes" ? "delivered" : "lost";
 }
 
 // What the fields of this are asked by.
@@ -1123,7 +1123,7 @@ async function choose(sighting, moves_focus) {
   const fields = make("div", {}, "..");
   byId("opened-body").replaceChildren(...(is_frame ? frameParts(it) : []),
     ...(!is_frame && it.frame ? [make("p", {}, make("button", {type: "button", className: "small",
-      onclick: () => choose(it.frame, true)}, "The frame in which it ends"))] : []),
+      onclick: () => choose(it.frame, true)}, "Show the frame in which it ends"))] : []),
     make("h3", {}, "Fields"), fields, make("h3", {}, `Octets: ${it.octets.length / 2}`),
     make("pre", {className: "octets", tabIndex: 0, "aria-label": "Octets"}, dumpOf(it.octets)));
   if (moves_focus) byId("opened").focus({preventScroll: innerWidth > 960});
@@ -1141,10 +1141,10 @@ function showChosen() {
   if (it && it.octets === chosen.octets && it.kind === chosen.kind) choose(it, false);
   else {
     chosen = null;
-    byId("opened-title").textContent = "A frame or a PDU";
+    byId("opened-title").textContent = "Details";
     byId("opened-state").textContent = "";
     byId("opened-body").replaceChildren(make("p", {className: "dim"},
-      "Choose a frame in the link, or a line of what passes."));
+      "Select a frame in the link, or an event."));
   }
 }
 
@@ -1186,7 +1186,7 @@ function gapsIn(heard, size) {
 function octetsCell(it, file) {
   const is_sender = it.id.split(":")[0] === String(it.station);
   const size = file ? ` of ${file.size}` : "";
-  if (is_sender) return [`sent up to ${it.progress ?? 0}${size}`];
+  if (is_sender) return [`sent ${it.progress ?? 0}${size}`];
   if (it.phase !== "receiving" || !file) return [`${it.progress ?? 0}${size}`];
   const heard = heardBy(it.station, it.id);
   const gaps = gapsIn(heard, file.size);
@@ -1198,11 +1198,11 @@ function octetsCell(it, file) {
       height: 10}));
   }
   const named = gaps.slice(0, 6).map(([from, to]) => `${from}-${to}`).join(" ");
-  return [gaps.length ? `not come: ${named}${gaps.length > 6 ? " .." : ""}` : "all came", bar];
+  return [gaps.length ? `missing: ${named}${gaps.length > 6 ? " .." : ""}` : "all received", bar];
 }
 
-const TIMER_NAMES = {eof_ack: "EOF's ACK", nak: "what the NAK asked for",
-  finished_ack: "Finished's ACK", inactivity: "any PDU"};
+const TIMER_NAMES = {eof_ack: "ACK of EOF", nak: "data requested by NAK",
+  finished_ack: "ACK of Finished", inactivity: "any PDU"};
 
 function timersOf(it) {
   return Object.entries(TIMER_NAMES).filter(([name]) => it[name] !== null)
@@ -1252,7 +1252,7 @@ function showOpen() {
 
 function showStatus() {
   const last = (ran?.report ?? "").trimEnd().split("\n").pop();
-  const [words, kind] = !ran ? ["nothing has run yet", "dim"]
+  const [words, kind] = !ran ? ["no script has run yet", "dim"]
     : ran.error ? [ran.error, "bad"]
       : ran.status === 0 ? [last, seen.length ? "good" : "dim"] : [last, "fair"];
   byId("status").textContent = words;
@@ -1268,7 +1268,7 @@ function addressOf(whole) {
 function showScript() {
   const whole = lines.map((it) => `${it}\n`).join("");
   if (byId("text") !== document.activeElement) byId("text").value = whole;
-  byId("ran").textContent = `${at} of ${lines.length} lines have run`;
+  byId("ran").textContent = `${at} of ${lines.length} lines run`;
   byId("save").href = `data:text/plain;charset=utf-8,${encodeURIComponent(whole)}`;
   if (location.hash !== addressOf(whole)) history.replaceState(null, "", addressOf(whole));
   byId("back").disabled = byId("first").disabled = at <= firstCommand();
@@ -1279,7 +1279,7 @@ function showScript() {
 }
 
 function showAll() {
-  const cut = ran?.seen?.cut ? "\n(Not all that passed is shown above: it is too much.)" : "";
+  const cut = ran?.seen?.cut ? "\n(Too many events: not all of them are shown above.)" : "";
   const status = ran ? `exit status ${ran.status}` : "";
   byId("report").textContent = `${ran?.error ? `${ran.error}\n` : ""}${ran?.report ?? ""}`
     + `${status}${cut}`;
@@ -1309,14 +1309,14 @@ function fromAddress() {
 
 async function copyAddress() {
   if (lines.length && location.hash.length < 2) {
-    say("The script is too long for an address: save it.");
+    say("The script is too long for a link: save it instead.");
     return;
   }
   try {
     await navigator.clipboard.writeText(location.href);
-    say("The address is copied. Whoever opens it here sees this run.");
+    say("Link copied. Open it on this machine to see the same run.");
   } catch {
-    say("The browser copies nothing: take the address from its own line.");
+    say("Cannot copy: take the link from the address bar.");
   }
 }
 

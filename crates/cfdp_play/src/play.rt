@@ -21,7 +21,7 @@ pub fn play_status(rt: &HostRuntime, listen: &str) -> u8 {
     };
     if !address.ip().is_loopback() {
         let _ = eprintln!(rt;
-            "error: --listen {listen}: the page is for this machine alone (127.0.0.1 or [::1])"
+            "error: --listen {listen}: must be an address of this machine alone, 127.0.0.1 or [::1]"
         );
         return MISTAKE;
     }
@@ -55,10 +55,10 @@ fn listener(rt: &HostRuntime, address: SocketAddr) -> io::Result<TcpListener> {
 fn fails(rt: &HostRuntime, listen: &str, error: &io::Error) -> u8 {
     let cause = match error.kind() {
         ErrorKind::InvalidInput | ErrorKind::InvalidData => {
-            "an address is HOST:PORT, as 127.0.0.1:8090, with a port up to 65535"
+            "an address must be HOST:PORT, e.g. 127.0.0.1:8090, with a port of 0 to 65535"
         }
         ErrorKind::NotFound | ErrorKind::Other | ErrorKind::Uncategorized => {
-            "the host can't be found (an address is HOST:PORT, as 127.0.0.1:8090)"
+            "host not found (an address must be HOST:PORT, e.g. 127.0.0.1:8090)"
         }
         kind => cause_text(kind),
     };

@@ -4,8 +4,8 @@ ghost use Rattle.std.specs.Io.Buffered.{writer_contents};
 ghost use Rattle.cfdp_script.specs.Script.Simulated.{EndsScript, IsSilentAt};
 ghost use Rattle.cfdp_play.specs.Running.{Ends};
 
-use cfdp_report::{Ran, Shown};
 use cfdp_script::run_sim;
+use cfdp_watch::{Ran, Shown};
 use std::alloc::AllocError;
 use std::io::BufWriter;
 

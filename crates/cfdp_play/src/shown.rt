@@ -5,10 +5,10 @@ ghost use Rattle.serde_json.specs.View.{view};
 ghost use Rattle.cfdp_play.specs.Running.{Tells};
 
 use crate::values::Values;
-use cfdp_report::{
-    Deed, Exit, Fault, FrameShape, FrameShapes, Kept, Ran, Reason, Sighting, Standing, write_trace,
-};
+use cfdp_dump::{FrameShape, FrameShapes};
+use cfdp_report::{Exit, Fault, Reason};
 use cfdp_station::Phase;
+use cfdp_watch::{Deed, Kept, Ran, Sighting, Standing, write_trace};
 use serde_json::{Value, json};
 use std::alloc::{AllocError, Global};
 use std::io::BufWriter;
@@ -53,9 +53,8 @@ fn error_of(alloc: Global, exit: Exit) -> Result<Value, AllocError>
 fn fault_text(fault: Fault) -> &'static str {
     match fault {
         Fault::TooLong => "the script is longer than 1,048,576 octets",
-        Fault::Unreadable(_) => "the script can't be read",
-        Fault::Unwritable | Fault::NoMemoryAtStart | Fault::NoMemory =>
-            "there is not enough memory",
+        Fault::Unreadable(_) => "cannot read the script",
+        Fault::Unwritable | Fault::NoMemoryAtStart | Fault::NoMemory => "out of memory",
     }
 }
 
@@ -160,18 +159,15 @@ fn standing_value(alloc: Global, it: &Standing) -> Result<Value, AllocError>
     ensures { IfOk result (λ it. depth (view it) ≤ 1) }
 {
     let id = format!(in alloc; "{}:{}", it.id.source, it.id.number)?;
-    let (eof, nak) = (number(it.eof_ack), number(it.nak));
-    let (finished, inactivity) = (number(it.finished_ack), number(it.inactivity));
-    let (progress, station) = (number(it.progress), it.station.entity());
     json!(in alloc; {
-        "eof_ack": eof,
-        "finished_ack": finished,
+        "eof_ack": number(it.eof_ack),
+        "finished_ack": number(it.finished_ack),
         "id": id.as_str(),
-        "inactivity": inactivity,
-        "nak": nak,
+        "inactivity": number(it.inactivity),
+        "nak": number(it.nak),
         "phase": phase_word(it.phase),
-        "progress": progress,
-        "station": station,
+        "progress": number(it.progress),
+        "station": it.station.entity(),
     })
 }
 

@@ -1,5 +1,3 @@
 pub mod TurnLemmas
 pub mod GainLemmas
 mod PairLemmas
-mod OrderLemmas
-mod Delivered

@@ -6,7 +6,7 @@ use Rattle.aos_frame.specs.declared.config.LinkConfig.{LinkConfig}
 use Rattle.aos_frame.specs.declared.config.Lane.{Lane}
 use Rattle.aos_frame.specs.declared.config.Lane.TheVariants.{Directives, Data}
 use Rattle.link_stack.specs.Downward.{DownState, LinkSenderState, first_down, frame_lane, lane_down}
-use Rattle.link_sim.proofs.Lanes.Frames.{next-is_whole}
+use Rattle.cfdp_station.proofs.Whole.{next-is_whole}
 use Rattle.cfdp_station.specs.Link.{FlushesBoth}
 use Rattle.cfdp_station.specs.Station.{StationState}
 use Rattle.cfdp_station.specs.Transmitting.{Times}

@@ -10,7 +10,7 @@ use Rattle.cfdp_entity.specs.Putting.{Accepts, IsPutRefusal, put_refusal, stored
 use Rattle.cfdp_entity.specs.declared.error.PutError.{PutError}
 use Rattle.cfdp_entity.specs.Table.{without_told}
 use Rattle.cfdp_station.specs.Station.{StationState, KeepsLink, KeepsRest}
-use Rattle.link_sim.specs.AtStation.{CountsPut, KeepsFailures}
+use Rattle.cfdp_station.specs.Failures.{CountsPut, KeepsFailures}
 
 -- ---- puts
 -- The station accepted the put, or refused it by this cause and nothing else changed.

@@ -6,4 +6,4 @@ pub mod Lossy
 pub mod Gains
 pub mod Asking
 pub mod Pair
-pub mod InOrder
+pub mod Passing

@@ -12,7 +12,7 @@ use Rattle.cfdp_station.specs.Station.{StationState, KeepsLink, KeepsRest}
 use Rattle.cfdp_station.specs.Taking.{TakesFrame}
 use Rattle.cfdp_station.specs.Transmitting.{GivesFrame, IsMore, PollsOnce, Times}
 use Rattle.cfdp_station.specs.declared.polled.Polled.{Polled}
-use Rattle.link_sim.specs.AtStation.{KeepsOutbox}
+use Rattle.cfdp_station.specs.Failures.{KeepsOutbox}
 use Rattle.cfdp_port.specs.Calls.{WireCall, Sent, Asked}
 use Rattle.cfdp_port.specs.Port.{PortState}
 use Rattle.cfdp_port.specs.declared.wire.WireFault.{WireFault}

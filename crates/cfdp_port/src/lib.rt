@@ -17,21 +17,21 @@
 //! Tested by `tests/rows/folders.rows` and `tests/stations.py`, through the programs above.
 #![tactic(auto)]
 
-mod in_order;
 mod lookout;
 mod losses;
 mod lossy_wire;
 mod pair;
+mod passed;
 mod peer_turn;
 mod port;
 mod turn;
 mod wire;
 
-pub use in_order::{told_complete_is_published, turns_are_of_a_world};
-pub use link_sim::{Passed, Side};
 pub use lookout::Lookout;
 pub use losses::{FrameLosses, Losses};
 pub use lossy_wire::LossyWire;
 pub use pair::take_turns;
+pub use passed::Passed;
 pub use port::Port;
+pub use station_pair::Side;
 pub use wire::{PeerWire, Wire, WireFault};

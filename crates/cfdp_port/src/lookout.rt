@@ -1,7 +1,8 @@
 //! One who looks on while stations exchange frames over wires.
+use crate::passed::Passed;
 use cfdp_station::Station;
 use cfdp_store::{Inbox, Outbox};
-use link_sim::{Passed, Side};
+use station_pair::Side;
 
 /// One who looks on at stations, which are lent: so it changes nothing there.
 pub trait Lookout {

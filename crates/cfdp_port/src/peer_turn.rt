@@ -9,12 +9,13 @@ ghost use Rattle.cfdp_port.specs.Port.{FitsFrames, KeepsLinks, port_state, table
 ghost use Rattle.cfdp_port.specs.Turn.{SendsFrame};
 
 use crate::lookout::Lookout;
+use crate::passed::Passed;
 use crate::turn::{receive, send_one};
 use crate::wire::PeerWire;
 use cfdp_entity::an_entity_goes_on;
 use cfdp_station::{Lane, Station};
 use cfdp_store::{Inbox, Outbox};
-use link_sim::{Passed, Side};
+use station_pair::Side;
 use std::alloc::AllocError;
 
 /// The most frames that leave in a turn, so that what comes is taken between.

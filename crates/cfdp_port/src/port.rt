@@ -3,7 +3,7 @@ ghost use Rattle.std.specs.Prelude.{◌≡◌, drop, is_some, IfOk, OnErr, OnOk}
 ghost use Rattle.std.specs.FinMap as map;
 ghost use Rattle.cfdp_entity.specs.Entity.{phase_told};
 ghost use Rattle.cfdp_station.specs.Requests.{StationAnswers};
-ghost use Rattle.link_sim.specs.World.State.{IsNewAt};
+ghost use Rattle.cfdp_station.specs.New.{IsNewAt};
 ghost use Rattle.cfdp_port.specs.Asking.{CountsFrom, FailsToLook, ForgetsTold, LetsGo, LooksAt};
 ghost use Rattle.cfdp_port.specs.Asking.{Puts};
 ghost use Rattle.cfdp_port.specs.Calls.{Rested};
@@ -14,6 +14,7 @@ ghost use Rattle.cfdp_port.specs.Port as spec;
 ghost use Rattle.cfdp_port.specs.Turn.{HearsAll, Sends, SendsInPart};
 
 use crate::lookout::Lookout;
+use crate::passed::Passed;
 use crate::peer_turn::take_turn;
 use crate::turn;
 use crate::wire::{PeerWire, Wire};
@@ -22,7 +23,7 @@ use cfdp_entity::an_entity_goes_on;
 use cfdp_header::TransactionId;
 use cfdp_station::{Lane, PutError, Request, RequestError, Station, StationConfig};
 use cfdp_store::{Inbox, Outbox, SeekingOutbox, StoreError};
-use link_sim::{Passed, Side};
+use station_pair::Side;
 use std::alloc::{AllocError, Global};
 use std::marker::Model;
 use valid_config::Valid;

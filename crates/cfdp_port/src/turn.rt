@@ -6,10 +6,11 @@ ghost use Rattle.cfdp_port.specs.Turn.{HearsAll, PollsInPart, PollsOut, Sends, S
 ghost use Rattle.cfdp_port.specs.Turn.{SendsInPart, SendsWhole};
 
 use crate::lookout::Lookout;
+use crate::passed::Passed;
 use crate::wire::Wire;
 use cfdp_station::Station;
 use cfdp_store::{Inbox, Outbox};
-use link_sim::{Passed, Side};
+use station_pair::Side;
 use std::alloc::AllocError;
 
 /// The most PDUs that a station moves in a turn.

@@ -1,10 +1,5 @@
 pub mod Numbers
 pub mod Numerals
-pub mod AskedRanges
 pub mod HexNumbers
-pub mod FieldTexts
-pub mod TextLines
-pub mod ToldOptions
-pub mod Traces
-pub mod Captures
-pub mod Charts
+pub mod Parts
+pub mod FlushedEnds

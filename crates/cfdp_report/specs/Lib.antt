@@ -2,5 +2,6 @@ pub mod Exit
 pub mod Report
 pub mod Settings
 pub mod Numbers
-pub mod Dump
-pub mod Watch
+pub mod Words
+pub mod Meaning
+pub mod Reading

@@ -1,7 +1,8 @@
--- Numbers in the words of a script.
-use Rattle.std.specs.Prelude.{◌^◌, ℕ, ◌==◌, nat_lt, List, [], ◌∷◌, length, if◌then◌else◌, Option, Some, None, option_and_then}
+-- Numbers in words, as they are read and written.
+use Rattle.std.specs.Prelude.{◌^◌, ◌-◌, ℕ, ◌==◌, true, nat_lt, List, [], ◌∷◌, ◌++◌, length, replicate, if◌then◌else◌, Option, Some, None, option_and_then}
 use Rattle.std.specs.List.{list_all}
 use Rattle.std.specs.Char.{is_digit}
+use Rattle.std.specs.Fmt.{digits}
 use Rattle.std.specs.Str.Parse.{digits_value}
 
 -- the number that digits of this radix spell, one at least
@@ -19,3 +20,8 @@ number_of word = option_and_then (λ number. if nat_lt number (2 ^ 64) then Some
 -- an octet: two hexadecimal digits, in either case
 abbrev pub octet_of : List ℕ → Option ℕ
 octet_of word = if length word == 2 then numeral_of 16 word else None
+
+-- a number as eight upper-case hexadecimal digits
+abbrev pub hex_number_text : ℕ → List ℕ
+hex_number_text number = let numeral = digits 16 true number in replicate (8 - length numeral) 48
+    ++ numeral

@@ -11,10 +11,11 @@ use Rattle.cfdp_entity.specs.declared.config.EntityConfig.{EntityConfig}
 use Rattle.cfdp_station.specs.declared.config.StationConfig.{StationConfig}
 use Rattle.frame_fields.specs.declared.config.FrameFields.{FrameFields}
 use Rattle.aos_frame.specs.declared.config.LinkConfig.{LinkConfig}
-use Rattle.link_sim.specs.Stations as sides
-use Rattle.link_sim.specs.declared.side.Side.{Side}
-use Rattle.link_sim.specs.declared.side.Side.TheVariants.{One, Two}
-use Rattle.link_sim.specs.declared.world_config.WorldConfig.{WorldConfig}
+use Rattle.station_pair.specs.Stations as sides
+use Rattle.station_pair.specs.Stations.{IsWorldConfig}
+use Rattle.station_pair.specs.declared.side.Side.{Side}
+use Rattle.station_pair.specs.declared.side.Side.TheVariants.{One, Two}
+use Rattle.station_pair.specs.declared.world_config.WorldConfig.{WorldConfig}
 use Rattle.cfdp_report.specs.declared.settings.table.Row.{Row}
 use Rattle.cfdp_report.specs.declared.settings.Settings.{Settings}
 use Rattle.cfdp_report.specs.declared.settings.table.Setting.{Setting}
@@ -241,3 +242,7 @@ setting_of word = key_among keys word
 -- the same of a row of the program's table
 abbrev pub row_key : Row → Setting × List ℕ
 row_key row = (row.setting, row.key.now)
+
+-- Each value is in its range, and the stations can be set up so.
+abbrev pub AreValid : Settings → Type 0
+AreValid s = FitFields s × IsWorldConfig (world_of s)

@@ -14,15 +14,15 @@ pub fn cause_text(kind: ErrorKind) -> &'static str {
         | ErrorKind::NetworkDown
         | ErrorKind::NetworkUnreachable
         | ErrorKind::NotConnected => network_cause(kind),
-        ErrorKind::BrokenPipe => "nobody reads what is written",
-        ErrorKind::InvalidData => "it has what it can't have",
-        ErrorKind::InvalidInput => "no such value is taken",
+        ErrorKind::BrokenPipe => "broken pipe",
+        ErrorKind::InvalidData => "not valid UTF-8",
+        ErrorKind::InvalidInput => "invalid argument",
         ErrorKind::OutOfMemory => "out of memory",
         ErrorKind::PermissionDenied => "permission denied",
         ErrorKind::TimedOut => "timed out",
-        ErrorKind::UnexpectedEof => "it ends too soon",
-        ErrorKind::Unsupported => "the system can't do that here",
-        ErrorKind::WouldBlock => "another process has it",
+        ErrorKind::UnexpectedEof => "unexpected end",
+        ErrorKind::Unsupported => "not supported by the system",
+        ErrorKind::WouldBlock => "in use by another process",
         kind => file_cause(kind),
     }
 }
@@ -30,22 +30,22 @@ pub fn cause_text(kind: ErrorKind) -> &'static str {
 /// The same of files and folders.
 fn file_cause(kind: ErrorKind) -> &'static str {
     match kind {
-        ErrorKind::AlreadyExists => "there is a file of that name",
-        ErrorKind::CrossesDevices => "both are not on one file system",
-        ErrorKind::DirectoryNotEmpty => "the folder isn't empty",
-        ErrorKind::FileTooLarge => "the file would be too large",
-        ErrorKind::FilesystemLoop => "its path has too many links",
-        ErrorKind::InvalidFilename => "the name is too long, or is no text",
-        ErrorKind::IsADirectory => "it is a folder",
-        ErrorKind::NotADirectory => "a part of its path is no folder",
+        ErrorKind::AlreadyExists => "a file of that name exists",
+        ErrorKind::CrossesDevices => "not on the same file system",
+        ErrorKind::DirectoryNotEmpty => "folder not empty",
+        ErrorKind::FileTooLarge => "file too large",
+        ErrorKind::FilesystemLoop => "too many links in the path",
+        ErrorKind::InvalidFilename => "name too long or not valid",
+        ErrorKind::IsADirectory => "is a folder",
+        ErrorKind::NotADirectory => "part of the path is not a folder",
         ErrorKind::NotFound => "no such file or folder",
-        ErrorKind::NotSeekable => "it is no plain file",
-        ErrorKind::QuotaExceeded => "the quota of disk space is used up",
-        ErrorKind::ReadOnlyFilesystem => "the file system is read-only",
-        ErrorKind::ResourceBusy => "it is in use",
-        ErrorKind::StaleNetworkFileHandle => "the file server knows it no more",
+        ErrorKind::NotSeekable => "not a plain file",
+        ErrorKind::QuotaExceeded => "disk quota exceeded",
+        ErrorKind::ReadOnlyFilesystem => "read-only file system",
+        ErrorKind::ResourceBusy => "in use",
+        ErrorKind::StaleNetworkFileHandle => "stale network file handle",
         ErrorKind::StorageFull | ErrorKind::WriteZero => "no space left on the device",
-        ErrorKind::TooManyLinks => "the file has too many links",
+        ErrorKind::TooManyLinks => "too many links to the file",
         _ => "input or output error",
     }
 }
@@ -55,7 +55,7 @@ fn network_cause(kind: ErrorKind) -> &'static str {
     match kind {
         ErrorKind::AddrInUse => "address in use",
         ErrorKind::AddrNotAvailable => "address not available",
-        ErrorKind::ConnectionRefused => "nobody listens there",
+        ErrorKind::ConnectionRefused => "connection refused: nothing listens there",
         ErrorKind::HostUnreachable => "host unreachable",
         ErrorKind::NetworkDown => "network down",
         ErrorKind::NetworkUnreachable => "network unreachable",

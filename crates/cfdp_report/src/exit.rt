@@ -105,11 +105,11 @@ impl Fault {
     pub fn tell(self, rt: &HostRuntime, input: Input<'_>) {
         let _ = match self {
             Fault::Unreadable(kind) => {
-                eprintln!(rt; "error: {input} can't be read: {}", cause_text(kind))
+                eprintln!(rt; "error: cannot read {input}: {}", cause_text(kind))
             }
             Fault::TooLong => eprintln!(rt; "error: {input} is longer than 1,048,576 octets"),
-            Fault::Unwritable => eprintln!(rt; "error: standard output can't be written"),
-            Fault::NoMemory => eprintln!(rt; "error: there is not enough memory"),
+            Fault::Unwritable => eprintln!(rt; "error: cannot write standard output"),
+            Fault::NoMemory => eprintln!(rt; "error: out of memory"),
             Fault::NoMemoryAtStart => Ok(()),
         };
     }

@@ -135,14 +135,14 @@ impl fmt::Display for Hint {
     fn fmt<W: fmt::Write>(&self, f: &mut fmt::Formatter<W>) -> fmt::Result {
         match self {
             Hint::Nothing => Ok(()),
-            Hint::Nearest(word) => write!(f, "; the nearest is {}", word.text()),
-            Hint::Form(form) => write!(f, "; the command is: {}", form.text()),
+            Hint::Nearest(word) => write!(f, "; did you mean {}", word.text()),
+            Hint::Form(form) => write!(f, "; usage: {}", form.text()),
             Hint::Keys => write!(f, "; the keys are {Keys}"),
             Hint::Value(setting) => {
                 let (key, range) = (setting.key(), setting.range());
-                write!(f, "; {key} is {range}")
+                write!(f, "; {key} must be {range}")
             }
-            Hint::Help => f.write_str("; 'cfdp_node sim --help' lists them"),
+            Hint::Help => f.write_str("; 'cfdp_node sim --help' lists all commands"),
         }
     }
 }
@@ -182,8 +182,13 @@ pub enum LineError {
     BadOctet,
     /// `set`, `file` or `fill` stands behind another command.
     TooLate,
-    /// The last `set` leaves a setting out of its range. This is the line that set that one.
-    OutOfRange { setting: Setting, line: usize },
+    /// The last `set` leaves a setting out of its range. This is its value, and the line that set
+    /// that one.
+    OutOfRange {
+        setting: Setting,
+        value: u64,
+        line: usize,
+    },
     /// The last `set` leaves a configuration that isn't valid.
     BadConfiguration,
     /// Something is to be shown of the run, and the command is none of a link that keeps the order
@@ -199,35 +204,48 @@ impl fmt::Display for LineError {
             LineError::NotAscii => f.write_str("the line has an octet that is not ASCII"),
             LineError::MissingWord => f.write_str("a word is missing"),
             LineError::EmptyWord => {
-                f.write_str("two spaces stand together, or a space begins or ends the line")
+                f.write_str("two spaces in a row, or a space at the start or end of the line")
             }
-            LineError::ExtraWord => f.write_str("the line has more words than the command takes"),
-            LineError::UnknownCommand => f.write_str("there is no such command"),
-            LineError::UnknownKey => f.write_str("there is no such key"),
-            LineError::UnknownStation => f.write_str("a station is 1 or 2"),
+            LineError::ExtraWord => f.write_str("too many words"),
+            LineError::UnknownCommand => f.write_str("unknown command"),
+            LineError::UnknownKey => f.write_str("unknown key"),
+            LineError::UnknownStation => f.write_str("a station must be 1 or 2"),
             LineError::BadNumber => {
-                f.write_str("a number is a whole one from 0 to 18446744073709551615")
+                f.write_str("a number must be whole, 0 to 18446744073709551615")
             }
             LineError::UnknownLane => f.write_str(
-                "a lane is dir or data, and a number a whole one up to 18446744073709551615",
+                "a lane must be dir or data, and a number whole, 0 to 18446744073709551615",
             ),
-            LineError::NoFrame => f.write_str("the number of a frame is 1 or more"),
+            LineError::NoFrame => f.write_str("the number of a frame must be 1 or more"),
             LineError::BadId => {
-                f.write_str("a transaction is two whole numbers with a colon between, as 1:7")
+                f.write_str(
+                    "a transaction must be two whole numbers with a colon between, e.g. 1:7",
+                )
             }
-            LineError::UnknownPrompt => f.write_str("a prompt asks for nak or keep"),
-            LineError::FileTooLong => f.write_str("a file to fill has at most 1,048,576 octets"),
-            LineError::BadOctet => f.write_str("an octet is two hexadecimal digits, as 0A"),
-            LineError::TooLate => f.write_str("set, file and fill stand before all other commands"),
-            LineError::OutOfRange { setting, line } => {
+            LineError::UnknownPrompt => f.write_str("a prompt must ask for nak or keep"),
+            LineError::FileTooLong => f.write_str(
+                "a file to fill must have at most 1,048,576 octets",
+            ),
+            LineError::BadOctet => f.write_str("an octet must be two hexadecimal digits, e.g. 0A"),
+            LineError::TooLate => f.write_str(
+                "set, file and fill must come before all other commands",
+            ),
+            LineError::OutOfRange {
+                setting,
+                value,
+                line,
+            } => {
                 let (key, range) = (setting.key(), setting.range());
-                write!(f, "{key}, set in line {line}, is out of its range, {range}")
+                write!(
+                    f,
+                    "{key}, set in line {line}, must be {range} (got {value})"
+                )
             }
             LineError::BadConfiguration => {
-                f.write_str("after the last set a setting is out of its range")
+                f.write_str("a setting is out of its range after the last set")
             }
             LineError::Unshown => f.write_str(
-                "--explain, --trace, --pcap and --chart show no script that has such a command",
+                "not allowed with --explain, --trace, --pcap or --chart",
             ),
         }
     }

@@ -1,8 +1,10 @@
-// Numbers in the words of a script.
-ghost use Rattle.std.specs.Prelude.{◌≡◌, ◌<◌, ◌↔◌, length, IsSome, IfSome};
+// Numbers in words, as they are read and written.
+ghost use Rattle.std.specs.Prelude.{◌≡◌, ◌<◌, ◌↔◌, length, IsSome, IfSome, Some};
 ghost use Rattle.std.specs.Char.{digit_value};
 ghost use Rattle.std.specs.Str.Parse.{AllDigits, digits_value};
-ghost use Rattle.cfdp_report.specs.Numbers.{number_of};
+ghost use Rattle.cfdp_report.specs.Numbers.{hex_number_text, number_of};
+
+use std::fmt;
 
 /// The number that decimal digits spell, below 2^64. Zeros may stand in front.
 pub fn parse_number(word: &[u8]) -> Option<u64>
@@ -43,5 +45,17 @@ fn hex_value(digit: u8) -> Option<u8>
         b'A'..=b'F' => Some(digit - b'A' + 10),
         b'a'..=b'f' => Some(digit - b'a' + 10),
         _ => None,
+    }
+}
+
+/// A number as eight upper-case hexadecimal digits.
+#[derive(Clone, Copy)]
+pub struct HexNumber(pub u32);
+
+impl fmt::Display for HexNumber {
+    ghost output = { λ number. Some (hex_number_text number.0) };
+
+    fn fmt<W: fmt::Write>(&self, f: &mut fmt::Formatter<W>) -> fmt::Result {
+        write!(f, "{:08X}", self.0)
     }
 }

@@ -6,7 +6,6 @@ ghost use Rattle.cfdp_report.specs.Report.Lines.{answer_line, indication_line, i
 ghost use Rattle.cfdp_report.specs.Report.Lines.{is_own_completion, told_text};
 
 pub mod answer;
-pub mod condition;
 pub mod name;
 pub mod wording;
 

@@ -1,6 +1,6 @@
 //! What can be set of stations.
 ghost use Rattle.std.specs.Prelude.{◌≡◌, ◌==◌, ◌<◌, ◌^◌, ◌↔◌, IsSome, IfSome};
-ghost use Rattle.link_sim.specs.Stations.{IsWorldConfig};
+ghost use Rattle.station_pair.specs.Stations.{IsWorldConfig};
 ghost use Rattle.cfdp_report.specs.Settings.{pair_of, world_of, station_of, entity_of, policy_of};
 ghost use Rattle.cfdp_report.specs.Settings.{limits_of, times_of, handlers_of, handler_of, link_of};
 ghost use Rattle.cfdp_report.specs.Settings.{FitFields, FitSending, FitPolicy, FitLimits, FitTimes};
@@ -12,7 +12,7 @@ use crate::settings::table::{Setting, TABLE};
 use cfdp_directives::{ChecksumKind, Handler, Handlers, Limits, Policy, Times};
 use cfdp_entity::EntityConfig;
 use cfdp_station::{FrameFields, LinkConfig, StationConfig};
-use link_sim::{Side, WorldConfig};
+use station_pair::{Side, WorldConfig};
 use valid_config::{Config, Valid};
 
 /// The values that were set so far, in range or not: each that of the [`Setting`] of its name.
@@ -121,11 +121,12 @@ impl Settings {
         }
     }
 
-    /// The first setting whose value is out of its range.
-    pub fn out_of_range(&self) -> Option<Setting> {
+    /// The first setting whose value is out of its range, with the value.
+    pub fn out_of_range(&self) -> Option<(Setting, u64)> {
         for row in &TABLE {
-            if !row.range.has(self.value(row.setting)) {
-                return Some(row.setting);
+            let value = self.value(row.setting);
+            if !row.range.has(value) {
+                return Some((row.setting, value));
             }
         }
         None

@@ -21,7 +21,7 @@ use Rattle.link_sim.specs.Observed.{seen}
 use Rattle.link_sim.specs.Recovering.{IsRecovered, Recovers}
 use Rattle.link_sim.specs.Running.{AreApart, KeepsPromises}
 use Rattle.link_sim.specs.Settling.{GoesWell, IsSettled}
-use Rattle.link_sim.specs.Stations.{other}
+use Rattle.station_pair.specs.Stations.{other}
 use Rattle.link_sim.specs.Spreading.{Many, Times}
 use Rattle.link_sim.specs.Theorem.{WorldSeen, accepted_as, at, put_by, side_of}
 use Rattle.link_sim.specs.World.State.{WorldState, entity_at}
@@ -31,10 +31,10 @@ use Rattle.link_sim.specs.declared.event.Applied.{Applied}
 use Rattle.link_sim.specs.declared.event.Applied.TheVariants as did
 use Rattle.link_sim.specs.declared.event.Event.{Event}
 use Rattle.link_sim.specs.declared.event.Event.TheVariants as event
-use Rattle.link_sim.specs.declared.recover_error.RecoverError.{RecoverError}
-use Rattle.link_sim.specs.declared.recover_error.RecoverError.TheVariants.{Settle, StillArmed}
-use Rattle.link_sim.specs.declared.side.Side.{Side}
-use Rattle.link_sim.specs.declared.side.Side.TheVariants.{One, Two}
+use Rattle.station_pair.specs.declared.recover_error.RecoverError.{RecoverError}
+use Rattle.station_pair.specs.declared.recover_error.RecoverError.TheVariants.{Settle, StillArmed}
+use Rattle.station_pair.specs.declared.side.Side.{Side}
+use Rattle.station_pair.specs.declared.side.Side.TheVariants.{One, Two}
 use Rattle.link_sim.proofs.Events.Leading.{GoesBy, IsNoPut, no-put-same, no-put-settles, row-burst-lacks, row-bursts, row-cause, row-ended, row-puts, row-recovers, row-spread-lacks, row-spreads, row-well}
 use Rattle.cfdp_report.specs.Report.Lines.{is_own_completion}
 use Rattle.cfdp_script.specs.Script.Report.{puts_asked, puts_completed}

@@ -9,9 +9,9 @@ use Rattle.link_sim.specs.Clean.{AllComplete, IsClean}
 use Rattle.link_sim.specs.Running.{KeepsPromises, Led}
 use Rattle.link_sim.specs.Settling.{IsSettled}
 use Rattle.link_sim.specs.World.State.{WorldState, IsFirst, entity_at}
-use Rattle.link_sim.specs.declared.side.Side.{Side}
-use Rattle.link_sim.specs.declared.side.Side.TheVariants.{One, Two}
-use Rattle.link_sim.specs.declared.world_config.WorldConfig.{WorldConfig}
+use Rattle.station_pair.specs.declared.side.Side.{Side}
+use Rattle.station_pair.specs.declared.side.Side.TheVariants.{One, Two}
+use Rattle.station_pair.specs.declared.world_config.WorldConfig.{WorldConfig}
 use Rattle.cfdp_script.specs.Script.Ending.{EndsRun, RunsAll}
 use Rattle.cfdp_script.proofs.Leads.{runs_lead}
 use Rattle.cfdp_script.proofs.Counting.{completed-all, puts-all}

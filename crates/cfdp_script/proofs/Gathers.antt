@@ -7,7 +7,7 @@ use Rattle.cfdp_script.specs.declared.script.command.Line.{Line}
 use Rattle.cfdp_script.specs.declared.script.command.Line.TheVariants as line
 use Rattle.cfdp_script.specs.declared.script.Step.{Step}
 use Rattle.cfdp_report.specs.Settings.{set_value}
-use Rattle.cfdp_script.specs.Script.Words.{parts, without_return}
+use Rattle.cfdp_report.specs.Words.{parts, without_return}
 use Rattle.cfdp_script.specs.Script.Lines.{ReadLine, read_line, numbered, line_of, lines_of, is_skipped, is_command, front, first_where, misread, file_in, step_in, set_in, is_set}
 use Rattle.cfdp_script.specs.Script.Gathering.{Gathered, at_start, noted, before, taken, gather}
 use Rattle.cfdp_report.proofs.Numerals.{by_test}

@@ -11,9 +11,9 @@ use Rattle.link_sim.specs.declared.event.Applied.TheVariants as did
 use Rattle.aos_frame.specs.declared.config.Lane.{Lane}
 use Rattle.link_sim.specs.declared.event.Event.{Event}
 use Rattle.link_sim.specs.declared.event.Event.TheVariants as event
-use Rattle.link_sim.specs.declared.recover_error.RecoverError.{RecoverError}
-use Rattle.link_sim.specs.declared.recover_error.RecoverError.TheVariants.{Settle, StillArmed}
-use Rattle.link_sim.specs.declared.settle_error.SettleError.TheVariants.{NoMemory, StoreFailed, TableFull}
+use Rattle.station_pair.specs.declared.recover_error.RecoverError.{RecoverError}
+use Rattle.station_pair.specs.declared.recover_error.RecoverError.TheVariants.{Settle, StillArmed}
+use Rattle.station_pair.specs.declared.settle_error.SettleError.TheVariants.{NoMemory, StoreFailed, TableFull}
 use Rattle.link_sim.proofs.Events.Leading.{many-both, many-none, many-one, many-times}
 use Rattle.cfdp_script.specs.Script.Run.{ForMemory, HappensDamaged, HappensOften, HappensOnce, HappensToFirst, HappensToFirsts, IsDone, Performs, Runs, SettlingEnds}
 use Rattle.cfdp_report.specs.declared.report.answer.Answer.{Answer}
@@ -21,7 +21,7 @@ use Rattle.cfdp_report.specs.declared.report.answer.Answer.TheVariants.{Nothing,
 use Rattle.cfdp_report.specs.declared.report.answer.Answered.{Answered}
 use Rattle.cfdp_script.specs.declared.script.command.Command.{Command}
 use Rattle.cfdp_script.specs.declared.script.command.Command.TheVariants.{Once, Repeat, First, Damage as DamageOne, Spread, Burst, Settle as SettleAll, Recover, Disorder}
-use Rattle.link_sim.specs.declared.side.Side.{Side}
+use Rattle.station_pair.specs.declared.side.Side.{Side}
 use Rattle.cfdp_script.specs.Script.Lines.{befalls}
 use Rattle.cfdp_script.specs.declared.script.command.Damage.{Damage}
 use Rattle.cfdp_script.specs.declared.script.command.Fate.{Fate}

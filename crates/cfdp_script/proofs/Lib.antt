@@ -1,12 +1,8 @@
 pub mod Reports
-pub mod DumpedLines
 pub mod Running
 pub mod Leads
 pub mod Counting
 pub mod Endings
-pub mod Parts
-pub mod Gaps
 pub mod Gathers
 pub mod ScriptRows
 pub mod Flushing
-pub mod Runs

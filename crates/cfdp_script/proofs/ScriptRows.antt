@@ -2,14 +2,14 @@
 use Rattle.std.proofs.Common.{◌≡◌, ℕ, List, [], ◌∷◌, ◌++◌, true, refl, Some, None}
 use Rattle.std.specs.Prelude.{codes}
 use Rattle.aos_frame.specs.declared.config.Lane.TheVariants.{Directives, Data}
-use Rattle.link_sim.specs.declared.side.Side.TheVariants.{One, Two}
+use Rattle.station_pair.specs.declared.side.Side.TheVariants.{One, Two}
 use Rattle.link_sim.specs.declared.event.Event.TheVariants as event
 use Rattle.cfdp_script.specs.declared.script.command.Line.TheVariants as line
 use Rattle.cfdp_script.specs.declared.script.command.Contents.TheVariants.{Text, Fill}
 use Rattle.cfdp_script.specs.declared.script.command.Command.TheVariants.{Once, Repeat, First, Damage, Settle}
 use Rattle.cfdp_script.specs.declared.script.command.Fate.TheVariants.{Arrives, IsLost}
 use Rattle.cfdp_report.specs.declared.settings.table.Setting.TheVariants as key
-use Rattle.cfdp_script.specs.Script.Words.{onto_first, parts}
+use Rattle.cfdp_report.specs.Words.{onto_first, parts}
 use Rattle.cfdp_script.specs.Script.Lines.{line_of, steps_of, settings_of, last_set, first_misread}
 
 put : line_of (codes "put 1 a.txt b.txt") ≡ Some (line.Command (Once (event.Put One (codes "a.txt") (codes "b.txt"))))

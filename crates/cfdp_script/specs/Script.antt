@@ -4,6 +4,5 @@ pub mod Outboxes
 pub mod Report
 pub mod Ending
 pub mod Simulated
-pub mod Words
 pub mod Lines
 pub mod Gathering

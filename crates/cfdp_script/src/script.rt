@@ -1,7 +1,7 @@
 //! Scripts, from their text to their run.
 ghost use Rattle.std.specs.Prelude.{◌≡◌, ◌≤◌, None, Some, length, option_map, IfOk, IfErr, OnOk};
 ghost use Rattle.cfdp_report.specs.Settings.{world_of};
-ghost use Rattle.cfdp_script.specs.Script.Words.{parts, without_return};
+ghost use Rattle.cfdp_report.specs.Words.{parts};
 ghost use Rattle.cfdp_script.specs.Script.Lines as scripts;
 ghost use Rattle.cfdp_script.specs.Script.Lines.{files_of, steps_of, settings_of, numbered};
 ghost use Rattle.cfdp_script.specs.Script.Lines.{IsFirst};
@@ -14,13 +14,13 @@ pub mod reason;
 pub mod report;
 pub mod run;
 pub mod sim;
-pub mod words;
 
 use crate::input::MAX_SCRIPT;
-use crate::script::command::{Command, FileLine, Line, Unread, parse_line};
+use crate::script::command::{Command, FileLine, Line, parse_line};
 use crate::script::reason::bad_line;
-use crate::script::words::cut_at_first;
-use cfdp_report::{BadLine, Hint, LineError, Quote, Setting, Settings};
+use cfdp_report::{
+    BadLine, Hint, LineError, Quote, Setting, Settings, Unread, cut_at_first, without_return,
+};
 use link_sim::WorldConfig;
 use std::alloc::{AllocError, Global};
 use valid_config::Valid;
@@ -200,9 +200,10 @@ impl Script {
     /// Why the configuration isn't valid: the first setting that is out of its range, and the line
     /// that set it.
     fn out_of_range(&self) -> LineError {
-        if let Some(setting) = self.settings.out_of_range() {
+        if let Some((setting, value)) = self.settings.out_of_range() {
             return LineError::OutOfRange {
                 setting,
+                value,
                 line: set_line(&self.set_lines, setting),
             };
         }
@@ -227,15 +228,4 @@ fn is_skipped(line: &[u8]) -> bool
     ensures { result ≡ scripts.is_skipped line.now }
 {
     line.is_empty() || line[0] == b'#'
-}
-
-/// A line without the carriage return that ends it, if one does.
-pub fn without_return(line: &[u8]) -> &[u8]
-    ensures { result.now ≡ without_return line.now }
-{
-    if !line.is_empty() && line[line.len() - 1] == b'\r' {
-        &line[..line.len() - 1]
-    } else {
-        line
-    }
 }

@@ -9,7 +9,7 @@ use Rattle.cfdp_entity.specs.declared.error.PutError.{PutError}
 use Rattle.cfdp_entity.specs.declared.error.PutError.TheVariants.{SourceFault}
 use Rattle.cfdp_station.specs.declared.config.StationConfig.{StationConfig}
 use Rattle.cfdp_header.specs.Files.{FileMap}
-use Rattle.link_sim.specs.World.State.{IsNewAt}
+use Rattle.cfdp_station.specs.New.{IsNewAt}
 use Rattle.cfdp_station.specs.Requests.{StationAnswers}
 use Rattle.cfdp_station.specs.Station.{StationState}
 use Rattle.cfdp_station.specs.Transmitting.{Times}

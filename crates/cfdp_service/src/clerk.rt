@@ -427,14 +427,17 @@ fn may_pass_refusal(by: PutError) -> bool {
 
 /// The conditions of transactions that may end otherwise when they are tried once more: a limit was
 /// reached, the peer was silent, its disk was full, or the file changed or was damaged on its way.
-const MAY_PASS: [Condition; 7] = [
+/// An octet that was damaged in a PDU may also give the file another length or checksum type.
+const MAY_PASS: [Condition; 9] = [
     Condition::POSITIVE_ACK_LIMIT,
     Condition::KEEP_ALIVE_LIMIT,
     Condition::FILESTORE_REJECTION,
     Condition::FILE_CHECKSUM_FAILURE,
+    Condition::FILE_SIZE_ERROR,
     Condition::NAK_LIMIT,
     Condition::INACTIVITY,
     Condition::CHECK_LIMIT,
+    Condition::UNSUPPORTED_CHECKSUM_TYPE,
 ];
 
 /// Whether the entity `own` is told by this that this transaction, which it sends, is complete.

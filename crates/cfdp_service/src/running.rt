@@ -63,7 +63,9 @@ pub fn run<O: SeekingOutbox, I: Inbox, W: PeerWire, U: User, L: Lookout>(
     } = ends;
     let mut port = Port::new(alloc, options.side, options.config, (outbox, inbox), wire)?;
     port.count_frames_from(options.frame_count);
-    Ok(run_port(&mut port, user, lookout))
+    let ended = run_port(&mut port, user, lookout);
+    drop(port);
+    Ok(ended)
 }
 
 /// Has a station that did nothing yet serve its user.

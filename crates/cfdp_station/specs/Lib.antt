@@ -1,6 +1,8 @@
 pub mod Config
 pub mod Fields
 pub mod Station
+pub mod New
+pub mod Failures
 pub mod Link
 pub mod Polling
 pub mod Taking

@@ -21,6 +21,10 @@ pub record FlushesBoth (old new : DownState) : Type 0 where
   pub packet_count : new.packet_count ≡ old.packet_count
 
 -- ---- whole frames of a lane
+-- Less than a zone waits in a lane.
+abbrev pub IsNotWhole : LinkSenderState → Type 0
+IsNotWhole down = length down.waiting < down.link.zone
+
 -- No more than so many whole frames wait.
 abbrev pub WaitAtMost : ℕ → LinkSenderState → Type 0
 WaitAtMost frames d = length d.waiting < frames * d.link.zone + d.link.zone

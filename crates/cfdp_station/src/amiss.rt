@@ -15,13 +15,13 @@ pub enum StationField {
     #[error("{0}")]
     Entity(EntityField),
     /// One of the frames that it sends.
-    #[error("of the frames sent, {0}")]
+    #[error("frames sent: {0}")]
     Sends(LinkField),
     /// One of the frames that it receives.
-    #[error("of the frames received, {0}")]
+    #[error("frames received: {0}")]
     Receives(LinkField),
     /// The most octets of packets that may wait in each lane.
-    #[error("the capacity is not 8192 to 65536 octets")]
+    #[error("capacity must be 8192 to 65536 octets")]
     Capacity,
 }
 

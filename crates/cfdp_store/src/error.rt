@@ -12,13 +12,13 @@ use thiserror::Error;
 #[derive(Clone, Copy, Debug, PartialEq, Eq, Error)]
 pub enum StoreError {
     /// The device that holds the files refused.
-    #[error("the device that holds the files refused")]
+    #[error("the storage device failed")]
     Device,
     /// The store takes no file of that name.
-    #[error("the store takes no file of that name")]
+    #[error("the store cannot hold a file of that name")]
     Name,
     /// There is no memory for it.
-    #[error("there is no memory for it")]
+    #[error("out of memory")]
     NoMemory,
 }
 

@@ -11,19 +11,19 @@ use thiserror::Error;
 #[derive(Clone, Copy, Debug, Error)]
 pub enum FolderError {
     /// A file in a folder can't have that name.
-    #[error("a file can't have that name here")]
+    #[error("a file cannot have that name here")]
     Name,
     /// A link has that name.
-    #[error("it is a link")]
+    #[error("is a symbolic link")]
     Link,
     /// A folder has that name.
-    #[error("it is a folder")]
+    #[error("is a folder")]
     Folder,
     /// A device, a pipe or a socket has that name.
-    #[error("it is no plain file")]
+    #[error("not a plain file")]
     NoFile,
     /// It was changed, or removed, after it was looked for.
-    #[error("it changed while it was sent")]
+    #[error("the file changed while it was sent")]
     Changed,
     /// The system refused, or there is no memory.
     #[error("{0}")]

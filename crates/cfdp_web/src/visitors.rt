@@ -10,7 +10,8 @@ use std::alloc::{AllocError, Global};
 /// The most connections at a time.
 const MOST_VISITORS: usize = 16;
 
-/// All connections of the console, at most 16.
+/// All connections of the console, at most 16, in the order in which they came or were answered
+/// last.
 #[derive(Drop)]
 pub struct Visitors<S: WebStream> {
     all: Vec<Visitor<S>>,
@@ -35,6 +36,15 @@ impl<S: WebStream> Visitors<S> {
         self.all.len() < MOST_VISITORS
     }
 
+    /// Closes the connection that came or was answered least recently, if there are 16.
+    pub fn makes_room(&mut self)
+        ensures { vec_len self.new.all < most_visitors }
+    {
+        if self.all.len() >= MOST_VISITORS {
+            let _ = self.all.remove(0);
+        }
+    }
+
     /// Those that are there, the first one first.
     pub fn all(&self) -> &[Visitor<S>] {
         self.all.as_slice()
@@ -42,11 +52,12 @@ impl<S: WebStream> Visitors<S> {
 
     /// Has one more connection; where there are 16, or is no memory, it is closed.
     pub fn takes_in(&mut self, stream: S, caller: Caller) {
-        if self.all.len() >= MOST_VISITORS {
-            return;
+        if self.has_room() {
+            self.numbered = self.numbered.saturating_add(1);
+            let _ = self.all.push(Visitor::new(self.numbered, stream, caller));
+        } else {
+            drop((stream, caller));
         }
-        self.numbered = self.numbered.saturating_add(1);
-        let _ = self.all.push(Visitor::new(self.numbered, stream, caller));
     }
 
     /// Attends to each connection once, up to the first one that asks something: its number, and
@@ -65,11 +76,10 @@ impl<S: WebStream> Visitors<S> {
 
     /// Answers the connection of this number. One that has gone is said nothing.
     pub fn answers(&mut self, number: u64, answer: Result<Answer, AllocError>, now: u64) {
-        for visitor in self.all.iter_mut() {
-            if visitor.number() == number {
-                visitor.answers(answer, now);
-                return;
-            }
+        if let Some(place) = self.all.iter().position(|it| it.number() == number) {
+            let mut visitor = self.all.remove(place);
+            visitor.answers(answer, now);
+            let _ = self.all.push(visitor);
         }
     }
 }

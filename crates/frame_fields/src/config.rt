@@ -30,7 +30,7 @@ pub struct FrameFields {
 #[derive(Clone, Copy, Debug, PartialEq, Eq, Error)]
 pub enum FieldsField {
     /// The octets of the insert zone.
-    #[error("the insert zone does not have 0 to 64 octets")]
+    #[error("insert zone must be 0 to 64 octets")]
     InsertZone,
 }
 

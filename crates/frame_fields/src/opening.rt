@@ -18,7 +18,7 @@ use thiserror::Error;
 #[derive(Clone, Copy, Debug, PartialEq, Eq, Error)]
 pub enum FieldsFault {
     /// The octets are fewer than those of a header and of the fields.
-    #[error("the octets are fewer than those of a frame's header and its fields")]
+    #[error("the frame is shorter than its header and fields")]
     Short,
     /// The check of the frame differs from its frame error control field: some of it is not as it
     /// was sent.

@@ -14,7 +14,7 @@ use Rattle.link_stack.specs.Frames.{packet_of}
 use Rattle.link_stack.specs.Downward.{DownState, LinkSenderState, frame_lane, lane_down, packing}
 use Rattle.link_stack.specs.Upward.{LinkReceiverState, UpState, lane_up}
 use Rattle.cfdp_store.specs.declared.stored.Stored.TheVariants as storeds
-use Rattle.cfdp_store.specs.Stores.{Counts, failures_after}
+use Rattle.cfdp_store.specs.Stores.{Counts}
 use Rattle.cfdp_store.specs.Chains.{Raises}
 use Rattle.cfdp_entity.specs.declared.request.Request.{Request}
 use Rattle.cfdp_entity.specs.declared.request.Request.TheVariants as requests
@@ -24,17 +24,18 @@ use Rattle.cfdp_entity.specs.declared.error.RequestError.{RequestError}
 use Rattle.cfdp_entity.specs.declared.error.RequestError.TheVariants as call_errors
 use Rattle.cfdp_entity.specs.Entity.{Counted, with_table}
 use Rattle.cfdp_entity.specs.Polling.{Place, Rests, turn, served}
-use Rattle.cfdp_entity.specs.Putting.{Accepts, IsPutRefusal, put_refusal, stored_by_error, was_answered}
+use Rattle.cfdp_entity.specs.Putting.{Accepts, IsPutRefusal, put_refusal, stored_by_error}
 use Rattle.cfdp_entity.specs.Sound.{SpellsTurn}
 use Rattle.cfdp_entity.specs.Storing.{AsksByRequest, AsksToTick}
 use Rattle.cfdp_entity.specs.Table.{Ticks, data_at}
-use Rattle.cfdp_station.specs.Link.{WaitAtMost, next_lane}
+use Rattle.cfdp_station.specs.Failures.{CountsPut, KeepsFailures, KeepsOutbox}
+use Rattle.cfdp_station.specs.Link.{IsNotWhole, WaitAtMost, next_lane}
 use Rattle.cfdp_station.specs.Polling.{next_pdu}
 use Rattle.cfdp_station.specs.Station.{KeepsRest, StationState}
 use Rattle.cfdp_station.specs.Taking.{GivesPdus, HearsAll, TakesFrame}
 use Rattle.link_sim.specs.declared.event.Applied.{Applied}
 use Rattle.link_sim.specs.declared.event.Applied.TheVariants as did
-use Rattle.link_sim.specs.declared.event.Refusal.TheVariants as refusal
+use Rattle.station_pair.specs.declared.refusal.Refusal.TheVariants as refusal
 use Rattle.link_sim.specs.declared.event.AcceptedPut.{AcceptedPut}
 use Rattle.link_sim.specs.FrameLink.{FrameLinkState, FrameLinksState, frames_sent, lane_of_links, oldest, most_struck}
 use Rattle.link_sim.specs.OneWay.{IsOneWay, IsCarried, SendsNone, SendsMore, HearsMore, one_way}
@@ -70,10 +71,6 @@ pub record AreSameEnds (old new : DownState) : Type 0 where
 abbrev pub AddsNone : (old new : LinkSenderState) → (link link_now : FrameLinkState) → Type 0
 AddsNone old new link link_now = (up : LinkReceiverState) → IsOneWay (one_way old link up)
     → SendsNone (one_way old link up) (one_way new link_now up)
-
--- Less than a zone waits in a lane.
-abbrev pub IsNotWhole : LinkSenderState → Type 0
-IsNotWhole down = length down.waiting < down.link.zone
 
 -- Between events, a lane of an end that sends and its link: no whole zone waits, the buffers fit
 -- the link's frames, and a PDU of any kind has room.
@@ -187,24 +184,6 @@ abbrev pub SendsAt : (old new : LinkSenderState) → (link link_now : FrameLinkS
     → (qs texts : List (List ℕ)) → Type 0
 SendsAt old new link link_now qs texts = (up : LinkReceiverState) → IsCarried old link up
     → SendsMore (one_way old link up) (one_way new link_now up) qs texts
-
--- ---- failures of the stores
--- No failure of either store was counted.
-abbrev pub KeepsFailures : (old new : Counted) → Type 0
-KeepsFailures old new =
-    (new.outbox_failures ≡ old.outbox_failures) × (new.inbox_failures ≡ old.inbox_failures)
-
--- No failure of the outbox was counted; those of the inbox didn't fall.
-abbrev pub KeepsOutbox : (old new : Counted) → Type 0
-KeepsOutbox old new =
-    (new.outbox_failures ≡ old.outbox_failures) × (old.inbox_failures ≤ new.inbox_failures)
-
--- A put was refused by this cause: a failure of the outbox was counted where that is it.
-abbrev pub CountsPut : PutError → (old new : Counted) → Type 0
-CountsPut by old new =
-    (new.outbox_failures ≡ failures_after old.outbox_failures
-    (was_answered {X = TransactionId} (Err by)))
-    × (new.inbox_failures ≡ old.inbox_failures)
 
 -- ---- calls of the station's user
 -- A put was accepted, and is the last one now.

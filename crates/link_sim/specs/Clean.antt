@@ -14,11 +14,11 @@ use Rattle.cfdp_entity.specs.Table.{Entry}
 use Rattle.aos_frame.specs.declared.config.Lane.{Lane}
 use Rattle.link_stack.specs.Upward.{drop_count}
 use Rattle.link_sim.specs.Observed.{seen}
-use Rattle.link_sim.specs.Stations.{other}
+use Rattle.station_pair.specs.Stations.{other}
 use Rattle.link_sim.specs.Theorem.{completions_at, side_of}
 use Rattle.link_sim.specs.World.State.{WorldState, entity_at, lane_from, station_at}
 use Rattle.link_sim.specs.declared.event.AcceptedPut.{AcceptedPut}
-use Rattle.link_sim.specs.declared.side.Side.{Side}
+use Rattle.station_pair.specs.declared.side.Side.{Side}
 
 -- ---- nothing went wrong
 -- what is told of any transaction: a fault, inactivity too, a suspension, an abandonment, or an end

@@ -8,12 +8,12 @@ use Rattle.link_stack.specs.Upward.{drop_count}
 use Rattle.link_sim.specs.Between.{Pdu, StaysOnCourse, AreSpelled}
 use Rattle.link_sim.specs.Known.{AreKnown}
 use Rattle.link_sim.specs.Observed.{seen}
-use Rattle.link_sim.specs.Stations.{other}
+use Rattle.station_pair.specs.Stations.{other}
 use Rattle.link_sim.specs.Theorem.{put_of}
 use Rattle.link_sim.specs.World.State.{WorldState, entity_at, lane_from, on_way_from, station_at}
 use Rattle.link_sim.specs.declared.event.AcceptedPut.{AcceptedPut}
-use Rattle.link_sim.specs.declared.side.Side.{Side}
-use Rattle.link_sim.specs.declared.side.Side.TheVariants.{One, Two}
+use Rattle.station_pair.specs.declared.side.Side.{Side}
+use Rattle.station_pair.specs.declared.side.Side.TheVariants.{One, Two}
 
 -- No frame of this station was lost, and none was dropped there for want of memory.
 pub record LosesNoneAt (s : Side) (w : WorldState) : Type 0 where

@@ -11,12 +11,12 @@ use Rattle.link_sim.specs.Exchange.{tells_complete}
 use Rattle.link_sim.specs.Known.{AreKnown}
 use Rattle.link_sim.specs.Observed.{seen}
 use Rattle.link_sim.specs.Runs.{Exchange, Runs, TellsMore, expire_sender, ReceiverExpires}
-use Rattle.link_sim.specs.Stations.{other}
+use Rattle.station_pair.specs.Stations.{other}
 use Rattle.link_sim.specs.Stages.{AreWaitedBySender, AreWaitedByReceiver}
 use Rattle.link_sim.specs.Theorem.{put_of}
 use Rattle.link_sim.specs.Waiting.{one_tells}
 use Rattle.link_sim.specs.World.State.{WorldState, arriving_from, entity_at}
-use Rattle.link_sim.specs.declared.side.Side.{Side}
+use Rattle.station_pair.specs.declared.side.Side.{Side}
 
 -- A put that this station made.
 pub record IsPutOf (s : Side) (put : Put) (w : WorldState) : Type 0 where

@@ -2,7 +2,7 @@
 use Rattle.std.specs.Prelude.{ℕ, List}
 use Rattle.cfdp_station.specs.Station.{StationState}
 use Rattle.link_sim.specs.World.State.{WorldState, delivered_from, sent_from}
-use Rattle.link_sim.specs.declared.side.Side.TheVariants.{One, Two}
+use Rattle.station_pair.specs.declared.side.Side.TheVariants.{One, Two}
 use Rattle.link_sim.specs.Theorem.{StationSeen, WorldSeen}
 
 -- of a station: the PDUs that it sent, and those that were delivered to it, which are those of the

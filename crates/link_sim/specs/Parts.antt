@@ -2,7 +2,7 @@
 use Rattle.std.specs.Prelude.{◌≡◌, ◌<◌, Bool, true, false, IfErr, IfOk, OnOk, Result}
 use Rattle.link_sim.specs.declared.event.Applied.TheVariants as did
 use Rattle.link_sim.specs.declared.event.Event.{Event}
-use Rattle.link_sim.specs.declared.settle_error.SettleError.{SettleError}
+use Rattle.station_pair.specs.declared.settle_error.SettleError.{SettleError}
 use Rattle.link_sim.specs.Observed.{seen}
 use Rattle.link_sim.specs.Onward.{GoesOnFrom}
 use Rattle.link_sim.specs.Settling.{HasCauseFrom, LeadsTo}

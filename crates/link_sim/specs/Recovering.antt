@@ -1,16 +1,16 @@
 -- What a recovered world is, what a recovery does, and what ends it before.
-use Rattle.std.specs.Prelude.{◌≡◌, ◌⊎◌, ◌≤◌, ◌^◌, ◌+◌, ◌-◌, ℕ, List, [], ◌∷◌, length, min, max, codes}
+use Rattle.std.specs.Prelude.{◌≡◌, ◌⊎◌, ◌≤◌, ◌^◌, ◌+◌, ◌-◌, ℕ, List, [], ◌∷◌, length, min, max}
 use Rattle.cfdp_timers.specs.Armed.{Armed}
 use Rattle.cfdp_timers.specs.ButInactivity.{OnlyInactivity, IsLeastOther}
-use Rattle.link_sim.specs.declared.side.Side.{Side}
-use Rattle.link_sim.specs.declared.side.Side.TheVariants.{One, Two}
+use Rattle.station_pair.specs.declared.side.Side.{Side}
+use Rattle.station_pair.specs.declared.side.Side.TheVariants.{One, Two}
 use Rattle.link_sim.specs.declared.event.Event.TheVariants as event
 use Rattle.link_sim.specs.declared.event.Applied.TheVariants as did
-use Rattle.link_sim.specs.declared.settle_error.SettleError.{SettleError}
-use Rattle.link_sim.specs.declared.settle_error.SettleError.TheVariants.{NoMemory}
-use Rattle.link_sim.specs.declared.recover_error.RecoverError.{RecoverError}
-use Rattle.link_sim.specs.declared.recover_error.RecoverError.TheVariants.{Settle, StillArmed}
-use Rattle.link_sim.specs.Settling.{IsSettled, KeepsAll, GoesWell, HasCause, RisesFirst, all_shortages, settle_error_number, settle_error_name}
+use Rattle.station_pair.specs.declared.settle_error.SettleError.{SettleError}
+use Rattle.station_pair.specs.declared.settle_error.SettleError.TheVariants.{NoMemory}
+use Rattle.station_pair.specs.declared.recover_error.RecoverError.{RecoverError}
+use Rattle.station_pair.specs.declared.recover_error.RecoverError.TheVariants.{Settle, StillArmed}
+use Rattle.link_sim.specs.Settling.{IsSettled, KeepsAll, GoesWell, HasCause, RisesFirst, all_shortages}
 use Rattle.link_sim.specs.World.State.{WorldState, entity_at}
 use Rattle.link_sim.specs.World.Steps.{FindsNoMemory, Steps}
 
@@ -105,12 +105,3 @@ HasEnded error old new =
 abbrev pub EndsBy : RecoverError → (old new : WorldState) → Type 0
 EndsBy (Settle error) old new = HasEnded error old new
 EndsBy StillArmed old new = StaysArmed old new
-
--- ---- in reports
-abbrev pub recover_error_number : RecoverError → ℕ
-recover_error_number (Settle error) = settle_error_number error
-recover_error_number StillArmed = 4
-
-abbrev pub recover_error_name : RecoverError → List ℕ
-recover_error_name (Settle error) = settle_error_name error
-recover_error_name StillArmed = codes "StillArmed"

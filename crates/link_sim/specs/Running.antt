@@ -5,10 +5,10 @@ use Rattle.cfdp_directives.specs.User.Put.{inbox_after}
 use Rattle.link_sim.specs.declared.event.AcceptedPut.{AcceptedPut}
 use Rattle.link_sim.specs.declared.event.Event.{Event}
 use Rattle.link_sim.specs.declared.event.Applied.{Applied}
-use Rattle.link_sim.specs.declared.recover_error.RecoverError.{RecoverError}
-use Rattle.link_sim.specs.declared.settle_error.SettleError.{SettleError}
-use Rattle.link_sim.specs.declared.side.Side.{Side}
-use Rattle.link_sim.specs.declared.world_config.WorldConfig.{WorldConfig}
+use Rattle.station_pair.specs.declared.recover_error.RecoverError.{RecoverError}
+use Rattle.station_pair.specs.declared.settle_error.SettleError.{SettleError}
+use Rattle.station_pair.specs.declared.side.Side.{Side}
+use Rattle.station_pair.specs.declared.world_config.WorldConfig.{WorldConfig}
 use Rattle.link_sim.specs.Observed.{seen}
 use Rattle.link_sim.specs.Recovering.{EndsBy, Recovers}
 use Rattle.link_sim.specs.Settling.{GoesWell, HasCause}

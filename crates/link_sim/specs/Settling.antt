@@ -1,5 +1,5 @@
 -- What a settled world is, and what ends a settling before.
-use Rattle.std.specs.Prelude.{◌≡◌, ◌≢◌, ◌⊎◌, ℕ, ◌-◌, ◌^◌, ◌<◌, List, [], ◌∷◌, length, get_or, codes}
+use Rattle.std.specs.Prelude.{◌≡◌, ◌≢◌, ◌⊎◌, ℕ, ◌-◌, ◌^◌, ◌<◌, List, [], ◌∷◌, length, get_or}
 use Rattle.mpdu.specs.Packing.{flush_of}
 use Rattle.aos_frame.specs.declared.config.Lane.{Lane}
 use Rattle.aos_frame.specs.declared.config.Lane.TheVariants.{Directives, Data}
@@ -8,15 +8,15 @@ use Rattle.link_stack.specs.Upward.{drop_count}
 use Rattle.cfdp_entity.specs.Polling.{Rests, turn}
 use Rattle.cfdp_entity.specs.Table.{most_records}
 use Rattle.cfdp_station.specs.Station.{StationState}
-use Rattle.link_sim.specs.declared.side.Side.{Side}
-use Rattle.link_sim.specs.declared.side.Side.TheVariants.{One, Two}
+use Rattle.station_pair.specs.declared.side.Side.{Side}
+use Rattle.station_pair.specs.declared.side.Side.TheVariants.{One, Two}
 use Rattle.link_sim.specs.declared.event.Event.{Event}
 use Rattle.link_sim.specs.declared.event.Event.TheVariants as event
 use Rattle.link_sim.specs.declared.event.Applied.{Applied}
 use Rattle.link_sim.specs.declared.event.Applied.TheVariants as did
 use Rattle.link_sim.specs.declared.shortages.Shortages.{Shortages}
-use Rattle.link_sim.specs.declared.settle_error.SettleError.{SettleError}
-use Rattle.link_sim.specs.declared.settle_error.SettleError.TheVariants.{NoMemory, StoreFailed, TableFull}
+use Rattle.station_pair.specs.declared.settle_error.SettleError.{SettleError}
+use Rattle.station_pair.specs.declared.settle_error.SettleError.TheVariants.{NoMemory, StoreFailed, TableFull}
 use Rattle.link_sim.specs.Clean.{IsClean}
 use Rattle.link_sim.specs.Theorem.{WorldSeen, HoldsAt, Follows}
 use Rattle.link_sim.specs.World.State.{WorldState, station_at, entity_at}
@@ -194,14 +194,3 @@ pub record HasCauseFrom (from : Event) (error : SettleError) (old new : WorldSta
 
 abbrev pub HasCause : SettleError → (old new : WorldState) → Type 0
 HasCause error old new = HasCauseFrom first_event error old new
-
--- ---- in reports
-abbrev pub settle_error_number : SettleError → ℕ
-settle_error_number NoMemory = 1
-settle_error_number StoreFailed = 2
-settle_error_number TableFull = 3
-
-abbrev pub settle_error_name : SettleError → List ℕ
-settle_error_name NoMemory = codes "NoMemory"
-settle_error_name StoreFailed = codes "StoreFailed"
-settle_error_name TableFull = codes "TableFull"

@@ -6,10 +6,10 @@ use Rattle.cfdp_directives.specs.Pdu.Content.{Content}
 use Rattle.cfdp_directives.specs.Pdu.Grammar.{SpellsPdu}
 use Rattle.cfdp_directives.specs.User.Put.{SaysTruth}
 use Rattle.cfdp_entity.specs.Sound.{IsSound as IsSoundEntity, SaysDelivered}
-use Rattle.link_sim.specs.declared.side.Side.{Side}
+use Rattle.station_pair.specs.declared.side.Side.{Side}
 use Rattle.link_sim.specs.declared.event.AcceptedPut.{AcceptedPut}
 use Rattle.link_sim.specs.Observed.{seen}
-use Rattle.link_sim.specs.Stations.{other}
+use Rattle.station_pair.specs.Stations.{other}
 use Rattle.link_sim.specs.Theorem.{put_of}
 use Rattle.link_sim.specs.Work.{AreWithin, most_offset}
 use Rattle.link_sim.specs.World.State.{WorldState, AreWays, delivered_from, entity_at, sent_from}

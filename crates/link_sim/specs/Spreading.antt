@@ -1,6 +1,6 @@
 -- What one station sends where it is polled until nothing is due.
 use Rattle.std.specs.Prelude.{◌≡◌, ◌⊎◌, ℕ, zero, suc}
-use Rattle.link_sim.specs.declared.side.Side.{Side}
+use Rattle.station_pair.specs.declared.side.Side.{Side}
 use Rattle.link_sim.specs.declared.event.Event.TheVariants as event
 use Rattle.link_sim.specs.declared.event.Applied.{Applied}
 use Rattle.link_sim.specs.declared.event.Applied.TheVariants as did

@@ -12,10 +12,10 @@ use Rattle.cfdp_directives.specs.Pdu.Grammar.{SpellsPdu}
 use Rattle.cfdp_directives.specs.User.Put.{Put, HeardInFull, SomePdu, SaysTruth, SaysComplete, inbox_after}
 use Rattle.cfdp_directives.specs.User.Completions.{completions, FinishedOnce, IsToldComplete}
 use Rattle.cfdp_entity.specs.Sound.{FindsMore}
-use Rattle.link_sim.specs.declared.side.Side.{Side}
-use Rattle.link_sim.specs.declared.side.Side.TheVariants.{One, Two}
+use Rattle.station_pair.specs.declared.side.Side.{Side}
+use Rattle.station_pair.specs.declared.side.Side.TheVariants.{One, Two}
 use Rattle.link_sim.specs.declared.event.AcceptedPut.{AcceptedPut}
-use Rattle.link_sim.specs.Stations.{other}
+use Rattle.station_pair.specs.Stations.{other}
 
 -- ---- what is seen
 -- Of a station: its entity's id and the checksum type of its puts, the files that it can send, the

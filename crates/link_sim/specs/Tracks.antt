@@ -7,11 +7,11 @@ use Rattle.cfdp_entity.specs.Table.{record_of}
 use Rattle.link_sim.specs.Exchange.{is_closed}
 use Rattle.link_sim.specs.Found.{HasExchange, IsPutOf, RunsOn}
 use Rattle.link_sim.specs.Runs.{Exchange}
-use Rattle.link_sim.specs.Stations.{other}
+use Rattle.station_pair.specs.Stations.{other}
 use Rattle.link_sim.specs.Stages.{Stands, IsOver, is_answered}
 use Rattle.link_sim.specs.Waiting.{policy_at, IsUnfinished}
 use Rattle.link_sim.specs.World.State.{WorldState, entity_at}
-use Rattle.link_sim.specs.declared.side.Side.{Side}
+use Rattle.station_pair.specs.declared.side.Side.{Side}
 
 -- The transaction of a put of this station stands still until a timer of it expires.
 pub record StandsIn (s : Side) (put : Put) (w : WorldState) : Type 0 where

@@ -20,11 +20,11 @@ use Rattle.cfdp_entity.specs.Seen.{Seen, Sends, Receives}
 use Rattle.cfdp_entity.specs.Table.{record_of}
 use Rattle.link_sim.specs.Clean.{IsCompleteAt}
 use Rattle.link_sim.specs.Observed.{seen}
-use Rattle.link_sim.specs.Stations.{other}
+use Rattle.station_pair.specs.Stations.{other}
 use Rattle.link_sim.specs.Theorem.{side_of}
 use Rattle.link_sim.specs.World.State.{WorldState, entity_at, on_way_from}
 use Rattle.link_sim.specs.declared.event.AcceptedPut.{AcceptedPut}
-use Rattle.link_sim.specs.declared.side.Side.{Side}
+use Rattle.station_pair.specs.declared.side.Side.{Side}
 
 -- what a station does where an answer doesn't come
 abbrev pub policy_at : Side → WorldState → Policy

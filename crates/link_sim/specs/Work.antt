@@ -21,8 +21,8 @@ use Rattle.cfdp_directives.specs.Pdu.Codes.{size_limit}
 use Rattle.aos_frame.specs.declared.config.Lane.TheVariants.{Directives, Data}
 use Rattle.link_sim.specs.OneWay.{OneWayState}
 use Rattle.link_sim.specs.World.State.{WorldState, on_way_from, way_from}
-use Rattle.link_sim.specs.declared.side.Side.{Side}
-use Rattle.link_sim.specs.declared.side.Side.TheVariants.{One, Two}
+use Rattle.station_pair.specs.declared.side.Side.{Side}
+use Rattle.station_pair.specs.declared.side.Side.TheVariants.{One, Two}
 
 -- how many offsets of a set lie below n
 unfoldable pub count_below : Offsets → ℕ → ℕ

@@ -1,8 +1,7 @@
-use crate::side::Side;
 use aos_frame::Lane;
 use cfdp_directives::Octets;
-use cfdp_entity::{PutError, RequestError};
 use cfdp_header::TransactionId;
+use station_pair::{Refusal, Side};
 
 /// One thing that happens: a call on one of the two stations, or a frame between them that arrives,
 /// is lost or comes damaged.
@@ -72,21 +71,6 @@ pub enum Applied {
     Nothing,
     /// It was refused, and no transaction and no frame changed.
     Refused(Refusal),
-}
-
-/// Why an event is refused.
-#[derive(Clone, Copy, Debug, PartialEq, Eq)]
-pub enum Refusal {
-    /// The station refused the put.
-    Put(PutError),
-    /// The station refused the call on a transaction.
-    Call(RequestError),
-    /// The last [`MOST_STRUCK`](crate::MOST_STRUCK) frames taken of this lane were struck: one
-    /// more would be taken for none.
-    LossRunTooLong,
-    /// The octets are no damaged frame of this lane: its link has no error control, they have
-    /// another length, or their check is right.
-    NotDamaged,
 }
 
 /// A file that a station took to send: its transaction and its two names.

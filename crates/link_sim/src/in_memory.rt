@@ -5,16 +5,13 @@ ghost use Rattle.link_sim.specs.World.Failures.{HaveFailed};
 ghost use Rattle.link_sim.specs.World.State.{IsFirst};
 
 use crate::event::{Applied, Event};
-use crate::recover_error::RecoverError;
-use crate::settle_error::SettleError;
-use crate::side::Side;
 use crate::stations::Stations;
 use crate::witness::Witness;
 use crate::world::World;
-use crate::world_config::WorldConfig;
 use aos_frame::Lane;
 use cfdp_directives::Indication;
 use cfdp_store::{Files, MemoryInbox, MemoryOutbox};
+use station_pair::{RecoverError, SettleError, Side, WorldConfig};
 use std::alloc::{AllocError, Global};
 use valid_config::Valid;
 

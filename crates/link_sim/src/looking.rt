@@ -1,8 +1,8 @@
 // What a user can look at, beside what every driver asks for.
-use crate::side::Side;
 use crate::witness::Witness;
 use crate::world::World;
 use cfdp_store::{Inbox, SteadyOutbox};
+use station_pair::Side;
 use std::fmt;
 
 impl<O: SteadyOutbox, I: Inbox, W: Witness> fmt::Debug for World<O, I, W> {

@@ -16,13 +16,13 @@ ghost use Rattle.link_sim.specs.Theorem.{HoldsAt, FoldsAt, at, put_of, completio
 ghost use Rattle.link_sim.specs.World.State.{AreRested, AreWays, WorldState, IsFirst, entity_at};
 ghost use Rattle.link_sim.specs.World.State.{files_at};
 ghost use Rattle.link_sim.specs.World.Steps.{Stays, Steps, TakesPut, TellsTime};
-ghost use Rattle.link_sim.specs.Stations.{IsWorldConfig};
+ghost use Rattle.station_pair.specs.Stations.{IsWorldConfig};
 ghost use Rattle.link_sim.specs.Work.{world_work};
 ghost use Rattle.link_sim.specs.declared.event.Applied.TheVariants as dids;
 ghost use Rattle.link_sim.specs.declared.event.Applied.{Applied};
 ghost use Rattle.link_sim.specs.declared.event.Event.{Event};
-ghost use Rattle.link_sim.specs.declared.side.Side.{Side};
-ghost use Rattle.link_sim.specs.declared.world_config.WorldConfig.{WorldConfig};
+ghost use Rattle.station_pair.specs.declared.side.Side.{Side};
+ghost use Rattle.station_pair.specs.declared.world_config.WorldConfig.{WorldConfig};
 
 /// Whatever calls are made on two stations from their start on, the promises hold of them; and
 /// where all is settled and nothing went wrong so far, every put is complete.

@@ -15,17 +15,15 @@ ghost use Rattle.link_sim.specs.Sound.{IsSound};
 ghost use Rattle.link_sim.specs.Stages.{IsAtRest};
 ghost use Rattle.link_sim.specs.Tracks.{Advances, KeepsPutsOf};
 ghost use Rattle.link_sim.specs.Waiting.{AllWait, IgnoreInactivity, IsCompleted, IsUnfinished};
-ghost use Rattle.link_sim.specs.declared.recover_error.RecoverError.TheVariants as errors;
-ghost use Rattle.link_sim.specs.declared.side.Side.{Side};
+ghost use Rattle.station_pair.specs.declared.recover_error.RecoverError.TheVariants as errors;
+ghost use Rattle.station_pair.specs.declared.side.Side.{Side};
 
 use crate::event::Event;
-use crate::recover_error::RecoverError;
-use crate::settle_error::SettleError;
 use crate::shortages::shortage_since;
-use crate::side::Side;
 use crate::witness::Witness;
 use crate::world::World;
 use cfdp_store::{Inbox, SteadyOutbox};
+use station_pair::{RecoverError, SettleError, Side};
 
 /// The most rounds of a recovery: three for each record that two full tables hold.
 const MOST_ROUNDS: u32 = 24_576;

@@ -12,19 +12,18 @@ ghost use Rattle.link_sim.specs.Tracks.{RunsAlong};
 ghost use Rattle.link_sim.specs.World.Steps.{NoneWaits, NoneWhole, Steps};
 ghost use Rattle.link_sim.specs.declared.event.Applied.TheVariants as did;
 ghost use Rattle.link_sim.specs.declared.event.Event.TheVariants as events;
-ghost use Rattle.link_sim.specs.declared.side.Side.{Side};
+ghost use Rattle.station_pair.specs.declared.side.Side.{Side};
 ghost use Rattle.aos_frame.specs.declared.config.Lane.{Lane};
 ghost use Rattle.aos_frame.specs.declared.config.Lane.TheVariants as lanes;
 
 use crate::event::{Applied, Event};
 use crate::promises::events_keep_the_promises;
-use crate::settle_error::SettleError;
 use crate::shortages::{Shortages, shortage_since};
-use crate::side::Side;
 use crate::witness::Witness;
 use crate::world::World;
 use aos_frame::Lane;
 use cfdp_store::{Inbox, SteadyOutbox};
+use station_pair::{SettleError, Side};
 
 impl<O: SteadyOutbox, I: Inbox, W: Witness> World<O, I, W> {
     /// Lets both stations send and hear, without any loss, until nothing is due at either, no flush

@@ -3,9 +3,9 @@ ghost use Rattle.std.specs.Prelude.{◌≡◌, None, true, false, IfSome};
 ghost use Rattle.link_sim.specs.Settling.{CountsStay, CountsStayAt, HasRisen, IsSpared, KeepsAll};
 ghost use Rattle.link_sim.specs.Settling.{Rises, RisesAt, RisesFirst, shortages};
 
-use crate::settle_error::SettleError;
 use cfdp_station::{EntityDrop, LinkDrop, Station};
 use cfdp_store::{Inbox, Outbox};
+use station_pair::SettleError;
 
 /// How often a station was short of something.
 #[derive(Clone, Copy, PartialEq, Eq)]

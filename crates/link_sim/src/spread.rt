@@ -12,10 +12,10 @@ ghost use Rattle.link_sim.specs.Work.{world_work};
 ghost use Rattle.link_sim.specs.declared.event.Applied.TheVariants as did;
 
 use crate::event::{Applied, Event};
-use crate::side::Side;
 use crate::witness::Witness;
 use crate::world::World;
 use cfdp_store::{Inbox, SteadyOutbox};
+use station_pair::Side;
 use std::alloc::AllocError;
 
 impl<O: SteadyOutbox, I: Inbox, W: Witness> World<O, I, W> {

@@ -10,12 +10,10 @@ ghost use Rattle.link_sim.specs.World.Steps.{NoneWaits, oldest_of};
 ghost use Rattle.aos_frame.specs.declared.config.Lane.{Lane};
 
 use crate::event::{Applied, Event};
-use crate::recover_error::RecoverError;
-use crate::settle_error::SettleError;
-use crate::side::Side;
 use aos_frame::Lane;
 use cfdp_directives::Indication;
 use cfdp_store::Files;
+use station_pair::{RecoverError, SettleError, Side};
 use std::alloc::AllocError;
 
 /// Two stations and the link between them, as a script or another user drives them.

@@ -19,7 +19,8 @@ ghost use Rattle.link_sim.specs.declared.event.Applied.TheVariants as dids;
 ghost use Rattle.link_sim.specs.declared.event.Event.TheVariants as events;
 ghost use Rattle.link_sim.specs.AtStation.{AreReady, AreSameLinks, DamagesAt, FlushesAt};
 ghost use Rattle.link_sim.specs.AtStation.{FrameArrivesAt};
-ghost use Rattle.link_sim.specs.AtStation.{HasBuffers, KeepsOutbox, OnLane, PollsAt, PullsBoth};
+ghost use Rattle.link_sim.specs.AtStation.{HasBuffers, OnLane, PollsAt, PullsBoth};
+ghost use Rattle.cfdp_station.specs.Failures.{KeepsOutbox};
 ghost use Rattle.link_sim.specs.AtStation.{PullsOne, PutsAt, RaisesByRequest, StrikesAt};
 ghost use Rattle.link_sim.specs.AtStation.{TellsTimeAt, TriesToSend, answered};
 ghost use Rattle.link_sim.specs.World.Failures.{HaveFailed};
@@ -27,22 +28,20 @@ ghost use Rattle.link_sim.specs.World.State as state;
 ghost use Rattle.link_sim.specs.World.Steps as steps;
 ghost use Rattle.link_sim.specs.World.State.{station_at, link_from, IsFirst};
 ghost use Rattle.link_sim.specs.Calls.{TriesEvent};
-ghost use Rattle.link_sim.specs.Stations.{other, station_of};
-ghost use Rattle.link_sim.specs.declared.side.Side.{Side};
+ghost use Rattle.station_pair.specs.Stations.{other, station_of};
+ghost use Rattle.station_pair.specs.declared.side.Side.{Side};
 
-use crate::event::{AcceptedPut, Applied, Event, Refusal};
+use crate::event::{AcceptedPut, Applied, Event};
 use crate::frame_link::FrameLink;
 use crate::frame_links::FrameLinks;
 use crate::mark::Loss;
-use crate::side::Side;
-use crate::world::let_go;
-use crate::world_config::WorldConfig;
 use aos_frame::{ChannelConfig, FrameError, Lane, decode};
 use cfdp_directives::Octets;
 use cfdp_entity::Request;
 use cfdp_header::TransactionId;
 use cfdp_station::{Polled, PutError, RequestError, Station};
 use cfdp_store::{Inbox, Outbox, SteadyOutbox};
+use station_pair::{Refusal, Side, WorldConfig};
 use std::alloc::{AllocError, Global};
 use std::marker::Model;
 use valid_config::Valid;
@@ -130,7 +129,7 @@ impl<O: SteadyOutbox, I: Inbox> TwoStations<O, I> {
                 })
             }
             Err(AllocError) => {
-                let_go(one);
+                drop(one);
                 Err(AllocError)
             }
         }

@@ -11,18 +11,17 @@ ghost use Rattle.link_sim.specs.World.State.{IsFirst, station_at, entity_at, lin
 ghost use Rattle.link_sim.specs.Work.{world_work};
 ghost use Rattle.link_sim.specs.declared.event.Applied.TheVariants as dids;
 ghost use Rattle.link_sim.specs.declared.event.Event.TheVariants as events;
-ghost use Rattle.link_sim.specs.declared.side.Side.{Side};
+ghost use Rattle.station_pair.specs.declared.side.Side.{Side};
 
 use crate::event::{AcceptedPut, Applied, Event};
 use crate::frame_links::FrameLinks;
 use crate::promises::{events_keep_the_promises, worlds_keep_the_promises};
-use crate::side::Side;
 use crate::two_stations::TwoStations;
 use crate::witness::Witness;
-use crate::world_config::WorldConfig;
 use cfdp_directives::Indication;
 use cfdp_station::Station;
 use cfdp_store::{Inbox, SteadyOutbox};
+use station_pair::{Side, WorldConfig};
 use std::alloc::{AllocError, Global};
 use std::marker::Model;
 use valid_config::Valid;
@@ -92,7 +91,7 @@ impl<O: SteadyOutbox, I: Inbox, W: Witness> World<O, I, W> {
     /// The witness, which the world lets go with all else.
     pub fn into_witness(self) -> W {
         let World { stations, witness } = self;
-        let_go(stations);
+        drop(stations);
         witness
     }
 
@@ -203,9 +202,6 @@ fn show<O: SteadyOutbox, I: Inbox, W: Witness>(
     witness.saw(event, ends, frames);
 }
 
-/// Lets a value go, of whatever type: here no more need be known of it.
-pub(crate) fn let_go<T: Drop>(_value: T) {}
-
 /// Makes these events happen, in turn, in a new world.
 ///
 /// # Errors
@@ -233,7 +229,7 @@ pub fn run<O: SteadyOutbox, I: Inbox>(
     match apply_all(&mut world, events) {
         Ok(()) => Ok(world),
         Err(AllocError) => {
-            let_go(world);
+            drop(world);
             Err(AllocError)
         }
     }

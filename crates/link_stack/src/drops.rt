@@ -14,19 +14,19 @@ pub enum LinkDrop {
     Frame(FrameError),
     /// A begun packet was discarded, since a frame was missing or the first header pointer did not
     /// fit it, or the pointer lies outside the zone.
-    #[error("a begun packet was discarded")]
+    #[error("an incomplete packet was discarded")]
     Resync,
     /// A packet's version isn't `000` (CCSDS 133.0-B-2, 4.1.3.2).
-    #[error("the packet version number is not 0")]
+    #[error("packet version number must be 0")]
     BadPacket,
     /// A packet is of another application process identifier than the link's, and isn't idle.
-    #[error("the packet is of another application process")]
+    #[error("the packet has another APID")]
     OtherApid,
     /// A packet of the link is a segment, or has a secondary header.
     #[error("the packet is a segment or has a secondary header")]
     Segmented,
     /// There was no memory for what a zone holds.
-    #[error("there was no memory for what the zone holds")]
+    #[error("out of memory for the packets of a frame")]
     NoMemory,
 }
 

@@ -25,7 +25,7 @@ const FLUSH_ROOM: usize = 2047;
 
 /// The packer has no room for the packet, and took nothing of it.
 #[derive(Clone, Copy, Debug, PartialEq, Eq, Error)]
-#[error("the packer has no room for the packet")]
+#[error("no room for the packet: take frames off first")]
 pub struct Full;
 
 /// One of the octets; 0 behind the last.

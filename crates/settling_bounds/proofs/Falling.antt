@@ -9,7 +9,7 @@ use Rattle.link_sim.specs.declared.event.Applied.{Applied}
 use Rattle.link_sim.specs.declared.event.Applied.TheVariants as did
 use Rattle.link_sim.specs.declared.event.Event.{Event}
 use Rattle.link_sim.specs.declared.event.Event.TheVariants as event
-use Rattle.link_sim.specs.declared.side.Side.{Side}
+use Rattle.station_pair.specs.declared.side.Side.{Side}
 use Rattle.link_sim.proofs.Events.Resting.{rests-kept}
 use Rattle.link_sim.proofs.Work.Settling.{event-less}
 use Rattle.settling_bounds.specs.Events.{one_if_done, done_count}

@@ -3,12 +3,12 @@ ghost use Rattle.std.specs.Prelude.{◌+◌, ◌≤◌, ℕ, List};
 ghost use Rattle.cfdp_header.specs.Files.{FileMap};
 ghost use Rattle.link_sim.specs.Running.{Led};
 ghost use Rattle.link_sim.specs.Settling.{AreOfSettling};
-ghost use Rattle.link_sim.specs.Stations.{IsWorldConfig};
+ghost use Rattle.station_pair.specs.Stations.{IsWorldConfig};
 ghost use Rattle.link_sim.specs.Work.{world_work};
 ghost use Rattle.link_sim.specs.World.State.{IsFirst, WorldState};
 ghost use Rattle.link_sim.specs.declared.event.Applied.{Applied};
 ghost use Rattle.link_sim.specs.declared.event.Event.{Event};
-ghost use Rattle.link_sim.specs.declared.world_config.WorldConfig.{WorldConfig};
+ghost use Rattle.station_pair.specs.declared.world_config.WorldConfig.{WorldConfig};
 ghost use Rattle.settling_bounds.specs.Events.{done_count};
 
 /// Polls, flushes and deliveries that did something are no more than `world_work` tells of the

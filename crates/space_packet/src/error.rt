@@ -8,10 +8,10 @@ use thiserror::Error;
 #[derive(Clone, Copy, Debug, PartialEq, Eq, Error)]
 pub enum PacketError {
     /// There are fewer than 6 octets, or fewer than the length field says.
-    #[error("the octets end before the packet")]
+    #[error("the packet is truncated")]
     Short,
     /// The version number is not 0 (CCSDS 133.0-B-2, 4.1.3.2).
-    #[error("the packet version number is not 0")]
+    #[error("packet version number must be 0")]
     Version,
 }
 

@@ -1,10 +1,11 @@
-//! Entities over stores in memory.
+//! Entities over an outbox, and an inbox in memory.
 //!
 //!     put NAME [AS] to send that file, to be published under the second name, or as `b.txt`
 //!     puts N NAME   to send that file N times, as `b.txt`: how often it is put, and why no more
-//!     hear PDU      to hear these octets
+//!     hear PDU      to receive these octets
 //!     series FIRST STEP COUNT FRONT BEHIND
-//!                   to hear so many PDUs, in which a number of 8 digits stands between two texts
+//!                   to receive so many PDUs, in which a number of 8 digits stands between two
+//!                   texts
 //!     poll [ROOM [DATA]]
 //!                   to send what is due, with room for a directive of so many octets, and for file
 //!                   data of as many, or of DATA
@@ -19,27 +20,25 @@
 //!     drops         to tell how much was dropped, by number
 //!     inbox         to tell each published file
 //!     prefixes PDU, replaced PDU    as in `strangers`
-//!     forget S:N    to let go of a transaction
-//!     forget closed to let go of all that are closed and owe no acknowledgement
-//!     forget told N to let go of the first N indications
-//!     forgotten S:N whether a transaction was let go
+//!     forget S:N    to forget a transaction
+//!     forget closed to forget all that are closed and owe no acknowledgement
+//!     forget told N to forget the first N indications
+//!     forgotten S:N whether a transaction was forgotten
 //!     first         to take the first indication that is left
-//!     gone          to say how many indications were let go
-//!     since N       to tell what was indicated behind the first N, all of those counted that there
-//!                   were; `gone` where some of it was let go
-//!     pass          of two that are joined: to send all that is due, and to give it to the other
+//!     gone          to say how many indications were forgotten
+//!     since N       to tell what was indicated after the first N, of all that there were; `gone`
+//!                   if some of it was forgotten
+//!
+//! Two that are joined: `joined.rt`.
 use crate::bench::{Bench, played, unknown};
-use crate::joined::{Joined, Losses, Side};
-use crate::setup::{EntitySetup, first_entity, second_entity};
-use crate::strangers::{self, Fate, Target};
-use crate::telling::tell;
-use crate::words::{count, id, number, octets, pair, tell_octets};
-use cfdp_directives::Indication;
-use cfdp_entity::{
-    Entity, EntityConfig, EntityDrop, EntityPolled, ForgetError, PutError, RequestError, Rooms,
-};
+use crate::joined::{Joined, Side};
+use crate::setup::{ONE, Setup, TWO, entity, with};
+use crate::strangers::{self, Fate, Seen, Target};
+use crate::telling::{tell, tell_all, tell_files};
+use crate::words::{id, number, octets, pair, tell_octets};
+use cfdp_entity::{Entity, EntityConfig, EntityDrop, EntityPolled, Rooms};
 use cfdp_header::TransactionId;
-use cfdp_store::{FuseInbox, FuseOutbox, Inbox, MemoryInbox, MemoryOutbox};
+use cfdp_store::{FuseInbox, FuseOutbox, Inbox, MemoryInbox, MemoryOutbox, Outbox};
 use std::alloc::{AllocError, Global};
 use std::marker::Model;
 use valid_config::Config;
@@ -51,12 +50,7 @@ const FIRST: TransactionId = TransactionId {
 };
 
 /// Room for each PDU.
-const ROOM: usize = 600;
-
-const ROOMS: Rooms = Rooms {
-    directives: ROOM,
-    file_data: ROOM,
-};
+const ROOM: usize = 5000;
 
 /// The most PDUs sent at once.
 const MOST: u8 = 200;
@@ -64,11 +58,11 @@ const MOST: u8 = 200;
 /// Plays a transcript on an entity that is set up so.
 pub fn play(
     alloc: Global,
-    setup: &EntitySetup,
+    setup: &Setup,
     transcript: &str,
     out: &mut String,
 ) -> Result<(), AllocError> {
-    played(EntityBench::open(alloc, setup)?, transcript, out)
+    played(open(alloc, setup)?, transcript, out)
 }
 
 /// Plays a transcript on two entities whose setups have these numbers.
@@ -78,48 +72,32 @@ pub fn play_both(
     transcript: &str,
     out: &mut String,
 ) -> Result<(), AllocError> {
-    played(open_both(alloc, setup)?, transcript, out)
+    let one = open(alloc, &with(ONE, setup));
+    let two = open(alloc, &with(TWO, setup));
+    played(Joined::of(one, two)?, transcript, out)
 }
 
-fn open_both(alloc: Global, setup: &str) -> Result<Joined<EntityBench>, AllocError> {
-    let one = EntityBench::open(alloc, &first_entity(setup));
-    let two = EntityBench::open(alloc, &second_entity(setup));
-    Joined::of(one, two)
+/// Makes an entity with files that was asked nothing.
+fn open(alloc: Global, setup: &Setup) -> Result<EntityBench<FuseOutbox<MemoryOutbox>>, AllocError> {
+    let outbox = FuseOutbox::new(files(alloc, setup[0], setup[22])?, setup[23]);
+    EntityBench::over(alloc, entity(setup), outbox, setup[24])
 }
 
-/// An entity over stores in memory.
-#[derive(Drop)]
-struct EntityBench {
-    alloc: Global,
-    entity: Entity<FuseOutbox<MemoryOutbox>, FuseInbox<MemoryInbox>>,
-}
-
-impl Model for EntityBench {
-    ghost Value = { Unit {0} };
-
-    ghost view = { λ _. tt };
-}
-
-/// The files of an entity: `a.txt`, and `0` to `9`, each of which says whose it is.
-fn files(alloc: Global, entity: u64, octets: u64) -> Result<MemoryOutbox, AllocError> {
+/// Returns the files of an entity: `a.txt`, and `0` to `9`, each of which says whose it is.
+pub fn files(alloc: Global, entity: u64, octets: u64) -> Result<MemoryOutbox, AllocError> {
     let mut files = MemoryOutbox::new(alloc);
     let front = usize::try_from(octets).unwrap_or(5).min(5);
     add(alloc, &mut files, b"a.txt", &b"hello"[..front])?;
     for number in 0..10u8 {
-        add_numbered(alloc, &mut files, number, entity)?;
+        let text = format!(in alloc; "file {number} of entity {entity}")?;
+        add(
+            alloc,
+            &mut files,
+            &[b'0'.saturating_add(number)],
+            text.as_bytes(),
+        )?;
     }
     Ok(files)
-}
-
-fn add_numbered(
-    alloc: Global,
-    files: &mut MemoryOutbox,
-    number: u8,
-    entity: u64,
-) -> Result<(), AllocError> {
-    let name = [b'0'.saturating_add(number)];
-    let text = format!(in alloc; "file {number} of entity {entity}")?;
-    add(alloc, files, &name, text.as_bytes())
 }
 
 fn add(
@@ -133,7 +111,20 @@ fn add(
     files.add(name, octets)
 }
 
-impl Bench for EntityBench {
+/// An entity, whose clauses end here.
+#[derive(Drop)]
+pub struct EntityBench<O: Outbox> {
+    alloc: Global,
+    entity: Entity<O, FuseInbox<MemoryInbox>>,
+}
+
+impl<O: Outbox> Model for EntityBench<O> {
+    ghost Value = { Unit {0} };
+
+    ghost view = { λ _. tt };
+}
+
+impl<O: Outbox> Bench for EntityBench<O> {
     fn does(&mut self, verb: &str, words: &str, out: &mut String) -> Result<(), AllocError> {
         match verb {
             "put" => self.puts(words, out),
@@ -146,18 +137,25 @@ impl Bench for EntityBench {
             "ask" => self.calls(words, out),
             "prefixes" | "replaced" => strangers::asks(self.alloc, self, verb, words, out),
             "forget" => self.forgets(words, out),
-            "first" => tell_first(self.entity.next_indication(), out),
+            "first" => {
+                match self.entity.next_indication() {
+                    Some(told) => tell(&told, None, out),
+                    None => write!(out, " none\n"),
+                }
+            }
             _ => self.says(verb, words, out),
         }
     }
 }
 
-impl Target for EntityBench {
+impl<O: Outbox> Target for EntityBench<O> {
     fn tries(&mut self, octets: &[u8]) -> Fate {
         let before = self.seen();
         if self.entity.receive(octets).is_ok() {
-            Fate::Taken
-        } else if self.seen().is_one_drop_more_than(before) {
+            return Fate::Taken;
+        }
+        let after = self.seen();
+        if after.pdus == before.pdus.saturating_add(1) && after.is_still(before) {
             Fate::Refused
         } else {
             Fate::Broken
@@ -165,130 +163,78 @@ impl Target for EntityBench {
     }
 }
 
-/// What is seen of an entity.
-#[derive(Clone, Copy)]
-struct Seen {
-    told: usize,
-    deadline: Option<u64>,
-    published: usize,
-    failures: u64,
-    drops: u64,
-}
-
-impl Seen {
-    fn is_one_drop_more_than(self, before: Seen) -> bool {
-        self.drops == before.drops.saturating_add(1)
-            && self.told == before.told
-            && self.deadline == before.deadline
-            && self.published == before.published
-            && self.failures == before.failures
-    }
-}
-
-impl Side for EntityBench {
-    fn asks(
-        &mut self,
-        other: &mut Self,
-        verb: &str,
-        words: &str,
-        out: &mut String,
-    ) -> Result<(), AllocError> {
-        match verb {
-            "pass" => self.gives(other, &mut Losses::none()),
-            _ => self.does(verb, words, out),
-        }
-    }
-
+impl<O: Outbox> Side for EntityBench<O> {
     fn tick(&mut self, now: u64) -> Result<(), AllocError> {
         self.entity.tick(now)
     }
 
-    fn gives(&mut self, other: &mut Self, losses: &mut Losses) -> Result<(), AllocError> {
+    fn gives(&mut self, other: &mut Self, every: u64, given: &mut u64) -> Result<(), AllocError> {
         for _ in 0..MOST {
-            let pdu = self.poll()?;
-            if pdu.is_empty() {
+            let mut pdu = vec![in self.alloc; 0xFFu8; ROOM]?;
+            let len = self.moves(&mut pdu)?;
+            if len == 0 {
                 break;
             }
-            if losses.arrives() {
-                other.hear(&pdu);
+            pdu.truncate(len);
+            *given = given.saturating_add(1);
+            if every == 0 || *given % every != 0 {
+                let _ = other.entity.receive(&pdu);
             }
         }
         Ok(())
     }
 }
 
-impl EntityBench {
-    /// An entity that was asked nothing.
-    fn open(alloc: Global, setup: &EntitySetup) -> Result<EntityBench, AllocError> {
-        let files = files(alloc, setup.config.entity, setup.octets)?;
-        let outbox = FuseOutbox::new(files, setup.outbox_call);
-        let inbox = FuseInbox::new(MemoryInbox::new(alloc), setup.inbox_call);
-        EntityBench::over(alloc, setup.config, outbox, inbox)
-    }
-
-    fn over(
+impl<O: Outbox> EntityBench<O> {
+    /// Makes an entity over this outbox, and an inbox that fails from this call on.
+    pub fn over(
         alloc: Global,
         config: EntityConfig,
-        outbox: FuseOutbox<MemoryOutbox>,
-        inbox: FuseInbox<MemoryInbox>,
-    ) -> Result<EntityBench, AllocError> {
+        outbox: O,
+        inbox_call: u64,
+    ) -> Result<EntityBench<O>, AllocError> {
         let Ok(config) = config.validate() else {
             return Err(AllocError);
         };
+        let inbox = FuseInbox::new(MemoryInbox::new(alloc), inbox_call);
         let entity = Entity::new(alloc, config, outbox, inbox)?;
         Ok(EntityBench { alloc, entity })
     }
 
     fn seen(&self) -> Seen {
+        let mut pdus = 0u64;
+        for by in &EntityDrop::ALL {
+            pdus = pdus.saturating_add(self.entity.drops(*by));
+        }
         Seen {
+            frames: 0,
+            zones: 0,
+            pdus,
             told: self.entity.indications().len(),
             deadline: self.entity.next_deadline(),
             published: self.entity.inbox().inner().published().entries().len(),
             failures: self.entity.inbox().failures(),
-            drops: self.dropped(),
         }
-    }
-
-    /// How much was dropped.
-    fn dropped(&self) -> u64 {
-        let mut count = 0u64;
-        for by in &EntityDrop::ALL {
-            count = count.saturating_add(self.entity.drops(*by));
-        }
-        count
     }
 
     fn says(&self, verb: &str, words: &str, out: &mut String) -> Result<(), AllocError> {
         match verb {
             "phase" => write!(out, " {:?}\n", self.entity.phase(FIRST)),
-            "phases" => self.tells_phases(out),
             "left" => write!(out, " {}\n", self.entity.records_left()),
-            "told" => tell_all(self.entity.indications(), out),
-            "drops" => self.tells_drops(out),
-            "inbox" => self.tells_inbox(out),
-            _ => self.recalls(verb, words, out),
-        }
-    }
-
-    fn recalls(&self, verb: &str, words: &str, out: &mut String) -> Result<(), AllocError> {
-        match verb {
-            "deadline" => tell_deadline(self.entity.next_deadline(), out),
+            "told" => tell_all(self.entity.indications(), None, out),
+            "inbox" => tell_files(self.entity.inbox().inner(), out),
+            "deadline" => write!(out, " {:?}\n", self.entity.next_deadline()),
             "forgotten" => write!(out, " {}\n", self.entity.was_forgotten(id(words))),
             "gone" => write!(out, " {}\n", self.entity.indications_gone()),
-            "since" => tell_since(self.entity.indications_since(number(words)), out),
-            _ => unknown(out),
-        }
-    }
-
-    fn forgets(&mut self, words: &str, out: &mut String) -> Result<(), AllocError> {
-        let (what, rest) = pair(words);
-        match what {
-            "closed" => {
-                self.entity.forget_closed()?;
-                write!(out, " done\n")
+            "since" => {
+                match self.entity.indications_since(number(words)) {
+                    Some(rest) => tell_all(rest, None, out),
+                    None => write!(out, " gone\n"),
+                }
             }
-            "told" => Ok(self.entity.forget_indications(count(rest))),
-            _ => tell_forgotten(self.entity.forget(id(what)), out),
+            "phases" => self.tells_phases(out),
+            "drops" => self.tells_drops(out),
+            _ => unknown(out),
         }
     }
 
@@ -297,131 +243,6 @@ impl EntityBench {
             write!(out, " {}:{} {phase:?}\n", id.source, id.number)?;
         }
         Ok(())
-    }
-
-    fn puts(&mut self, words: &str, out: &mut String) -> Result<(), AllocError> {
-        let (source, destination) = pair(words);
-        match self.put(source, destination) {
-            Ok(id) => write!(out, " {}:{}\n", id.source, id.number),
-            Err(e) => write!(out, " {}\n", e.name()),
-        }
-    }
-
-    fn put(&mut self, source: &str, destination: &str) -> Result<TransactionId, PutError> {
-        if destination.is_empty() {
-            self.entity.put(source.as_bytes(), b"b.txt")
-        } else {
-            self.entity.put(source.as_bytes(), destination.as_bytes())
-        }
-    }
-
-    fn puts_many(&mut self, words: &str, out: &mut String) -> Result<(), AllocError> {
-        let (count, name) = pair(words);
-        let mut done = 0u64;
-        for _ in 0..number(count) {
-            if let Err(e) = self.put(name, "") {
-                write!(out, " {}\n", e.name())?;
-                break;
-            }
-            done = done.saturating_add(1);
-        }
-        write!(out, " put {done}\n")
-    }
-
-    fn hears(&mut self, text: &str, out: &mut String) -> Result<(), AllocError> {
-        let heard = self.hear_text(text)?;
-        write!(out, " {heard}\n")
-    }
-
-    fn hear_text(&mut self, text: &str) -> Result<&'static str, AllocError> {
-        let pdu = octets(self.alloc, text)?;
-        Ok(self.hear(&pdu))
-    }
-
-    /// Hears a PDU, and says why it was dropped, or that it wasn't.
-    fn hear(&mut self, pdu: &[u8]) -> &'static str {
-        match self.entity.receive(pdu) {
-            Ok(()) => "taken",
-            Err(e) => e.name(),
-        }
-    }
-
-    fn hears_series(&mut self, words: &str, out: &mut String) -> Result<(), AllocError> {
-        let (first, rest) = pair(words);
-        let (step, rest) = pair(rest);
-        let (count, texts) = pair(rest);
-        let mut at = number(first);
-        let mut taken = 0u64;
-        for _ in 0..number(count) {
-            let heard = self.hears_one_of(at, texts)?;
-            if heard == "taken" {
-                taken = taken.saturating_add(1);
-            } else {
-                write!(out, " {heard} {at}\n")?;
-            }
-            at = at.saturating_add(number(step));
-        }
-        write!(out, " taken {taken}\n")
-    }
-
-    /// Hears a PDU with a number between its two texts, and says why it was dropped, or that it
-    /// wasn't.
-    fn hears_one_of(&mut self, at: u64, texts: &str) -> Result<&'static str, AllocError> {
-        let text = numbered(self.alloc, at, texts)?;
-        self.hear_text(text.as_str())
-    }
-
-    fn polls(&mut self, words: &str, out: &mut String) -> Result<(), AllocError> {
-        let rooms = rooms(words);
-        let room = rooms.directives.max(rooms.file_data);
-        let mut octets = vec![in self.alloc; 0u8; room]?;
-        match self.entity.poll(rooms, &mut octets)? {
-            EntityPolled::Moved { len, file_data } => {
-                octets.truncate(len);
-                tell_pdu(self.alloc, file_data, &octets, out)
-            }
-            EntityPolled::Nothing => write!(out, " nothing\n"),
-            EntityPolled::Full => write!(out, " full\n"),
-            EntityPolled::SourceFailed => write!(out, " failed\n"),
-        }
-    }
-
-    fn polls_many(&mut self, count: &str, out: &mut String) -> Result<(), AllocError> {
-        let mut moved = 0u64;
-        for _ in 0..number(count) {
-            if self.poll()?.is_empty() {
-                break;
-            }
-            moved = moved.saturating_add(1);
-        }
-        write!(out, " moved {moved}\n")
-    }
-
-    /// The octets of the PDU that is due; none where nothing is due or the outbox failed.
-    fn poll(&mut self) -> Result<Vec<u8>, AllocError> {
-        let mut octets = vec![in self.alloc; 0u8; ROOM]?;
-        let len = match self.entity.poll(ROOMS, &mut octets)? {
-            EntityPolled::Moved { len, .. } => len,
-            EntityPolled::Nothing | EntityPolled::Full | EntityPolled::SourceFailed => 0,
-        };
-        octets.truncate(len);
-        Ok(octets)
-    }
-
-    fn calls(&mut self, word: &str, out: &mut String) -> Result<(), AllocError> {
-        match self.call(word) {
-            Ok(()) => write!(out, " done\n"),
-            Err(e) => write!(out, " {}\n", e.name()),
-        }
-    }
-
-    fn call(&mut self, word: &str) -> Result<(), RequestError> {
-        match word {
-            "cancel" => self.entity.cancel(FIRST),
-            "suspend" => self.entity.suspend(FIRST),
-            "resume" => self.entity.resume(FIRST),
-            _ => self.entity.prompt(FIRST, word == "keep"),
-        }
     }
 
     fn tells_drops(&self, out: &mut String) -> Result<(), AllocError> {
@@ -434,83 +255,136 @@ impl EntityBench {
         Ok(())
     }
 
-    fn tells_inbox(&self, out: &mut String) -> Result<(), AllocError> {
-        for (name, octets) in self.entity.inbox().inner().published().entries().iter() {
-            tell_file(self.alloc, name, octets, out)?;
+    fn forgets(&mut self, words: &str, out: &mut String) -> Result<(), AllocError> {
+        let (what, rest) = pair(words);
+        match what {
+            "told" => return Ok(self.entity.forget_indications(number(rest))),
+            "closed" => self.entity.forget_closed()?,
+            _ => {
+                if let Err(e) = self.entity.forget(id(what)) {
+                    return write!(out, " {e:?}\n");
+                }
+            }
         }
-        Ok(())
+        write!(out, " done\n")
     }
-}
 
-/// Two texts, with a number of 8 digits between them.
-fn numbered(alloc: Global, at: u64, texts: &str) -> Result<String, AllocError> {
-    let (front, behind) = pair(texts);
-    format!(in alloc; "{front}{at:08X}{behind}")
-}
-
-/// The rooms that two words name, or one for both; that for each PDU where there is none.
-fn rooms(words: &str) -> Rooms {
-    let (directives, file_data) = pair(words);
-    let directives = directives.parse::<usize>().unwrap_or(ROOM);
-    Rooms {
-        directives,
-        file_data: file_data.parse::<usize>().unwrap_or(directives),
+    fn puts(&mut self, words: &str, out: &mut String) -> Result<(), AllocError> {
+        let (source, destination) = pair(words);
+        let destination = if destination.is_empty() {
+            "b.txt"
+        } else {
+            destination
+        };
+        match self.entity.put(source.as_bytes(), destination.as_bytes()) {
+            Ok(id) => write!(out, " {}:{}\n", id.source, id.number),
+            Err(e) => write!(out, " {}\n", e.name()),
+        }
     }
-}
 
-fn tell_deadline(deadline: Option<u64>, out: &mut String) -> Result<(), AllocError> {
-    match deadline {
-        Some(at) => write!(out, " at {at}\n"),
-        None => write!(out, " none\n"),
+    fn puts_many(&mut self, words: &str, out: &mut String) -> Result<(), AllocError> {
+        let (count, name) = pair(words);
+        let mut done = 0u64;
+        for _ in 0..number::<u64>(count) {
+            if let Err(e) = self.entity.put(name.as_bytes(), b"b.txt") {
+                write!(out, " {}\n", e.name())?;
+                break;
+            }
+            done = done.saturating_add(1);
+        }
+        write!(out, " put {done}\n")
     }
-}
 
-fn tell_forgotten(forgot: Result<(), ForgetError>, out: &mut String) -> Result<(), AllocError> {
-    match forgot {
-        Ok(()) => write!(out, " done\n"),
-        Err(e) => write!(out, " {e:?}\n"),
+    fn hears(&mut self, text: &str, out: &mut String) -> Result<(), AllocError> {
+        let pdu = octets(self.alloc, text)?;
+        match self.entity.receive(&pdu) {
+            Ok(()) => write!(out, " taken\n"),
+            Err(e) => write!(out, " {}\n", e.name()),
+        }
     }
-}
 
-fn tell_first(told: Option<Indication>, out: &mut String) -> Result<(), AllocError> {
-    match told {
-        Some(told) => tell(&told, out),
-        None => write!(out, " none\n"),
+    fn hears_series(&mut self, words: &str, out: &mut String) -> Result<(), AllocError> {
+        let (first, rest) = pair(words);
+        let (step, rest) = pair(rest);
+        let (count, texts) = pair(rest);
+        let (front, behind) = pair(texts);
+        let mut at = number::<u64>(first);
+        let mut taken = 0u64;
+        for _ in 0..number::<u64>(count) {
+            let text = format!(in self.alloc; "{front}{at:08X}{behind}")?;
+            let pdu = octets(self.alloc, text.as_str())?;
+            match self.entity.receive(&pdu) {
+                Ok(()) => taken = taken.saturating_add(1),
+                Err(e) => write!(out, " {} {at}\n", e.name())?,
+            }
+            at = at.saturating_add(number(step));
+        }
+        write!(out, " taken {taken}\n")
     }
-}
 
-fn tell_since(rest: Option<&[Indication]>, out: &mut String) -> Result<(), AllocError> {
-    match rest {
-        Some(rest) => tell_all(rest, out),
-        None => write!(out, " gone\n"),
+    fn polls(&mut self, words: &str, out: &mut String) -> Result<(), AllocError> {
+        let (directives, file_data) = pair(words);
+        let directives = directives.parse::<usize>().unwrap_or(ROOM);
+        let file_data = file_data.parse::<usize>().unwrap_or(directives);
+        let rooms = Rooms {
+            directives,
+            file_data,
+        };
+        let mut octets = vec![in self.alloc; 0xFFu8; directives.max(file_data)]?;
+        match self.entity.poll(rooms, &mut octets)? {
+            EntityPolled::Moved { len, file_data } => {
+                octets.truncate(len);
+                write!(
+                    out,
+                    " {}",
+                    if file_data { "file data" } else { "directive" }
+                )?;
+                tell_octets(self.alloc, &octets, out)
+            }
+            EntityPolled::Nothing => write!(out, " nothing\n"),
+            EntityPolled::Full => write!(out, " full\n"),
+            EntityPolled::SourceFailed => write!(out, " failed\n"),
+        }
     }
-}
 
-fn tell_all(rest: &[Indication], out: &mut String) -> Result<(), AllocError> {
-    for told in rest {
-        tell(told, out)?;
+    fn polls_many(&mut self, count: &str, out: &mut String) -> Result<(), AllocError> {
+        let mut octets = vec![in self.alloc; 0xFFu8; ROOM]?;
+        let mut moved = 0u64;
+        for _ in 0..number::<u64>(count) {
+            if self.moves(&mut octets)? == 0 {
+                break;
+            }
+            moved = moved.saturating_add(1);
+        }
+        write!(out, " moved {moved}\n")
     }
-    Ok(())
-}
 
-fn tell_pdu(
-    alloc: Global,
-    file_data: bool,
-    octets: &[u8],
-    out: &mut String,
-) -> Result<(), AllocError> {
-    let kind = if file_data { "file data" } else { "directive" };
-    write!(out, " {kind}")?;
-    tell_octets(alloc, octets, out)
-}
+    /// Sends what is due into these octets, and returns how many it has: 0 if nothing is due or the
+    /// outbox failed.
+    fn moves(&mut self, octets: &mut [u8]) -> Result<usize, AllocError> {
+        if octets.len() < ROOM {
+            return Ok(0);
+        }
+        let rooms = Rooms {
+            directives: ROOM,
+            file_data: ROOM,
+        };
+        match self.entity.poll(rooms, octets)? {
+            EntityPolled::Moved { len, .. } => Ok(len),
+            EntityPolled::Nothing | EntityPolled::Full | EntityPolled::SourceFailed => Ok(0),
+        }
+    }
 
-fn tell_file(
-    alloc: Global,
-    name: &[u8],
-    octets: &[u8],
-    out: &mut String,
-) -> Result<(), AllocError> {
-    let name = String::from_utf8_lossy(alloc, name)?;
-    let text = String::from_utf8_lossy(alloc, octets)?;
-    write!(out, " {name}: {text}\n")
+    fn calls(&mut self, word: &str, out: &mut String) -> Result<(), AllocError> {
+        let asked = match word {
+            "cancel" => self.entity.cancel(FIRST),
+            "suspend" => self.entity.suspend(FIRST),
+            "resume" => self.entity.resume(FIRST),
+            _ => self.entity.prompt(FIRST, word == "keep"),
+        };
+        match asked {
+            Ok(()) => write!(out, " done\n"),
+            Err(e) => write!(out, " {}\n", e.name()),
+        }
+    }
 }

@@ -1,6 +1,7 @@
-//! Two of a kind that hear each other.
+//! Two of a kind that exchange PDUs.
 //!
 //!     1 WORDS, 2 WORDS, both WORDS   to ask the first one, the second one, or both in turn
+//!     1 pass, 2 pass, both pass      one gives the other all that it has to send
 //!     turns FROM TO LOST             at the times FROM, FROM + 10, .. below TO both are told the
 //!                                    time, and each gives the other what it has to send. Of all
 //!                                    that is given, each one is lost whose number LOST divides
@@ -9,42 +10,14 @@ use crate::words::{number, pair, word};
 use std::alloc::AllocError;
 use std::marker::Model;
 
-/// One of two that hear each other.
-pub trait Side: Drop {
-    /// Does what a line asks, and writes the answers.
-    fn asks(
-        &mut self,
-        other: &mut Self,
-        verb: &str,
-        words: &str,
-        out: &mut String,
-    ) -> Result<(), AllocError>;
-
+/// One of two that exchange PDUs.
+pub trait Side: Bench {
     /// Takes note of the time.
     fn tick(&mut self, now: u64) -> Result<(), AllocError>;
 
-    /// Gives the other what it has to send, but for what is lost.
-    fn gives(&mut self, other: &mut Self, losses: &mut Losses) -> Result<(), AllocError>;
-}
-
-/// What is lost of all that is given: each one whose number `every` divides.
-#[derive(Drop)]
-pub struct Losses {
-    given: u64,
-    every: u64,
-}
-
-impl Losses {
-    /// Nothing is lost.
-    pub fn none() -> Losses {
-        Losses { given: 0, every: 0 }
-    }
-
-    /// Whether the next one arrives.
-    pub fn arrives(&mut self) -> bool {
-        self.given = self.given.saturating_add(1);
-        self.every == 0 || self.given % self.every != 0
-    }
+    /// Gives the other what it has to send. What is given is counted, and each one is lost whose
+    /// number `every` divides; 0 divides none.
+    fn gives(&mut self, other: &mut Self, every: u64, given: &mut u64) -> Result<(), AllocError>;
 }
 
 /// Both.
@@ -64,9 +37,12 @@ impl<S: Side> Bench for Joined<S> {
     fn does(&mut self, verb: &str, words: &str, out: &mut String) -> Result<(), AllocError> {
         let (inner, rest) = pair(words);
         match verb {
-            "1" => self.one.asks(&mut self.two, inner, rest, out),
-            "2" => self.two.asks(&mut self.one, inner, rest, out),
-            "both" => self.asks_both(inner, rest, out),
+            "1" => asks(&mut self.one, &mut self.two, inner, rest, out),
+            "2" => asks(&mut self.two, &mut self.one, inner, rest, out),
+            "both" => {
+                asks(&mut self.one, &mut self.two, inner, rest, out)?;
+                asks(&mut self.two, &mut self.one, inner, rest, out)
+            }
             "turns" => self.turns(words),
             _ => unknown(out),
         }
@@ -74,7 +50,7 @@ impl<S: Side> Bench for Joined<S> {
 }
 
 impl<S: Side> Joined<S> {
-    /// Both, if both are there. What is let go is let go here, where nothing is known of it.
+    /// Joins both, if both are there. One alone is dropped here, where nothing is known of it.
     pub fn of(
         one: Result<S, AllocError>,
         two: Result<S, AllocError>,
@@ -85,28 +61,30 @@ impl<S: Side> Joined<S> {
         })
     }
 
-    fn asks_both(&mut self, verb: &str, words: &str, out: &mut String) -> Result<(), AllocError> {
-        self.one.asks(&mut self.two, verb, words, out)?;
-        self.two.asks(&mut self.one, verb, words, out)
-    }
-
     fn turns(&mut self, words: &str) -> Result<(), AllocError> {
-        let (from, to) = (number(word(words, 0)), number(word(words, 1)));
-        let mut losses = Losses {
-            given: 0,
-            every: number(word(words, 2)),
-        };
+        let (from, to) = (number::<u64>(word(words, 0)), number::<u64>(word(words, 1)));
+        let every = number::<u64>(word(words, 2));
+        let mut given = 0u64;
         for turn in 0..to.saturating_sub(from).div_ceil(10) {
             let now = from.saturating_add(turn.saturating_mul(10));
-            self.turn(now, &mut losses)?;
+            self.one.tick(now)?;
+            self.two.tick(now)?;
+            self.one.gives(&mut self.two, every, &mut given)?;
+            self.two.gives(&mut self.one, every, &mut given)?;
         }
         Ok(())
     }
+}
 
-    fn turn(&mut self, now: u64, losses: &mut Losses) -> Result<(), AllocError> {
-        self.one.tick(now)?;
-        self.two.tick(now)?;
-        self.one.gives(&mut self.two, losses)?;
-        self.two.gives(&mut self.one, losses)
+fn asks<S: Side>(
+    one: &mut S,
+    two: &mut S,
+    verb: &str,
+    words: &str,
+    out: &mut String,
+) -> Result<(), AllocError> {
+    if verb == "pass" {
+        return one.gives(two, 0, &mut 0);
     }
+    one.does(verb, words, out)
 }

@@ -1,26 +1,21 @@
-//! `test_bench`: plays transcripts of questions and answers on sixteen crates of the product, of
-//! which it is no part.
+//! `test_bench`: plays transcripts of questions and answers on crates of the product, of which it
+//! is no part.
 //!
 //! It reads a transcript on standard input, and writes it anew on standard output. A line that
 //! begins with a space is an answer, and is passed over; each other line is a question, which is
 //! written again with the answers that come. Its first word says what is asked, and the others of
-//! what. The first argument names the bench, as in `test_bench ranges`; what stands behind it says
+//! what. The first argument names the bench, as in `test_bench ranges`; the arguments after it say
 //! how the bench is set up.
 //!
 //! `tests/run` plays the transcripts in `tests/transcripts`, which have to come out as they stand.
 #![tactic(auto)]
 
 mod bench;
-mod bits;
 mod entity;
-mod frames;
 mod joined;
 mod large;
-mod link;
-mod machines;
 mod own_link;
-mod packets;
-mod pdus;
+mod parts;
 mod ranges;
 mod rules;
 mod setup;
@@ -32,6 +27,7 @@ mod timers;
 mod words;
 mod zones;
 
+use setup::{ONE, TWO, with};
 use std::alloc::{AllocError, Global};
 use std::process::ExitCode;
 use std::{env, io};
@@ -48,9 +44,13 @@ fn main(rt: HostRuntime) -> ExitCode {
 ///
 /// # Errors
 ///
-/// That of reading or of writing, or `OutOfMemory`.
+/// The error of reading or of writing, or `OutOfMemory`.
 fn run(rt: &HostRuntime) -> io::Result<()> {
-    let arguments = joined_arguments(rt)?;
+    let words: Vec<String> = env::args(rt)?.collect(rt.alloc())?;
+    let mut arguments = String::new(rt.alloc());
+    for word in words.iter().skip(1) {
+        write!(&mut arguments, "{word} ")?;
+    }
     let transcript = io::read_to_string(rt.alloc(), rt.reader())?;
     let mut out = String::new(rt.alloc());
     play(
@@ -62,20 +62,6 @@ fn run(rt: &HostRuntime) -> io::Result<()> {
     rt.print(out.as_str())
 }
 
-/// The arguments behind the program's name, with spaces between them.
-fn joined_arguments(rt: &HostRuntime) -> io::Result<String> {
-    let words: Vec<String> = env::args(rt)?.collect(rt.alloc())?;
-    Ok(joined_words(rt.alloc(), words.as_slice())?)
-}
-
-fn joined_words(alloc: Global, words: &[String]) -> Result<String, AllocError> {
-    let mut out = String::new(alloc);
-    for word in words.iter().skip(1) {
-        write!(&mut out, "{word} ")?;
-    }
-    Ok(out)
-}
-
 /// Plays a transcript on the bench that the first word names, and that the others set up.
 fn play(
     alloc: Global,
@@ -85,47 +71,16 @@ fn play(
 ) -> Result<(), AllocError> {
     let (name, setup) = pair(arguments);
     match name {
-        "bits" => bits::play(alloc, transcript, out),
-        "packets" => packets::play(alloc, transcript, out),
-        "frames" => frames::play(alloc, transcript, out),
-        "zones" => zones::play(alloc, setup, transcript, out),
-        "link" => link::play(alloc, setup, transcript, out),
-        _ => play_parts(alloc, name, setup, transcript, out),
-    }
-}
-
-fn play_parts(
-    alloc: Global,
-    name: &str,
-    setup: &str,
-    transcript: &str,
-    out: &mut String,
-) -> Result<(), AllocError> {
-    match name {
-        "pdus" => pdus::play(alloc, transcript, out),
         "rules" => rules::play(alloc, transcript, out),
         "ranges" => ranges::play(alloc, transcript, out),
         "stores" => stores::play(alloc, transcript, out),
         "timers" => timers::play(alloc, transcript, out),
-        _ => play_ends(alloc, name, setup, transcript, out),
-    }
-}
-
-fn play_ends(
-    alloc: Global,
-    name: &str,
-    setup: &str,
-    transcript: &str,
-    out: &mut String,
-) -> Result<(), AllocError> {
-    match name {
-        "machines" => machines::play(transcript, out),
-        "setups" => setup::play(transcript, out),
+        "zones" => zones::play(alloc, setup, transcript, out),
         "large" => large::play(alloc, setup, transcript, out),
-        "sender" => entity::play(alloc, &setup::first_entity(setup), transcript, out),
-        "receiver" => entity::play(alloc, &setup::second_entity(setup), transcript, out),
+        "sender" => entity::play(alloc, &with(ONE, setup), transcript, out),
+        "receiver" => entity::play(alloc, &with(TWO, setup), transcript, out),
         "entities" => entity::play_both(alloc, setup, transcript, out),
-        "station" => station::play(alloc, setup, transcript, out),
+        "station" => station::play(alloc, &with(TWO, setup), transcript, out),
         _ => write!(out, " there is no such bench\n"),
     }
 }

@@ -1,17 +1,18 @@
-//! A station over stores in memory that takes frames: the second one of a pair.
+//! A station over stores in memory. The outbox has the files of an entity.
 //!
-//!     take FRAME    to take these octets
+//!     put NAME      to send that file, to be published as `b.txt`
+//!     transmit      to tell the next frame that is due, and its lane
+//!     take FRAME    to receive a frame: the PDUs that come up
 //!     prefixes FRAME, replaced FRAME, storm SEED COUNT FRAME    as in `strangers`
 //!     told S:N      to tell what was indicated of a transaction
 //!     drops         to tell what was dropped, of the link and of the PDUs that came up, by number
-//!     inbox         to tell each published file, with its length and its checksum
+//!     inbox         to tell each published file
 use crate::bench::{Bench, played, unknown};
-use crate::setup::second_station;
-use crate::strangers::{self, Fate, Target};
-use crate::telling::{id_of, tell};
-use crate::words::{id, octets};
-use cfdp_directives::Checksum;
-use cfdp_header::TransactionId;
+use crate::entity::files;
+use crate::setup::{Setup, station};
+use crate::strangers::{self, Fate, Seen, Target};
+use crate::telling::tell_all;
+use crate::words::{id, octets, tell_octets, text};
 use cfdp_station::{EntityDrop, LinkDrop, Station};
 use cfdp_store::{Inbox, MemoryInbox, MemoryOutbox};
 use link_stack::Up;
@@ -20,10 +21,10 @@ use std::alloc::{AllocError, Global};
 use std::marker::Model;
 use valid_config::{Config, Valid};
 
-/// Plays a transcript on the station whose setup has these numbers.
+/// Plays a transcript on a station that is set up so.
 pub fn play(
     alloc: Global,
-    setup: &str,
+    setup: &Setup,
     transcript: &str,
     out: &mut String,
 ) -> Result<(), AllocError> {
@@ -49,11 +50,18 @@ impl Model for StationBench {
 impl Bench for StationBench {
     fn does(&mut self, verb: &str, words: &str, out: &mut String) -> Result<(), AllocError> {
         match verb {
-            "take" => Ok(self.receive(&octets(self.alloc, words)?)),
+            "put" => {
+                match self.station.put(words.as_bytes(), b"b.txt") {
+                    Ok(id) => write!(out, " {}:{}\n", id.source, id.number),
+                    Err(e) => write!(out, " {}\n", e.name()),
+                }
+            }
+            "transmit" => self.transmits(out),
+            "take" => self.takes(words, out),
             "prefixes" | "replaced" | "storm" => {
                 strangers::asks(self.alloc, self, verb, words, out)
             }
-            "told" => self.tells_of(id(words), out),
+            "told" => tell_all(self.station.indications(), Some(id(words)), out),
             "drops" => self.tells_drops(out),
             "inbox" => self.tells_inbox(out),
             _ => unknown(out),
@@ -65,76 +73,51 @@ impl Target for StationBench {
     fn tries(&mut self, octets: &[u8]) -> Fate {
         let before = self.seen();
         self.receive(octets);
-        self.seen().fate(before, self.came.len() as u64)
-    }
-}
-
-/// What is seen of a station: how many frames it refused, how often it dropped something else of a
-/// frame, how many PDUs it dropped, and what only PDUs change that it heard.
-#[derive(Clone, Copy)]
-struct Seen {
-    frames: u64,
-    zones: u64,
-    pdus: u64,
-    told: usize,
-    deadline: Option<u64>,
-    published: usize,
-    failures: u64,
-}
-
-impl Seen {
-    /// What became of a frame that gave so many PDUs.
-    fn fate(self, before: Seen, came: u64) -> Fate {
-        if self.frames == before.frames {
-            if self.has_heard(before, came) {
-                Fate::Taken
-            } else {
-                Fate::Broken
-            }
-        } else if self.is_one_frame_more_than(before) && came == 0 {
-            Fate::Refused
-        } else {
-            Fate::Broken
+        let (after, came) = (self.seen(), self.came.len() as u64);
+        let dropped = after.pdus.saturating_sub(before.pdus);
+        let is_still = after.is_still(before);
+        // No more of its PDUs are dropped than came, and nothing else changes if all of them are.
+        let is_heard = after.frames == before.frames
+            && (dropped < came || dropped == came && is_still);
+        let is_refused = after.frames == before.frames.saturating_add(1)
+            && after.zones == before.zones
+            && after.pdus == before.pdus
+            && is_still
+            && came == 0;
+        match (is_heard, is_refused) {
+            (true, _) => Fate::Taken,
+            (_, true) => Fate::Refused,
+            _ => Fate::Broken,
         }
-    }
-
-    fn is_one_frame_more_than(self, before: Seen) -> bool {
-        self.frames == before.frames.saturating_add(1)
-            && self.zones == before.zones
-            && self.pdus == before.pdus
-            && self.is_still(before)
-    }
-
-    /// Whether no more of these PDUs were dropped than came, and nothing else changed where all of
-    /// them were.
-    fn has_heard(self, before: Seen, came: u64) -> bool {
-        let dropped = self.pdus.saturating_sub(before.pdus);
-        dropped < came || (dropped == came && self.is_still(before))
-    }
-
-    fn is_still(self, before: Seen) -> bool {
-        self.told == before.told
-            && self.deadline == before.deadline
-            && self.published == before.published
-            && self.failures == before.failures
     }
 }
 
 impl StationBench {
-    /// A station that was asked nothing.
-    fn open(alloc: Global, setup: &str) -> Result<StationBench, AllocError> {
-        let Ok(config) = second_station(setup).validate() else {
+    /// Makes a station that was asked nothing.
+    fn open(alloc: Global, setup: &Setup) -> Result<StationBench, AllocError> {
+        let Ok(config) = station(setup).validate() else {
             return Err(AllocError);
         };
         let up = Up::new(alloc, Valid::known(config.get().receives))?;
-        let (outbox, inbox) = (MemoryOutbox::new(alloc), MemoryInbox::new(alloc));
-        let station = Station::new(alloc, config, outbox, inbox)?;
+        let files = files(alloc, setup[0], setup[22])?;
+        let station = Station::new(alloc, config, files, MemoryInbox::new(alloc))?;
         Ok(StationBench {
             alloc,
             station,
             up,
             came: OctetStrings::new(alloc),
         })
+    }
+
+    fn transmits(&mut self, out: &mut String) -> Result<(), AllocError> {
+        let mut frame = vec![in self.alloc; 0xFFu8; 40]?;
+        match self.station.transmit(&mut frame)? {
+            Some(lane) => {
+                write!(out, " {lane:?}")?;
+                tell_octets(self.alloc, &frame, out)
+            }
+            None => write!(out, " nothing\n"),
+        }
     }
 
     /// Takes a frame. The PDUs that it gives come out of a receiving end of its own too.
@@ -144,11 +127,23 @@ impl StationBench {
         self.station.receive(frame);
     }
 
+    fn takes(&mut self, digits: &str, out: &mut String) -> Result<(), AllocError> {
+        self.receive(&octets(self.alloc, digits)?);
+        for place in 0..self.came.len() {
+            tell_octets(self.alloc, self.came.get(place), out)?;
+        }
+        Ok(())
+    }
+
     fn seen(&self) -> Seen {
+        let mut pdus = 0u64;
+        for by in &EntityDrop::ALL {
+            pdus = pdus.saturating_add(self.station.drops(*by));
+        }
         Seen {
             frames: self.dropped_by_link(true),
             zones: self.dropped_by_link(false),
-            pdus: self.dropped_pdus(),
+            pdus,
             told: self.station.indications().len(),
             deadline: self.station.next_deadline(),
             published: self.station.inbox().published().entries().len(),
@@ -156,7 +151,7 @@ impl StationBench {
         }
     }
 
-    /// How often the link dropped whole frames, or else something in one.
+    /// Returns how often the link dropped whole frames, or else something in one.
     fn dropped_by_link(&self, whole: bool) -> u64 {
         let mut count = 0u64;
         for by in &LinkDrop::ALL {
@@ -167,52 +162,27 @@ impl StationBench {
         count
     }
 
-    fn dropped_pdus(&self) -> u64 {
-        let mut count = 0u64;
-        for by in &EntityDrop::ALL {
-            count = count.saturating_add(self.station.drops(*by));
+    fn tells_drops(&self, out: &mut String) -> Result<(), AllocError> {
+        for by in &LinkDrop::ALL {
+            let count = self.station.link_drops(*by);
+            if count != 0 {
+                write!(out, " link {} {count}\n", by.number())?;
+            }
         }
-        count
-    }
-
-    fn tells_of(&self, id: TransactionId, out: &mut String) -> Result<(), AllocError> {
-        for told in self.station.indications() {
-            if id_of(told) == id {
-                tell(told, out)?;
+        for by in &EntityDrop::ALL {
+            let count = self.station.drops(*by);
+            if count != 0 {
+                write!(out, " pdu {} {count}\n", by.number())?;
             }
         }
         Ok(())
     }
 
-    fn tells_drops(&self, out: &mut String) -> Result<(), AllocError> {
-        for by in &LinkDrop::ALL {
-            tell_count("link", by.number(), self.station.link_drops(*by), out)?;
-        }
-        for by in &EntityDrop::ALL {
-            tell_count("pdu", by.number(), self.station.drops(*by), out)?;
-        }
-        Ok(())
-    }
-
     fn tells_inbox(&self, out: &mut String) -> Result<(), AllocError> {
-        for (name, octets) in self.station.inbox().published().entries().iter() {
-            tell_sum(self.alloc, name, octets, out)?;
+        for (name, octets) in self.station.inbox().published().entries() {
+            write!(out, " {}", text(name))?;
+            tell_octets(self.alloc, octets, out)?;
         }
         Ok(())
     }
-}
-
-fn tell_count(what: &str, number: u8, count: u64, out: &mut String) -> Result<(), AllocError> {
-    if count == 0 {
-        return Ok(());
-    }
-    write!(out, " {what} {number} {count}\n")
-}
-
-fn tell_sum(alloc: Global, name: &[u8], octets: &[u8], out: &mut String) -> Result<(), AllocError> {
-    let name = String::from_utf8_lossy(alloc, name)?;
-    let mut checksum = Checksum::new();
-    checksum.add(0, octets);
-    let (len, sum) = (octets.len(), checksum.value());
-    write!(out, " {name} {len} {sum:08X}\n")
 }

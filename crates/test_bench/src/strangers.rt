@@ -7,9 +7,8 @@
 //!     storm SEED COUNT OCTETS    so many are tried, by turns: octets by chance, as many as these,
 //!                                and these with one of them replaced by chance
 //!
-//! How many were tried stands behind, how many of them were refused, and for how many something
+//! The answer says how many were tried, how many of them were refused, and for how many something
 //! changed that had to stay.
-use crate::bench::unknown;
 use crate::words::{number, octets, pair};
 use std::alloc::{AllocError, Global};
 
@@ -30,8 +29,32 @@ pub trait Target {
     fn tries(&mut self, octets: &[u8]) -> Fate;
 }
 
-/// How many octets were tried, and what became of them.
+/// What is seen of an entity or a station: how many frames its link refused, how often the link
+/// dropped something else of a frame, how many PDUs were dropped, and what only PDUs change that
+/// are heard.
 #[derive(Clone, Copy)]
+pub struct Seen {
+    pub frames: u64,
+    pub zones: u64,
+    pub pdus: u64,
+    pub told: usize,
+    pub deadline: Option<u64>,
+    pub published: usize,
+    pub failures: u64,
+}
+
+impl Seen {
+    /// Returns `true` if no PDU was heard in between.
+    pub fn is_still(self, before: Seen) -> bool {
+        self.told == before.told
+            && self.deadline == before.deadline
+            && self.published == before.published
+            && self.failures == before.failures
+    }
+}
+
+/// How many octets were tried, and what became of them.
+#[derive(Drop)]
 struct Tally {
     tried: u64,
     refused: u64,
@@ -39,56 +62,17 @@ struct Tally {
 }
 
 impl Tally {
-    fn new() -> Tally {
-        Tally {
-            tried: 0,
-            refused: 0,
-            broken: 0,
-        }
-    }
-
     fn tries<T: Target>(&mut self, target: &mut T, octets: &[u8]) {
-        let fate = target.tries(octets);
         self.tried = self.tried.saturating_add(1);
-        match fate {
+        match target.tries(octets) {
             Fate::Taken => {}
             Fate::Refused => self.refused = self.refused.saturating_add(1),
             Fate::Broken => self.broken = self.broken.saturating_add(1),
         }
     }
-
-    fn tell(self, out: &mut String) -> Result<(), AllocError> {
-        write!(out, " {} {} {}\n", self.tried, self.refused, self.broken)
-    }
 }
 
-/// Numbers that look as if they came by chance.
-#[derive(Drop)]
-struct Chance {
-    state: u64,
-}
-
-impl Chance {
-    fn new(seed: u64) -> Chance {
-        Chance { state: seed | 1 }
-    }
-
-    /// The next one.
-    fn next(&mut self) -> u64 {
-        let mut state = self.state;
-        state ^= state << 13;
-        state ^= state >> 7;
-        state ^= state << 17;
-        self.state = state;
-        state
-    }
-
-    fn octet(&mut self) -> u8 {
-        (self.next() % 256) as u8
-    }
-}
-
-/// Does what such a line asks.
+/// Does what such a line asks: `prefixes`, `replaced`, or else `storm`.
 pub fn asks<T: Target>(
     alloc: Global,
     target: &mut T,
@@ -96,46 +80,30 @@ pub fn asks<T: Target>(
     words: &str,
     out: &mut String,
 ) -> Result<(), AllocError> {
+    let mut tally = Tally {
+        tried: 0,
+        refused: 0,
+        broken: 0,
+    };
     match verb {
-        "prefixes" => prefixes(target, &octets(alloc, words)?, out),
-        "replaced" => replaced(target, &mut octets(alloc, words)?, out),
-        "storm" => storm(alloc, target, words, out),
-        _ => unknown(out),
+        "prefixes" => prefixes(target, &octets(alloc, words)?, &mut tally),
+        "replaced" => replaced(target, &mut octets(alloc, words)?, &mut tally),
+        _ => storm(alloc, target, words, &mut tally)?,
     }
+    write!(out, " {} {} {}\n", tally.tried, tally.refused, tally.broken)
 }
 
-fn prefixes<T: Target>(target: &mut T, whole: &[u8], out: &mut String) -> Result<(), AllocError> {
-    let mut tally = Tally::new();
+fn prefixes<T: Target>(target: &mut T, whole: &[u8], tally: &mut Tally) {
     for len in 0..whole.len() {
         tally.tries(target, &whole[..len]);
     }
-    tally.tell(out)
 }
 
-fn replaced<T: Target>(
-    target: &mut T,
-    octets: &mut Vec<u8>,
-    out: &mut String,
-) -> Result<(), AllocError> {
-    let mut tally = Tally::new();
-    for place in 0..octets.len() {
-        replaced_at(target, octets, place, &mut tally);
-    }
-    tally.tell(out)
-}
-
-fn replaced_at<T: Target>(target: &mut T, octets: &mut Vec<u8>, place: usize, tally: &mut Tally) {
-    let own = octets.get(place).copied().unwrap_or(0);
-    for octet in 0..=u8::MAX {
-        put(octets, place, octet);
+fn replaced<T: Target>(target: &mut T, octets: &mut Vec<u8>, tally: &mut Tally) {
+    for turn in 0..octets.len().saturating_mul(256) {
+        let own = put(octets, turn / 256, (turn % 256) as u8);
         tally.tries(target, octets);
-    }
-    put(octets, place, own);
-}
-
-fn put(octets: &mut Vec<u8>, place: usize, octet: u8) {
-    if let Some(it) = octets.get_mut(place) {
-        *it = octet;
+        put(octets, turn / 256, own);
     }
 }
 
@@ -143,42 +111,43 @@ fn storm<T: Target>(
     alloc: Global,
     target: &mut T,
     words: &str,
-    out: &mut String,
+    tally: &mut Tally,
 ) -> Result<(), AllocError> {
     let (seed, words) = pair(words);
     let (count, digits) = pair(words);
-    let mut chance = Chance::new(number(seed));
+    let mut chance = number::<u64>(seed) | 1;
     let mut whole = octets(alloc, digits)?;
     let mut other = Vec::from_slice(alloc, &whole)?;
-    let mut tally = Tally::new();
-    for _pair in 0..number(count) / 2 {
+    for _pair in 0..number::<u64>(count) / 2 {
         fill(&mut other, &mut chance);
         tally.tries(target, &other);
-        try_one(target, &mut whole, &mut chance, &mut tally);
+        let place = (next(&mut chance) % (whole.len() as u64).max(1)) as usize;
+        let own = put(&mut whole, place, (next(&mut chance) % 256) as u8);
+        tally.tries(target, &whole);
+        put(&mut whole, place, own);
     }
-    tally.tell(out)
+    Ok(())
+}
+
+/// Replaces an octet, and returns what it was.
+fn put(octets: &mut Vec<u8>, place: usize, octet: u8) -> u8 {
+    match octets.get_mut(place) {
+        Some(it) => std::mem::replace(it, octet),
+        None => octet,
+    }
 }
 
 /// Makes all octets others, by chance.
-fn fill(octets: &mut Vec<u8>, chance: &mut Chance) {
+fn fill(octets: &mut Vec<u8>, chance: &mut u64) {
     for it in octets.iter_mut() {
-        *it = chance.octet();
+        *it = (next(chance) % 256) as u8;
     }
 }
 
-/// Tries these octets with one of them replaced.
-fn try_one<T: Target>(
-    target: &mut T,
-    octets: &mut Vec<u8>,
-    chance: &mut Chance,
-    tally: &mut Tally,
-) {
-    if octets.is_empty() {
-        return;
-    }
-    let place = (chance.next() % octets.len() as u64) as usize;
-    let own = octets.get(place).copied().unwrap_or(0);
-    put(octets, place, chance.octet());
-    tally.tries(target, octets);
-    put(octets, place, own);
+/// Returns the next of numbers that look as if they came by chance.
+fn next(state: &mut u64) -> u64 {
+    *state ^= *state << 13;
+    *state ^= *state >> 7;
+    *state ^= *state << 17;
+    *state
 }

@@ -1,60 +1,65 @@
-//! What entities and stations tell, in words.
+//! What entities and stations report, in words.
+use crate::words::text;
 use cfdp_directives::Indication;
 use cfdp_header::TransactionId;
+use cfdp_store::MemoryInbox;
 use std::alloc::AllocError;
 
-/// Writes what was indicated, with the codes of its condition.
-pub fn tell(told: &Indication, out: &mut String) -> Result<(), AllocError> {
-    match told {
-        Indication::Transaction(id) => tell_of("transaction", *id, out),
-        Indication::EofSent(id) => tell_of("eof-sent", *id, out),
-        Indication::MetadataRecv { id, size, .. } => tell_with("metadata", *id, *size, out),
-        Indication::EofRecv(id) => tell_of("eof-recv", *id, out),
-        Indication::Finished {
-            id,
-            condition,
-            delivery,
-            status,
-        } => {
-            let (source, number, code) = (id.source, id.number, condition.code());
-            write!(
-                out,
-                " finished {source}:{number} {code} {delivery:?} {status:?}\n"
-            )
-        }
-        Indication::Resumed(id) => tell_of("resumed", *id, out),
-        Indication::Suspended(id, why) => tell_with("suspended", *id, u64::from(why.code()), out),
-        Indication::Fault(id, why) => tell_with("fault", *id, u64::from(why.code()), out),
-        Indication::Abandoned(id, why) => tell_with("abandoned", *id, u64::from(why.code()), out),
-        Indication::Progress(id, octets) => tell_with("progress", *id, *octets, out),
-    }
-}
-
-/// The transaction that was told of.
-pub fn id_of(told: &Indication) -> TransactionId {
-    match told {
-        Indication::Transaction(id) => *id,
-        Indication::EofSent(id) => *id,
-        Indication::MetadataRecv { id, .. } => *id,
-        Indication::EofRecv(id) => *id,
-        Indication::Finished { id, .. } => *id,
-        Indication::Resumed(id) => *id,
-        Indication::Suspended(id, _) => *id,
-        Indication::Fault(id, _) => *id,
-        Indication::Abandoned(id, _) => *id,
-        Indication::Progress(id, _) => *id,
-    }
-}
-
-fn tell_of(word: &str, id: TransactionId, out: &mut String) -> Result<(), AllocError> {
-    write!(out, " {word} {}:{}\n", id.source, id.number)
-}
-
-fn tell_with(
-    word: &str,
-    id: TransactionId,
-    number: u64,
+/// Writes what was indicated, or only what was indicated of one transaction.
+pub fn tell_all(
+    told: &[Indication],
+    only: Option<TransactionId>,
     out: &mut String,
 ) -> Result<(), AllocError> {
-    write!(out, " {word} {}:{} {number}\n", id.source, id.number)
+    for told in told {
+        tell(told, only, out)?;
+    }
+    Ok(())
+}
+
+/// Writes what was indicated, with the code of its condition, unless it is of another transaction
+/// than the only one that is asked for.
+pub fn tell(
+    told: &Indication,
+    only: Option<TransactionId>,
+    out: &mut String,
+) -> Result<(), AllocError> {
+    let (word, id, number) = match told {
+        Indication::Transaction(id) => ("transaction", *id, None),
+        Indication::EofSent(id) => ("eof-sent", *id, None),
+        Indication::MetadataRecv { id, size, .. } => ("metadata", *id, Some(*size)),
+        Indication::EofRecv(id) => ("eof-recv", *id, None),
+        Indication::Finished { id, condition, .. } => {
+            ("finished", *id, Some(u64::from(condition.code())))
+        }
+        Indication::Resumed(id) => ("resumed", *id, None),
+        Indication::Suspended(id, why) => ("suspended", *id, Some(u64::from(why.code()))),
+        Indication::Fault(id, why) => ("fault", *id, Some(u64::from(why.code()))),
+        Indication::Abandoned(id, why) => ("abandoned", *id, Some(u64::from(why.code()))),
+        Indication::Progress(id, octets) => ("progress", *id, Some(*octets)),
+    };
+    if only.unwrap_or(id) != id {
+        return Ok(());
+    }
+    write!(out, " {word} {}:{}", id.source, id.number)?;
+    if let Some(number) = number {
+        write!(out, " {number}")?;
+    }
+    if let Indication::Finished {
+        delivery,
+        status,
+        ..
+    } = told
+    {
+        write!(out, " {delivery:?} {status:?}")?;
+    }
+    write!(out, "\n")
+}
+
+/// Writes each published file: its name and its octets.
+pub fn tell_files(inbox: &MemoryInbox, out: &mut String) -> Result<(), AllocError> {
+    for (name, octets) in inbox.published().entries() {
+        write!(out, " {} {}\n", text(name), text(octets))?;
+    }
+    Ok(())
 }

@@ -7,7 +7,7 @@
 //!     clear S:N KIND       to clear a timer
 //!     set S:N              to set all four: EofAck is waited for, 4 units, Nak isn't, FinishedAck
 //!                          is, 20 units, and Inactivity anew, 5 units
-//!     one S:N, two         to arm timers by the two functions below
+//!     two                  to arm timers of 1:1 and 1:2 by the function below
 //!     of S:N KIND          to tell the deadline of a timer
 //!     next, others         to tell the earliest deadline, of all timers and of all but those of
 //!                          Inactivity
@@ -15,7 +15,7 @@
 //!     fire TIME            to tell which fire
 //!     now                  to tell the time
 use crate::bench::{Bench, played, unknown};
-use crate::words::{id, narrow, number, word};
+use crate::words::{id, number, word};
 use cfdp_header::TransactionId;
 use cfdp_timers::{Kind, Timers, Wait, Waits};
 use std::alloc::{AllocError, Global};
@@ -43,92 +43,68 @@ impl Model for TimersBench {
 impl Bench for TimersBench {
     fn does(&mut self, verb: &str, words: &str, out: &mut String) -> Result<(), AllocError> {
         let first = word(words, 0);
-        let kind = kind_of(word(words, 1));
-        let time = number(word(words, 2));
+        let kind = match word(words, 1) {
+            "eof" => Kind::EofAck,
+            "nak" => Kind::Nak,
+            "finished" => Kind::FinishedAck,
+            _ => Kind::Inactivity,
+        };
         match verb {
             "room" => self.timers.room(id(first)),
-            "arm" => Ok(self.arms(id(first), kind, time)),
-            "after" => Ok(self.arms_after(id(first), kind, narrow(word(words, 2)))),
+            "arm" | "after" | "set" => Ok(self.arms(verb, id(first), kind, word(words, 2))),
             "clear" => Ok(self.timers.clear(id(first), kind)),
-            "set" => Ok(self.sets(id(first))),
-            "one" => arm_one(&mut self.timers, id(first)),
             "two" => arm_two(&mut self.timers, id("1:1"), id("1:2")),
             "fire" => self.fires(number(first), out),
-            _ => self.tells(verb, first, kind, out),
+            "of" => write!(out, " {:?}\n", self.timers.deadline_of(id(first), kind)),
+            _ => self.tells(verb, first, out),
         }
     }
 }
 
 impl TimersBench {
-    fn tells(
-        &self,
-        verb: &str,
-        first: &str,
-        kind: Kind,
-        out: &mut String,
-    ) -> Result<(), AllocError> {
+    fn tells(&self, verb: &str, first: &str, out: &mut String) -> Result<(), AllocError> {
         match verb {
             "roomy" => write!(out, " {}\n", self.timers.has_room(id(first))),
             "count" => write!(out, " {}\n", self.timers.due_count(number(first))),
             "now" => write!(out, " {}\n", self.timers.now()),
             "next" => write!(out, " {:?}\n", self.timers.next()),
             "others" => write!(out, " {:?}\n", self.timers.next_but_inactivity()),
-            "of" => write!(out, " {:?}\n", self.timers.deadline_of(id(first), kind)),
             _ => unknown(out),
         }
     }
 
-    fn arms(&mut self, id: TransactionId, kind: Kind, deadline: u64) {
-        if self.timers.has_room(id) {
-            self.timers.arm(id, kind, deadline);
+    /// Arms a timer, at a time or so long after now, or sets all four, if there is room.
+    fn arms(&mut self, verb: &str, id: TransactionId, kind: Kind, time: &str) {
+        if !self.timers.has_room(id) {
+            return;
         }
-    }
-
-    fn arms_after(&mut self, id: TransactionId, kind: Kind, duration: u32) {
-        let deadline = self.timers.deadline_after(duration);
-        self.arms(id, kind, deadline);
-    }
-
-    fn sets(&mut self, id: TransactionId) {
-        let waits = Waits {
-            eof_ack: Wait::Keep(4),
-            nak: Wait::Clear,
-            finished_ack: Wait::of(true, false, 20),
-            inactivity: Wait::of(true, true, 5),
-        };
-        if self.timers.has_room(id) {
-            self.timers.set(id, &waits);
+        match verb {
+            "arm" => self.timers.arm(id, kind, number(time)),
+            "after" => {
+                let deadline = self.timers.deadline_after(number(time));
+                self.timers.arm(id, kind, deadline);
+            }
+            _ => self.timers.set(
+                id,
+                &Waits {
+                    eof_ack: Wait::Keep(4),
+                    nak: Wait::Clear,
+                    finished_ack: Wait::of(true, false, 20),
+                    inactivity: Wait::of(true, true, 5),
+                },
+            ),
         }
     }
 
     fn fires(&mut self, time: u64, out: &mut String) -> Result<(), AllocError> {
-        tell_fired(&self.timers.fire(time)?, out)
-    }
-}
-
-fn tell_fired(fired: &[(TransactionId, Kind)], out: &mut String) -> Result<(), AllocError> {
-    for (id, kind) in fired {
-        write!(out, " {}:{} {kind:?}\n", id.source, id.number)?;
-    }
-    Ok(())
-}
-
-fn kind_of(word: &str) -> Kind {
-    match word {
-        "eof" => Kind::EofAck,
-        "nak" => Kind::Nak,
-        "finished" => Kind::FinishedAck,
-        _ => Kind::Inactivity,
+        for (id, kind) in &self.timers.fire(time)? {
+            write!(out, " {}:{} {kind:?}\n", id.source, id.number)?;
+        }
+        Ok(())
     }
 }
 
 // A caller's proof of what `arm` asks for needs no lemma of its own.
-fn arm_one(timers: &mut Timers, id: TransactionId) -> Result<(), AllocError> {
-    timers.room(id)?;
-    timers.arm(id, Kind::Nak, 5);
-    Ok(())
-}
-
 fn arm_two(timers: &mut Timers, a: TransactionId, b: TransactionId) -> Result<(), AllocError> {
     timers.room(a)?;
     timers.room(b)?;

@@ -1,67 +1,31 @@
-//! What the words of a transcript stand for, and words for what is told.
-use aos_frame::Lane;
+//! What the words of a transcript stand for, and words for octets.
 use cfdp_header::TransactionId;
 use hex::FromHexError;
 use std::alloc::{AllocError, Global};
+use std::str::FromStr;
 
-/// The first word, and those behind it.
+/// Returns the first word, and those after it.
 pub fn pair(words: &str) -> (&str, &str) {
     words.split_once(' ').unwrap_or((words, ""))
 }
 
-/// The word in this place, from 0; none where there are fewer.
-pub fn word(words: &str, place: usize) -> &str {
-    words.split(' ').nth(place).unwrap_or("")
+/// Returns the word at this index, from 0; an empty one if there are fewer.
+pub fn word(words: &str, index: usize) -> &str {
+    words.split(' ').nth(index).unwrap_or("")
 }
 
-/// The number that a word spells; 0 where it spells none.
-pub fn number(word: &str) -> u64 {
-    word.parse::<u64>().unwrap_or(0)
-}
-
-/// The same, of a length or a place.
-pub fn count(word: &str) -> usize {
-    word.parse::<usize>().unwrap_or(0)
-}
-
-/// The same, of 32 bits.
-pub fn narrow(word: &str) -> u32 {
-    word.parse::<u32>().unwrap_or(0)
-}
-
-/// The same, of 16 bits.
-pub fn half(word: &str) -> u16 {
-    word.parse::<u16>().unwrap_or(0)
-}
-
-/// The same, of 8 bits.
-pub fn octet(word: &str) -> u8 {
-    word.parse::<u8>().unwrap_or(0)
-}
-
-/// Whether the word is `true`.
-pub fn flag(word: &str) -> bool {
-    word == "true"
-}
-
-/// The lane of file data where the word is `data`, else that of directives.
-pub fn lane(word: &str) -> Lane {
-    if word == "data" {
-        Lane::Data
-    } else {
-        Lane::Directives
+/// Returns the number that a word spells; 0 if it spells none of this type.
+pub fn number<N: FromStr + Default>(word: &str) -> N
+where
+    <N as FromStr>::Err: Drop,
+{
+    match word.parse::<N>() {
+        Ok(number) => number,
+        Err(_) => N::default(),
     }
 }
 
-/// The word of a lane.
-pub fn lane_word(lane: Lane) -> &'static str {
-    match lane {
-        Lane::Directives => "dir",
-        Lane::Data => "data",
-    }
-}
-
-/// The transaction that SOURCE:NUMBER names.
+/// Returns the transaction that SOURCE:NUMBER names.
 pub fn id(word: &str) -> TransactionId {
     let (source, count) = word.split_once(':').unwrap_or(("", ""));
     TransactionId {
@@ -70,16 +34,12 @@ pub fn id(word: &str) -> TransactionId {
     }
 }
 
-/// The octets that hexadecimal digits spell, or LEN of one OCTET where they are LEN:OCTET; none
-/// where they are anything else.
+/// Returns the octets that hexadecimal digits spell, or LEN of one OCTET if they are LEN:OCTET;
+/// none if they are anything else.
 pub fn octets(alloc: Global, digits: &str) -> Result<Vec<u8>, AllocError> {
-    match digits.split_once(':') {
-        Some((len, same)) => vec![in alloc; octet(same); count(len)],
-        None => spelled(alloc, digits),
+    if let Some((len, same)) = digits.split_once(':') {
+        return vec![in alloc; number::<u8>(same); number::<usize>(len)];
     }
-}
-
-fn spelled(alloc: Global, digits: &str) -> Result<Vec<u8>, AllocError> {
     match hex::decode(alloc, digits) {
         Ok(octets) => Ok(octets),
         Err(FromHexError::OutOfMemory) => Err(AllocError),
@@ -87,7 +47,7 @@ fn spelled(alloc: Global, digits: &str) -> Result<Vec<u8>, AllocError> {
     }
 }
 
-/// Tells octets in hexadecimal digits, as a line.
+/// Writes octets in hexadecimal digits, as a line.
 pub fn tell_octets(alloc: Global, octets: &[u8], out: &mut String) -> Result<(), AllocError> {
     if octets.is_empty() {
         return write!(out, " -\n");
@@ -96,12 +56,12 @@ pub fn tell_octets(alloc: Global, octets: &[u8], out: &mut String) -> Result<(),
     write!(out, " {digits}\n")
 }
 
-/// The octets of a word, of which `-` has none.
+/// Returns the octets of a word, of which `-` has none.
 pub fn plain(word: &str) -> &[u8] {
     if word == "-" { b"" } else { word.as_bytes() }
 }
 
-/// The word of these octets.
+/// Returns the word of these octets.
 pub fn text(octets: &[u8]) -> &str {
     if octets.is_empty() {
         "-"

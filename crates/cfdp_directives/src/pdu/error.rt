@@ -12,19 +12,19 @@ pub enum PduError {
     #[error("{0}")]
     Header(HeaderError),
     /// The directive code isn't known, or an ACK is neither of EOF nor of Finished.
-    #[error("the directive is not known")]
+    #[error("unknown directive code")]
     Directive,
     /// A field of the data field passes its end, or the last requested range of a NAK does.
-    #[error("a field passes the end of the data field")]
+    #[error("a field runs past the end of the data field")]
     Truncated,
     /// Octets are left over behind an ACK, a Prompt or a Keep Alive.
-    #[error("octets are left over")]
+    #[error("extra octets after the last field")]
     Trailing,
     /// The octets where options stand aren't whole options.
-    #[error("the octets of options are not whole options")]
+    #[error("a TLV option is incomplete")]
     Tlv,
     /// The condition is 12 or 13.
-    #[error("the condition is 12 or 13")]
+    #[error("condition code must not be 12 or 13")]
     Condition,
 }
 

@@ -1,6 +1,6 @@
 -- What is done of what a command line asks.
 use Rattle.std.specs.Prelude.{◌≡◌, map}
-use Rattle.link_sim.specs.declared.world_config.WorldConfig.{WorldConfig}
+use Rattle.station_pair.specs.declared.world_config.WorldConfig.{WorldConfig}
 use Rattle.cfdp_command_line.specs.Sets.{IsSetBy}
 use Rattle.cfdp_command_line.specs.declared.looping.LoopRequest.{LoopRequest}
 use Rattle.cfdp_node.specs.declared.looping.LoopOptions.{LoopOptions}

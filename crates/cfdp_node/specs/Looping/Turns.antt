@@ -10,11 +10,11 @@ use Rattle.cfdp_entity.specs.declared.error.PutError.{PutError}
 use Rattle.cfdp_entity.specs.declared.error.PutError.TheVariants as put_errors
 use Rattle.cfdp_station.specs.Station.{StationState}
 use Rattle.cfdp_station.specs.declared.config.StationConfig.{StationConfig}
-use Rattle.link_sim.specs.World.State.{IsFirstAt, IsNewAt}
-use Rattle.link_sim.specs.declared.world_config.WorldConfig.{WorldConfig}
-use Rattle.link_sim.specs.declared.event.Refusal.TheVariants.{Put}
-use Rattle.link_sim.specs.declared.recover_error.RecoverError.TheVariants.{Settle}
-use Rattle.link_sim.specs.declared.settle_error.SettleError.TheVariants as settle_errors
+use Rattle.cfdp_station.specs.New.{IsFirstAt, IsNewAt}
+use Rattle.station_pair.specs.declared.world_config.WorldConfig.{WorldConfig}
+use Rattle.station_pair.specs.declared.refusal.Refusal.TheVariants.{Put}
+use Rattle.station_pair.specs.declared.recover_error.RecoverError.TheVariants.{Settle}
+use Rattle.station_pair.specs.declared.settle_error.SettleError.TheVariants as settle_errors
 use Rattle.cfdp_port.specs.Asking.{Puts}
 use Rattle.cfdp_port.specs.Calls.{WireCall}
 use Rattle.cfdp_port.specs.Pair.{PairState, RunsInPart, RunsTurns, pair}

@@ -2,24 +2,24 @@
 ghost use Rattle.std.specs.Prelude.{IfOk};
 ghost use Rattle.cfdp_node.specs.Looping.Asked.{AreAsked, AreFor};
 
-use crate::looping::telling::{LoopLookout, TellingInbox, TellingOutbox};
+use crate::looping::udp::UdpWire;
 use crate::looping::{LoopEnds, LoopOptions, run_loop};
-use crate::wire::udp::UdpWire;
-use cfdp_command_line::{LoopRequest, LossRequest};
-use cfdp_host::{HeldFolder, fault_text};
-use cfdp_port::{FrameLosses, Lookout, LossyWire, Wire};
-use cfdp_report::{
-    Exit, Fault, Input, Name, Onlooker, Progress, Ran, Screen, cause_text, shown_status,
+use crate::transfers::named_files::{
+    check_file, check_name, folder, folder_outbox, tell_of_file, tell_untold,
 };
-use cfdp_store::{FolderError, FolderOutbox, Inbox, Outbox, SeekingOutbox, is_folder_name};
-use link_sim::WorldConfig;
-use past::Past;
+use crate::transfers::telling::{LoopLookout, TellingInbox, TellingOutbox};
+use cfdp_command_line::{LoopRequest, frame_losses, note_losses};
+use cfdp_files::HeldFolder;
+use cfdp_port::{FrameLosses, Lookout, LossyWire, Wire};
+use cfdp_report::{Exit, Fault, cause_text};
+use cfdp_store::{FolderError, FolderOutbox, Inbox, Outbox};
+use cfdp_watch::{Onlooker, Progress, Ran, Screen, shown_status};
+use station_pair::WorldConfig;
 use std::alloc::{AllocError, Global};
 use std::cell::Cell;
 use std::fs::File;
+use std::io;
 use std::io::{BufWriter, ErrorKind};
-use std::snapshot::Snapshot;
-use std::{fs, io};
 use valid_config::Valid;
 
 /// The exit status of bad arguments.
@@ -89,61 +89,12 @@ fn way<'a>(
         }
         Err(error) => {
             let _ = eprintln!(rt;
-                "error: a socket of 127.0.0.1: {}",
+                "error: cannot open a socket at 127.0.0.1: {}",
                 cause_text(error.kind())
             );
             Err(DEVICE)
         }
     }
-}
-
-/// Says on standard error where no frame is left of those that are sent.
-pub fn note_losses(rt: &HostRuntime, losses: LossRequest) {
-    if losses.every == 1 {
-        let _ = eprintln!(rt; "note: --drop 1 loses each frame; --drop 2 loses every second one");
-    } else if losses.percent == 100 {
-        let _ = eprintln!(rt; "note: --loss 100 loses each frame; --loss 50 loses half of them");
-    }
-}
-
-/// The losses that are asked for, of which none was counted yet.
-pub fn frame_losses(losses: LossRequest) -> FrameLosses {
-    let percent = u32::try_from(losses.percent).unwrap_or(u32::MAX);
-    FrameLosses::new(losses.every, percent, losses.seed)
-}
-
-/// Looks whether a file in a folder may have this name.
-///
-/// # Errors
-///
-/// The exit status, where it may not, which was told on standard error.
-pub fn check_name(rt: &HostRuntime, name: &str) -> Result<(), u8> {
-    if is_folder_name(name.as_bytes()) {
-        return Ok(());
-    }
-    let _ = eprintln!(rt;
-        "error: a file can't have the name {}: 1 to 64 of A-Z a-z 0-9 . _ -, no point first",
-        Name(name.as_bytes())
-    );
-    Err(MISTAKE)
-}
-
-/// Looks whether this is a folder.
-///
-/// # Errors
-///
-/// The exit status, where it is none, which was told on standard error.
-pub fn folder(rt: &HostRuntime, path: &str) -> Result<(), u8> {
-    match fs::metadata(rt, path) {
-        Ok(found) if found.is_dir() => return Ok(()),
-        Ok(_) => {
-            let _ = eprintln!(rt; "error: {path}: it is no folder");
-        }
-        Err(error) => {
-            let _ = eprintln!(rt; "error: {path}: {}", cause_text(error.kind()));
-        }
-    }
-    Err(DEVICE)
 }
 
 /// The folder of the file that is to be sent, which was looked for there, after both names.
@@ -188,51 +139,6 @@ fn check_open(rt: &HostRuntime, path: &str, name: &str) -> Result<(), u8> {
     Err(DEVICE)
 }
 
-/// An outbox over this folder, which is there. Nothing was looked for yet.
-///
-/// # Errors
-///
-/// `AllocError` where there is no memory for the folder's name.
-pub fn folder_outbox<'a>(
-    rt: &'a HostRuntime,
-    path: &str,
-) -> Result<FolderOutbox<&'a HostRuntime>, AllocError> {
-    // What is expected of files is for clauses alone, and none speaks of what a disk has.
-    let expected = Snapshot::of(&Past::new());
-    FolderOutbox::new(rt, rt.alloc(), path, expected)
-}
-
-/// Looks for a file in the folder of an outbox. It may be missing, which is told.
-///
-/// # Errors
-///
-/// The exit status, where it can't be sent, which was told on standard error.
-pub fn check_file(
-    rt: &HostRuntime,
-    outbox: &mut FolderOutbox<&HostRuntime>,
-    path: &str,
-    name: &str,
-) -> Result<(), u8> {
-    match outbox.look_for(name.as_bytes()) {
-        Ok(true) => Ok(()),
-        Ok(false) => {
-            let _ = eprintln!(rt; "note: {path}/{name}: there is no such file");
-            Ok(())
-        }
-        Err(_) => {
-            if let Some(fault) = outbox.fault() {
-                tell_of_file(rt, path, name, fault);
-            }
-            Err(DEVICE)
-        }
-    }
-}
-
-/// Says on standard error what is wrong with a file of a folder.
-pub fn tell_of_file(rt: &HostRuntime, path: &str, name: &str, fault: FolderError) {
-    let _ = eprintln!(rt; "error: {path}/{name}: {}", fault_text(fault));
-}
-
 /// Sends the file, shows what is seen of that, and answers the exit status.
 fn sent_status<O: Outbox>(
     rt: &HostRuntime,
@@ -251,15 +157,6 @@ fn sent_status<O: Outbox>(
             shown_status(rt, &request.shown, &ran)
         }
         Err(status) => status,
-    }
-}
-
-/// Says on standard error what failed, unless that was said.
-pub fn tell_untold(rt: &HostRuntime, exit: Exit, told: &Cell<bool>) {
-    if let Exit::Device(fault) = exit
-        && !told.get()
-    {
-        fault.tell(rt, Input::Standard);
     }
 }
 
@@ -320,12 +217,12 @@ fn note_turns(rt: &HostRuntime, turns: u64) {
     let noun = if turns == 1 { "turn" } else { "turns" };
     let _ = if turns < MOST_TURNS {
         eprintln!(rt;
-            "note: the transfer was not over after {turns} {noun}; --turns allows more, up to \
+            "note: the transfer was not over after {turns} {noun}; allow more with --turns, up to \
              {MOST_TURNS}"
         )
     } else {
         eprintln!(rt;
-            "note: the transfer was not over after {turns} {noun}, the most that --turns allows"
+            "note: the transfer was not over after {turns} {noun}, the maximum of --turns"
         )
     };
 }

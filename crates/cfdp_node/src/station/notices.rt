@@ -1,17 +1,16 @@
 //! What an operator is told on standard error while a station runs.
-use crate::looping::telling::LoopLookout;
-use crate::station::beacon::Beacon;
-use crate::station::exchange::Exchange;
-use crate::wire::peer_socket::frame_len;
-use cfdp_directives::{Indication, Phase};
+use crate::transfers::telling::LoopLookout;
+use cfdp_command_line::TimeUnit;
+use cfdp_datagrams::frame_len;
+use cfdp_directives::{Handler, Indication, Phase, Policy};
+use cfdp_exchange::{Beacon, CarrierDrop, Exchange, FrameMonitor, is_often_late};
 use cfdp_header::TransactionId;
-use cfdp_host::FrameMonitor;
-use cfdp_host::carrier::CarrierDrop;
+use cfdp_journal::Stopped;
 use cfdp_port::{Lookout, Passed};
 use cfdp_report::cause_text;
 use cfdp_station::{EntityDrop, FrameError, LinkDrop, Station, StationConfig};
 use cfdp_store::{Inbox, Outbox};
-use link_sim::Side;
+use station_pair::Side;
 use std::fmt;
 use std::io::ErrorKind;
 use std::time::Instant;
@@ -25,6 +24,9 @@ const MOST_ENDED: usize = 8192;
 
 /// After so many seconds in which nothing came it is told what is waited for.
 const QUIET: u64 = 10;
+
+/// Over so many seconds it is looked how many frames come late.
+const LOOK: u64 = 10;
 
 /// How often something was dropped for a cause.
 #[derive(Clone, Copy)]
@@ -77,6 +79,15 @@ fn is_over(at: &mut Option<u64>, now: u64) -> bool {
     true
 }
 
+/// How many frames had come as it was looked last whether they come in order, how many of them had
+/// come late, and when that was.
+#[derive(Clone, Copy)]
+struct OrderLook {
+    came: u64,
+    late: u64,
+    at: u64,
+}
+
 /// What frames had that came last and are not of this link.
 #[derive(Clone, Copy)]
 struct Foreign {
@@ -94,7 +105,7 @@ impl fmt::Display for MoreOctets {
     fn fmt<W: fmt::Write>(&self, f: &mut fmt::Formatter<W>) -> fmt::Result {
         match self.0 {
             0 => Ok(()),
-            count => write!(f, " and fields take {count}"),
+            count => write!(f, " and other fields have {count}"),
         }
     }
 }
@@ -122,6 +133,8 @@ pub struct Notices<'a> {
     failure_at: Option<u64>,
     stopped_at: Option<u64>,
     waits_at: Option<u64>,
+    order: OrderLook,
+    order_at: Option<u64>,
     // How many indications were looked at, and whose EOF was sent, as far as they may be open.
     told: u64,
     ended: Vec<TransactionId>,
@@ -159,6 +172,12 @@ impl<'a> Notices<'a> {
             failure_at: None,
             stopped_at: None,
             waits_at: None,
+            order: OrderLook {
+                came: 0,
+                late: 0,
+                at: 0,
+            },
+            order_at: None,
             told: 0,
             ended: Vec::new(rt.alloc()),
             monitor: FrameMonitor::new(config.receives, &exchange.gaps),
@@ -242,22 +261,22 @@ impl<'a> Notices<'a> {
         self.lookout.progress.yields();
         let _ = match by {
             LinkDrop::Frame(FrameError::Length) => eprintln!(self.rt;
-                "note: {count} dropped: a frame has {} octets, and here {}, as the zone is {}{}",
+                "note: {count} dropped: a frame has {} octets, but must have {}: the zone is {}{}",
                 foreign.len,
                 frame_len(&up),
                 up.zone,
                 MoreOctets(up.fields.extra())
             ),
             LinkDrop::Frame(FrameError::OtherSpacecraft) => eprintln!(self.rt;
-                "note: {count} dropped: a frame is of spacecraft {}, and here they are of {}",
+                "note: {count} dropped: a frame has spacecraft id {}, but must have {}",
                 foreign.spacecraft, up.spacecraft
             ),
             LinkDrop::Frame(FrameError::OtherChannel) => eprintln!(self.rt;
-                "note: {count} dropped: a frame is of channel {}, and here {} and {} are taken",
+                "note: {count} dropped: a frame has channel {}, but must have {} or {}",
                 foreign.virtual_channel, up.virtual_channel, up.data_virtual_channel
             ),
             LinkDrop::OtherApid => eprintln!(self.rt;
-                "note: {count} dropped: a packet is of another APID, and here {} is taken",
+                "note: {count} dropped: a packet has another APID, but must have {}",
                 up.apid
             ),
             _ => eprintln!(self.rt; "note: {count} dropped: {by}"),
@@ -269,12 +288,12 @@ impl<'a> Notices<'a> {
         self.lookout.progress.yields();
         let _ = match by {
             EntityDrop::NotForUs => eprintln!(self.rt;
-                "note: {count} dropped: a PDU is of other ids, and here {} is the peer's id, {} ours",
+                "note: {count} dropped: a PDU has other ids: here the id of the peer is {}, ours {}",
                 entity.peer, entity.entity
             ),
             EntityDrop::TableFull => eprintln!(self.rt;
-                "note: {count} dropped: the table is full: 4096 transactions are open, and no more \
-                 can be before one of them is over"
+                "note: {count} dropped: the table is full: 4096 transactions are open, and a new \
+                 one must wait until one of them ends"
             ),
             _ => eprintln!(self.rt; "note: {count} dropped: {by}"),
         };
@@ -293,7 +312,9 @@ impl<'a> Notices<'a> {
         self.lookout.progress.yields();
         for (what, theirs, ours) in beacon.beside(&own) {
             if theirs != ours {
-                let _ = eprintln!(self.rt; "note: {what} is {theirs} at the peer, and {ours} here");
+                let _ = eprintln!(self.rt;
+                    "note: {what} differs: {theirs} at the peer, {ours} here"
+                );
             }
         }
     }
@@ -309,20 +330,43 @@ impl<'a> Notices<'a> {
         self.lookout.progress.yields();
         let _ = match kind {
             ErrorKind::ConnectionRefused => eprintln!(self.rt;
-                "note: nobody listens at {}",
+                "note: nothing listens at {}",
                 self.to
             ),
             kind => eprintln!(self.rt; "note: the socket failed: {}", cause_text(kind)),
         };
     }
 
-    /// Tells that nothing leaves, where the counts of frames can't be noted.
+    /// Says that nothing is sent if counts of frames can't be reserved, or that no file is sent if
+    /// transaction numbers can't be, and why.
     fn tell_stop(&mut self, now: u64) {
-        if self.exchange.is_stopped.get() && is_over(&mut self.stopped_at, now) {
+        if let Some(stopped) = Stopped::at(self.exchange)
+            && is_over(&mut self.stopped_at, now)
+        {
+            self.lookout.progress.yields();
+            let _ = eprintln!(self.rt; "note: {stopped}");
+        }
+    }
+
+    /// Tells that frames change places on their way or come twice, where many do, and what to do.
+    fn tell_order(&mut self, now: u64) {
+        let gaps = &self.exchange.gaps;
+        let late = gaps.late().saturating_sub(self.order.late);
+        let came = gaps.came().saturating_sub(self.order.came);
+        if is_often_late(late, came) && is_over(&mut self.order_at, now) {
             self.lookout.progress.yields();
             let _ = eprintln!(self.rt;
-                "note: nothing is sent, since the file of --state can't be written"
+                "note: {late} of {came} frames arrived out of order, or twice: PDUs in several \
+                 frames are lost then; use --carrier pdus at both ends, or a zone so large that \
+                 a PDU fits in a frame"
             );
+        }
+        if now >= self.order.at.saturating_add(LOOK) {
+            self.order = OrderLook {
+                came: gaps.came(),
+                late: gaps.late(),
+                at: now,
+            };
         }
     }
 
@@ -355,11 +399,34 @@ impl<'a> Notices<'a> {
             let quiet = now.saturating_sub(self.heard);
             self.lookout.progress.yields();
             let _ = eprintln!(self.rt;
-                "note: {}:{} waits for the peer's Finished, and nothing has come for {quiet} seconds",
+                "note: {}:{} waits for the peer's Finished; nothing received for {quiet} seconds",
                 id.source, id.number
             );
         }
     }
+}
+
+/// Says that a transaction ends before anything of it is sent again, if a time after which that is
+/// done is longer than that of inactivity.
+pub fn tell_timers(rt: &HostRuntime, config: &StationConfig, unit: TimeUnit) {
+    let Policy {
+        times,
+        handlers,
+        ..
+    } = config.entity.policy;
+    let longest = times.eof.max(times.nak).max(times.finished);
+    if times.inactivity >= longest || handlers.inactivity == Handler::Ignore {
+        return;
+    }
+    let unit = match unit {
+        TimeUnit::Seconds => "s",
+        TimeUnit::Milliseconds => "ms",
+    };
+    let inactivity = times.inactivity;
+    let _ = eprintln!(rt;
+        "note: inactivity_time is {inactivity} {unit}, but requests are repeated after up to \
+         {longest} {unit}: a silent peer ends a transaction before that"
+    );
 }
 
 /// Whether a transaction is open at its sender.
@@ -420,6 +487,7 @@ impl Lookout for Notices<'_> {
                 self.tell_beacon(now);
                 self.tell_failure(now);
                 self.tell_stop(now);
+                self.tell_order(now);
                 self.tell_waiting(now, station);
             }
             Passed::Put | Passed::Polled(_) | Passed::Left { .. } => {}

@@ -1,29 +1,26 @@
 //! A station that serves its operator over its stores, from its first turn to its last.
-use crate::looping::folders::{folder_outbox, frame_losses};
-use crate::looping::telling::{LoopLookout, TellingInbox, TellingNoInbox, TellingOutbox};
-use crate::station::exchange::Exchange;
-use crate::station::notices::Notices;
+use crate::station::notices::{Notices, tell_timers};
 use crate::station::operator::{OperatorConsole, OperatorPost};
 use crate::station::{outbox_of, side_of};
-use crate::wire::peer_socket::PeerSocket;
-use cfdp_command_line::{CarrierKind, StationRequest};
+use crate::transfers::named_files::folder_outbox;
+use crate::transfers::telling::{LoopLookout, TellingInbox, TellingNoInbox, TellingOutbox};
+use cfdp_command_line::{CarrierKind, StationRequest, frame_losses};
 use cfdp_console::LogLines;
-use cfdp_host::carrier::{Carrier, CarrierWire};
-use cfdp_host::{
-    Board, BoardSetup, FolderSpool, Form, Journal, JournalSetup, KeptLog, LineSources, Log,
-    StandardErrorTeller, Style,
-};
+use cfdp_control::LineSources;
+use cfdp_datagrams::{Carrier, CarrierWire, PeerSocket};
+use cfdp_exchange::Exchange;
+use cfdp_journal::{Board, BoardSetup, Form, Journal, JournalSetup, KeptLog, Log, LossyLog, Style};
 use cfdp_port::{Lookout, LossyWire, PeerWire};
-use cfdp_report::{Exit, Fault, Onlooker, Progress, Ran, Screen};
+use cfdp_report::{Exit, Fault};
 use cfdp_service::{
     Clerk, ClerkLimits, NoSpool, PutNames, ServiceEnds, ServiceOptions, Spool, run,
 };
+use cfdp_spool::{FolderSpool, StandardErrorTeller};
 use cfdp_store::{Inbox, SeekingOutbox};
-use link_sim::WorldConfig;
+use cfdp_watch::{Onlooker, Progress, Ran, Screen};
+use station_pair::WorldConfig;
 use std::alloc::{AllocError, Global};
 use std::cell::Cell;
-use std::io;
-use std::io::{BufWriter, Write};
 use valid_config::Valid;
 
 /// A spool over a folder, which tells what its operator has to know on standard error.
@@ -124,6 +121,7 @@ fn ran_over<'a, O: SeekingOutbox, I: Inbox, S: Spool>(
         Ok(onlooker) => {
             let own = WorldConfig::station(config, side_of(request)).get();
             let lookout = LoopLookout::new(onlooker, progress);
+            tell_timers(rt, &own, request.unit);
             let mut notices = Notices::new(rt, lookout, exchange, own, request.to.as_str());
             let exit = wired(context, parts, stores, spool, &mut notices);
             Ran {
@@ -194,12 +192,13 @@ fn operated<'a, O: SeekingOutbox, I: Inbox, W: PeerWire, S: Spool, L: Lookout>(
         progress,
         ..
     } = context;
-    let Ok(out) = BufWriter::new(rt.alloc(), io::writer(rt)) else {
+    let setup = journal_setup(context);
+    let Ok(out) = LossyLog::new(setup.log) else {
         return Exit::Device(Fault::NoMemoryAtStart);
     };
     let has_console = sources.door().is_some();
     let out = KeptLog::new(out, has_console.then(|| LogLines::new(rt.alloc())));
-    let Ok(journal) = Journal::new(journal_setup(context), out) else {
+    let Ok(journal) = Journal::new(setup, out) else {
         return Exit::Device(Fault::NoMemoryAtStart);
     };
     let form = if request.flags.json {
@@ -224,9 +223,12 @@ fn operated<'a, O: SeekingOutbox, I: Inbox, W: PeerWire, S: Spool, L: Lookout>(
         Ok(ended) => clerk.console().exit(ended.is_short, ended.has_failed),
         Err(AllocError) => Exit::Device(Fault::NoMemoryAtStart),
     };
-    // What a failed write left in the buffer is let go: a `BufWriter` would write it once more.
-    let _ = clerk.into_console().into_writer().into_inner().into_parts();
-    exit
+    let mut log = clerk.into_console().into_writer().into_inner();
+    if log.finish() {
+        exit
+    } else {
+        Exit::Device(Fault::Unwritable)
+    }
 }
 
 /// How the log is written.
@@ -286,9 +288,9 @@ fn limits(request: &StationRequest) -> ClerkLimits {
 }
 
 /// Asks for the files that are to be sent, by pairs of words.
-fn add_puts<S: Spool, V: Write + Drop>(
+fn add_puts<S: Spool>(
     alloc: Global,
-    clerk: &mut Clerk<S, OperatorConsole<'_, V>>,
+    clerk: &mut Clerk<S, OperatorConsole<'_>>,
     words: &[String],
 ) -> Result<(), AllocError> {
     for pair in 0..words.len() / 2 {

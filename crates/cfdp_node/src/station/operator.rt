@@ -1,16 +1,15 @@
 //! Where the operator of a station stands: the lines of commands, the console, and the log.
-use crate::station::exchange::Exchange;
 use cfdp_console::{Answer, Ask, Look, Shown};
+use cfdp_control::{Asked, CommandHelp, LineFault, LineSources, Speaker, parse_command};
 use cfdp_directives::Indication;
+use cfdp_exchange::Exchange;
 use cfdp_header::TransactionId;
-use cfdp_host::{
-    Asked, Board, CommandHelp, Form, Journal, KeptLog, LineFault, LineSources, Moment, Speaker,
-    Waiting, parse_command,
-};
-use cfdp_report::{Exit, Fault, Progress};
+use cfdp_journal::{Board, Form, Journal, KeptLog, LossyLog, Moment, Stopped, Waiting};
+use cfdp_report::{Exit, Fault};
 use cfdp_service::{Command, Console, Outcome, PutNames, Reply};
 use cfdp_station::Station;
 use cfdp_store::{Inbox, Outbox};
+use cfdp_watch::Progress;
 use std::alloc::AllocError;
 use std::fmt;
 use std::io::Write;
@@ -20,9 +19,9 @@ const MOST_LINES: u32 = 64;
 
 /// What an operator has before the first command.
 #[derive(Drop)]
-pub struct OperatorPost<'a, V: Write + Drop> {
+pub struct OperatorPost<'a> {
     pub sources: LineSources<'a>,
-    pub journal: Journal<'a, KeptLog<V>>,
+    pub journal: Journal<'a, KeptLog<LossyLog<'a>>>,
     /// What the console shows, where there is one.
     pub board: Option<Board<'a>>,
     /// How questions are answered.
@@ -33,20 +32,22 @@ pub struct OperatorPost<'a, V: Write + Drop> {
 /// control address, others from the console, and what the station does goes to its log and, where
 /// there is a console, to its board.
 #[derive(Drop)]
-pub struct OperatorConsole<'a, V: Write + Drop> {
+pub struct OperatorConsole<'a> {
     rt: &'a HostRuntime,
-    post: OperatorPost<'a, V>,
+    post: OperatorPost<'a>,
     exchange: &'a Exchange,
     progress: &'a Progress<'a>,
     // Who asked for the change of a transaction that is being made.
     asker: Option<Speaker>,
+    // Whether a file waits for which no number was reserved.
+    wants_number: bool,
 }
 
-impl<'a, V: Write + Drop> OperatorConsole<'a, V> {
+impl<'a> OperatorConsole<'a> {
     /// Before the first command.
     pub fn new(
         rt: &'a HostRuntime,
-        post: OperatorPost<'a, V>,
+        post: OperatorPost<'a>,
         exchange: &'a Exchange,
         progress: &'a Progress<'a>,
     ) -> Self {
@@ -56,6 +57,7 @@ impl<'a, V: Write + Drop> OperatorConsole<'a, V> {
             exchange,
             progress,
             asker: None,
+            wants_number: false,
         }
     }
 
@@ -69,7 +71,7 @@ impl<'a, V: Write + Drop> OperatorConsole<'a, V> {
     }
 
     /// The writer of its log.
-    pub fn into_writer(self) -> KeptLog<V> {
+    pub fn into_writer(self) -> KeptLog<LossyLog<'a>> {
         let post = self.post;
         let OperatorPost { journal, .. } = post;
         journal.into_writer()
@@ -172,8 +174,26 @@ impl<'a, V: Write + Drop> OperatorConsole<'a, V> {
             now: self.post.sources.now(),
             told: self.exchange.told.get(),
             is_frozen: self.exchange.is_frozen.get(),
-            waiting,
+            waiting: self.waiting(waiting).files,
             totals: self.post.journal.totals(),
+        }
+    }
+
+    /// What waits, where so many files are known to wait for their put. How many lie in a spool
+    /// isn't known: there is one, where one is wanted and no number can be reserved for it.
+    fn waiting(&self, files: usize) -> Waiting {
+        let stopped = match Stopped::at(self.exchange) {
+            Some(Stopped::Puts(_)) if !self.wants_number => None,
+            stopped => stopped,
+        };
+        let files = match stopped {
+            Some(Stopped::Puts(_)) => files.max(1),
+            _ => files,
+        };
+        Waiting {
+            files,
+            stopped,
+            now: self.exchange.told.get(),
         }
     }
 
@@ -215,10 +235,7 @@ impl<'a, V: Write + Drop> OperatorConsole<'a, V> {
     ) -> fmt::Result {
         match asked {
             Asked::List => {
-                let waiting = Waiting {
-                    files: waiting,
-                    now: self.exchange.told.get(),
-                };
+                let waiting = self.waiting(waiting);
                 self.post
                     .journal
                     .list(out, self.post.form, station, waiting)
@@ -232,8 +249,7 @@ impl<'a, V: Write + Drop> OperatorConsole<'a, V> {
     /// Answers that it is done, behind these lines.
     fn is_done(&mut self, speaker: Speaker, lines: &str) {
         if let Some(text) = self.post.sources.done(speaker, lines) {
-            self.progress.yields();
-            let _ = print!(self.rt; "{text}");
+            self.says(text.as_str());
         }
     }
 
@@ -254,13 +270,21 @@ impl<'a, V: Write + Drop> OperatorConsole<'a, V> {
     /// Answers why nothing was done.
     fn refuses<D: fmt::Display>(&mut self, speaker: Speaker, why: &D) {
         if let Some(text) = self.post.sources.refused(speaker, why) {
-            self.progress.yields();
-            let _ = print!(self.rt; "{text}");
+            self.says(text.as_str());
         }
+    }
+
+    /// Answers a line of standard input on standard output, which nobody waits for: an answer waits
+    /// and is lost as lines of the log are.
+    fn says(&mut self, text: &str) {
+        self.progress.yields();
+        let out = self.post.journal.writer_mut();
+        let _ = out.says(text.as_bytes());
+        let _ = out.flush();
     }
 }
 
-impl<V: Write + Drop> Console for OperatorConsole<'_, V> {
+impl Console for OperatorConsole<'_> {
     fn next<O: Outbox, I: Inbox>(
         &mut self,
         station: &Station<O, I>,
@@ -277,15 +301,19 @@ impl<V: Write + Drop> Console for OperatorConsole<'_, V> {
         if let Some(command) = self.serves_console(station, waiting) {
             return Some(command);
         }
-        self.exchange.watched.set(self.post.sources.watched());
         self.post.journal.looks_at(station);
+        let mut watched = self.post.sources.watched();
+        self.post.journal.writer().inner().watches(&mut watched);
+        self.exchange.watched.set(watched);
+        self.wants_number = false;
         None
     }
 
     fn may_put(&mut self) -> bool {
         let left = self.exchange.numbers_left.get();
-        self.exchange.wants_numbers.set(left == 0);
-        left > 0
+        self.wants_number = left == 0;
+        self.exchange.wants_numbers.set(self.wants_number);
+        !self.wants_number
     }
 
     fn put_answered(&mut self, names: &PutNames, reply: Reply, is_again: bool) {
@@ -305,13 +333,13 @@ impl<V: Write + Drop> Console for OperatorConsole<'_, V> {
 
     fn change_answered(&mut self, reply: Reply) {
         self.is_told();
-        self.post.journal.change_answered(reply);
         if let Some(speaker) = self.asker.take() {
             match reply {
                 Reply::Change(Err(error)) => self.refuses(speaker, &error),
                 Reply::Change(Ok(())) | Reply::Put(_) => self.is_done(speaker, ""),
             }
         }
+        self.post.journal.change_answered(reply);
     }
 
     fn hears(&mut self, indication: &Indication) {

@@ -2,12 +2,12 @@
 ghost use Rattle.std.specs.Prelude.{IfSome};
 
 use cfdp_command_line::CarrierKind;
-use cfdp_host::carrier::{Carrier, PacketForm};
+use cfdp_datagrams::{Carrier, PacketForm};
 use cfdp_report::{Keys, Nearest, Setting, Settings, consider_keys, parse_setting};
 use cfdp_station::LinkConfig;
 use frame_fields::FrameFields;
-use link_sim::WorldConfig;
 use space_packet::PacketType;
+use station_pair::WorldConfig;
 use std::alloc::{AllocError, Global};
 use std::fmt;
 use valid_config::Valid;
@@ -87,16 +87,16 @@ struct PacketNumbers {
 /// What is wrong with the ids of a station and its peer, and with their link.
 #[derive(Clone, Copy)]
 pub enum Misfit {
-    /// Both ids are one.
-    OneId,
+    /// Both ids are this one.
+    OneId(u64),
     /// The id of this option doesn't fit so many octets, which `id_width` sets.
     WideId(&'static str, u64),
     /// The number of the first transaction doesn't fit so many octets, which `number_width` sets.
     WideNumber(u64),
-    /// The value of this key is greater than that.
-    TooGreat(&'static str, u64),
-    /// Both lanes of a direction have one channel, by these keys.
-    OneChannel(&'static str, &'static str),
+    /// The value of this key is the first number, which is greater than the second.
+    TooGreat(&'static str, u64, u64),
+    /// Both lanes of a direction have this channel, by these keys.
+    OneChannel(&'static str, &'static str, u64),
     /// Something else is.
     Other,
 }
@@ -104,20 +104,22 @@ pub enum Misfit {
 impl fmt::Display for Misfit {
     fn fmt<W: fmt::Write>(&self, f: &mut fmt::Formatter<W>) -> fmt::Result {
         match self {
-            Misfit::OneId => f.write_str("--id and --peer are one, and have to differ"),
+            Misfit::OneId(id) => write!(f, "--id and --peer must differ (both are {id})"),
             Misfit::WideId(option, width) => write!(
                 f,
-                "--{option} doesn't fit the octets of an id, {width}: set id_width, 1 to 8"
+                "--{option} does not fit into {width} octets: set id_width, 1 to 8"
             ),
             Misfit::WideNumber(width) => write!(
                 f,
-                "--first-number doesn't fit the octets of a number, {width}: set number_width"
+                "--first-number does not fit into {width} octets: set number_width, 1 to 8"
             ),
-            Misfit::TooGreat(key, most) => write!(f, "{key} is out of its range, 0 to {most}"),
-            Misfit::OneChannel(one, other) => {
-                write!(f, "{one} and {other} are one, and have to differ")
+            Misfit::TooGreat(key, value, most) => {
+                write!(f, "{key} must be 0 to {most} (got {value})")
             }
-            Misfit::Other => f.write_str("the station can't be set up so"),
+            Misfit::OneChannel(one, other, value) => {
+                write!(f, "{one} and {other} must differ (both are {value})")
+            }
+            Misfit::Other => f.write_str("these settings do not fit together"),
         }
     }
 }
@@ -153,7 +155,7 @@ pub enum KeyHint {
 impl fmt::Display for KeyHint {
     fn fmt<W: fmt::Write>(&self, f: &mut fmt::Formatter<W>) -> fmt::Result {
         match self {
-            KeyHint::Nearest(key) => write!(f, "; the nearest is {key}"),
+            KeyHint::Nearest(key) => write!(f, "; did you mean {key}"),
             KeyHint::All => {
                 write!(f, "; the keys are {Keys}")?;
                 for key in &OWN_KEYS {
@@ -200,8 +202,9 @@ pub struct StationSetup {
 }
 
 impl StationSetup {
-    /// What holds without `--set`: of both stations that with the lesser id sends as the first one
-    /// of a script.
+    /// Returns what holds without `--set`. The station with the lesser id sends on the channels of
+    /// the first station of a script. PDUs have a CRC, since no other check covers the names in a
+    /// Metadata PDU unless frames have error control.
     pub fn new(is_lesser: bool) -> StationSetup {
         let one = Direction {
             virtual_channel: 5,
@@ -217,6 +220,7 @@ impl StationSetup {
         StationSetup {
             settings: Settings {
                 number_width: 8,
+                pdu_crc: 1,
                 ..Settings::DEFAULT
             },
             spacecraft: 42,
@@ -283,8 +287,8 @@ impl StationSetup {
         self.settings.first_number
     }
 
-    /// The first setting of those of scripts whose value is out of its range.
-    pub fn out_of_range(&self) -> Option<Setting> {
+    /// The first setting of those of scripts whose value is out of its range, with the value.
+    pub fn out_of_range(&self) -> Option<(Setting, u64)> {
         self.settings.out_of_range()
     }
 
@@ -322,22 +326,30 @@ impl StationSetup {
         ];
         for (key, value, most) in ranges {
             if value > most {
-                return Misfit::TooGreat(key, most);
+                return Misfit::TooGreat(key, value, most);
             }
         }
         if let Some(misfit) = self.field_misfit() {
             return misfit;
         }
         if id == peer {
-            Misfit::OneId
+            Misfit::OneId(id)
         } else if !fits(id, width) {
             Misfit::WideId("id", width)
         } else if !fits(peer, width) {
             Misfit::WideId("peer", width)
         } else if own.virtual_channel == own.data_virtual_channel {
-            Misfit::OneChannel("virtual_channel", "data_virtual_channel")
+            Misfit::OneChannel(
+                "virtual_channel",
+                "data_virtual_channel",
+                own.virtual_channel,
+            )
         } else if other.virtual_channel == other.data_virtual_channel {
-            Misfit::OneChannel("peer_virtual_channel", "peer_data_virtual_channel")
+            Misfit::OneChannel(
+                "peer_virtual_channel",
+                "peer_data_virtual_channel",
+                other.virtual_channel,
+            )
         } else {
             Misfit::Other
         }
@@ -367,7 +379,7 @@ impl StationSetup {
         ];
         for (key, value, most) in ranges {
             if value > most {
-                return Some(Misfit::TooGreat(key, most));
+                return Some(Misfit::TooGreat(key, value, most));
             }
         }
         None

@@ -1,10 +1,10 @@
 -- What a command answers, in reports and for the exit status.
 use Rattle.std.specs.Prelude.{ℕ, Bool, true, false, List, codes, Option, Some}
 use Rattle.cfdp_entity.specs.Errors.{put_name, call_name}
-use Rattle.link_sim.specs.Recovering.{recover_error_name}
-use Rattle.link_sim.specs.declared.event.Refusal.TheVariants.{Put, Call, LossRunTooLong, NotDamaged}
-use Rattle.link_sim.specs.declared.recover_error.RecoverError.TheVariants.{Settle}
-use Rattle.link_sim.specs.declared.settle_error.SettleError.TheVariants.{NoMemory, StoreFailed}
+use Rattle.station_pair.specs.Errors.{recover_error_name}
+use Rattle.station_pair.specs.declared.refusal.Refusal.TheVariants.{Put, Call, LossRunTooLong, NotDamaged}
+use Rattle.station_pair.specs.declared.recover_error.RecoverError.TheVariants.{Settle}
+use Rattle.station_pair.specs.declared.settle_error.SettleError.TheVariants.{NoMemory, StoreFailed}
 use Rattle.cfdp_report.specs.declared.report.answer.Answer.{Answer}
 use Rattle.cfdp_report.specs.declared.report.answer.Answer.TheVariants.{Nothing, Refused, Ended}
 

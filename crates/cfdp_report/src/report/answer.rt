@@ -1,7 +1,7 @@
 ghost use Rattle.std.specs.Prelude.{◌≡◌, Some};
 ghost use Rattle.cfdp_report.specs.Report.Answers.{answer_after, answer_name};
 
-use link_sim::{RecoverError, Refusal, SettleError};
+use station_pair::{RecoverError, Refusal, SettleError};
 use std::fmt;
 
 /// Why a command didn't do its work, or not all of it. The report tells it.

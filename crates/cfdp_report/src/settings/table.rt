@@ -75,14 +75,14 @@ pub const TABLE: [Row; 20] = [
         key: "zone",
         range: Range::Between(LEAST_ZONE as u64, MOST_ZONE as u64),
         default: 256,
-        help: "octets of a frame's packet zone, 16 to 2040",
+        help: "octets of the packet zone of a frame, 16 to 2040",
     },
     Row {
         setting: Setting::InsertZone,
         key: "insert_zone",
         range: Range::Between(0, MOST_INSERT_ZONE as u64),
         default: 0,
-        help: "octets of a frame's insert zone, 0 to 64",
+        help: "octets of the insert zone of a frame, 0 to 64",
     },
     Row {
         setting: Setting::ControlField,
@@ -103,7 +103,7 @@ pub const TABLE: [Row; 20] = [
         key: "segment",
         range: Range::Between(1, MOST_SEGMENT as u64),
         default: 1024,
-        help: "octets of a file in one PDU at most, 1 to 4096",
+        help: "most octets of file data in one PDU, 1 to 4096",
     },
     Row {
         setting: Setting::IdWidth,
@@ -117,21 +117,21 @@ pub const TABLE: [Row; 20] = [
         key: "number_width",
         range: Range::Between(1, MOST_WIDTH as u64),
         default: 4,
-        help: "octets of a transaction's number, 1 to 8",
+        help: "octets of a transaction number, 1 to 8",
     },
     Row {
         setting: Setting::FirstNumber,
         key: "first_number",
         range: Range::Between(0, u64::MAX),
         default: 1,
-        help: "of a station's first put, refused from 256^number_width",
+        help: "number of the first put, below 256^number_width",
     },
     Row {
         setting: Setting::Checksum,
         key: "checksum",
         range: Range::BetweenOr(0, 3, 15),
         default: 0,
-        help: "0 modular, 15 null; CRC-32: 1 Proximity-1, 2 C, 3 IEEE",
+        help: "0 modular, 1 Proximity-1, 2 CRC-32C, 3 CRC-32, 15 null",
     },
     Row {
         setting: Setting::PduCrc,
@@ -159,7 +159,7 @@ pub const TABLE: [Row; 20] = [
         key: "finished_limit",
         range: Range::Between(0, 255),
         default: 3,
-        help: "how often each is sent again, 0 to 255",
+        help: "retransmissions before a fault, 0 to 255",
     },
     Row {
         setting: Setting::EofTime,
@@ -187,7 +187,7 @@ pub const TABLE: [Row; 20] = [
         key: "inactivity_time",
         range: Range::Between(1, 4_294_967_295),
         default: 100,
-        help: "how long an answer, or any PDU, is waited for, below 2^32",
+        help: "time to wait for an answer, or any PDU, below 2^32",
     },
     Row {
         setting: Setting::OnAckLimit,
@@ -208,7 +208,7 @@ pub const TABLE: [Row; 20] = [
         key: "on_inactivity",
         range: Range::Between(0, 3),
         default: 0,
-        help: "what is done then: 0 cancel, 1 suspend, 2 ignore, 3 abandon",
+        help: "then: 0 cancel, 1 suspend, 2 ignore, 3 abandon",
     },
 ];
 

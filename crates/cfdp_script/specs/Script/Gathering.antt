@@ -9,7 +9,7 @@ use Rattle.cfdp_script.specs.declared.script.Step.{Step}
 use Rattle.cfdp_report.specs.declared.settings.Settings.{Settings}
 use Rattle.cfdp_report.specs.Settings.{default_settings, set_value}
 use Rattle.cfdp_script.specs.Script.Lines.{is_skipped, line_of}
-use Rattle.cfdp_script.specs.Script.Words.{without_return}
+use Rattle.cfdp_report.specs.Words.{without_return}
 
 -- What was read so far.
 pub record Gathered : Type 0 where

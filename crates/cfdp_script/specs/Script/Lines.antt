@@ -5,8 +5,8 @@ use Rattle.std.specs.List.{list_all, filter_map}
 use Rattle.cfdp_header.specs.declared.value.TransactionId.{TransactionId}
 use Rattle.aos_frame.specs.declared.config.Lane.{Lane}
 use Rattle.aos_frame.specs.declared.config.Lane.TheVariants.{Directives, Data}
-use Rattle.link_sim.specs.declared.side.Side.{Side}
-use Rattle.link_sim.specs.declared.side.Side.TheVariants.{One, Two}
+use Rattle.station_pair.specs.declared.side.Side.{Side}
+use Rattle.station_pair.specs.declared.side.Side.TheVariants.{One, Two}
 use Rattle.link_sim.specs.declared.event.Event.{Event}
 use Rattle.link_sim.specs.declared.event.Event.TheVariants as event
 use Rattle.cfdp_script.specs.declared.script.command.Line.{Line}
@@ -21,15 +21,15 @@ use Rattle.cfdp_script.specs.declared.script.command.Disorder.TheVariants.{Overt
 use Rattle.cfdp_script.specs.declared.script.command.Pick.{Pick}
 use Rattle.cfdp_script.specs.declared.script.command.Fate.{Fate}
 use Rattle.cfdp_script.specs.declared.script.command.Fate.TheVariants.{Arrives, IsLost}
-use Rattle.cfdp_script.specs.declared.script.command.Unread.{Unread}
-use Rattle.cfdp_script.specs.declared.script.command.Unread.TheVariants.{Bad, NoMemory}
+use Rattle.cfdp_report.specs.declared.unread.Unread.{Unread}
+use Rattle.cfdp_report.specs.declared.unread.Unread.TheVariants.{Bad, NoMemory}
 use Rattle.cfdp_script.specs.declared.script.command.FileLine.{FileLine}
 use Rattle.cfdp_script.specs.declared.script.Step.{Step}
 use Rattle.cfdp_report.specs.declared.settings.Settings.{Settings}
-use Rattle.link_sim.specs.Stations.{IsWorldConfig}
-use Rattle.cfdp_report.specs.Settings.{FitFields, default_settings, is, set_value, setting_of, world_of}
+use Rattle.cfdp_report.specs.Meaning.{asked_of, both, id_of}
+use Rattle.cfdp_report.specs.Settings.{AreValid, default_settings, is, set_value, setting_of}
 use Rattle.cfdp_report.specs.Numbers.{number_of, octet_of}
-use Rattle.cfdp_script.specs.Script.Words.{without_return, words_of, parts, next_word, nothing_of, text_of, one_of, two_of, three_of, four_of}
+use Rattle.cfdp_report.specs.Words.{without_return, words_of, parts, next_word, nothing_of, text_of, one_of, two_of, three_of, four_of}
 
 -- ---- what single words mean
 
@@ -38,29 +38,10 @@ abbrev pub station_of : List ℕ → Option Side
 station_of word = option_and_then (λ number. if number == 1 then Some One
     else if number == 2 then Some Two else None) (number_of word)
 
--- what two things mean together, where each means something
-abbrev pub both : {A B C : Type 0} → (A → B → C) → Option A → Option B → Option C
-both f None b = None
-both f (Some a) b = option_map (f a) b
-
--- a transaction: two numbers with a colon between
-abbrev pub id_of_parts : List (List ℕ) → Option TransactionId
-id_of_parts (source ∷ number ∷ []) =
-    both (λ s n. record { source = s; number = n }) (number_of source) (number_of number)
-id_of_parts _ = None
-
-abbrev pub id_of : List ℕ → Option TransactionId
-id_of word = id_of_parts (parts 58 word)
-
 -- a lane: `dir` for directives, `data` for file data
 abbrev pub lane_of : List ℕ → Option Lane
 lane_of word = if is word (codes "dir") then Some Directives
     else if is word (codes "data") then Some Data else None
-
--- whether a prompt asks for a Keep Alive, or else for a NAK
-abbrev pub asked_of : List ℕ → Option Bool
-asked_of word = if is word (codes "nak") then Some false
-    else if is word (codes "keep") then Some true else None
 
 -- ---- what the words behind the first one mean
 
@@ -355,10 +336,6 @@ unfoldable pub first_misread : List ℕ → Option ℕ
 first_misread text = misread (lines_of text)
 
 -- ---- the first bad line
-
--- Each value is in its range, and the stations can be set up so.
-abbrev pub AreValid : Settings → Type 0
-AreValid s = FitFields s × IsWorldConfig (world_of s)
 
 abbrev pub earlier : Option ℕ → ℕ → ℕ
 earlier None last = last

@@ -2,8 +2,8 @@
 use Rattle.std.specs.Prelude.{ℕ, List, [], ◌∷◌, replicate}
 use Rattle.std.specs.FinMap as map
 use Rattle.cfdp_header.specs.Files.{FileMap}
-use Rattle.link_sim.specs.declared.side.Side.{Side}
-use Rattle.link_sim.specs.declared.side.Side.TheVariants.{One, Two}
+use Rattle.station_pair.specs.declared.side.Side.{Side}
+use Rattle.station_pair.specs.declared.side.Side.TheVariants.{One, Two}
 use Rattle.cfdp_script.specs.declared.script.command.Contents.{Contents}
 use Rattle.cfdp_script.specs.declared.script.command.Contents.TheVariants.{Text, Fill}
 use Rattle.cfdp_script.specs.declared.script.command.FileLine.{FileLine}

@@ -4,8 +4,9 @@ use Rattle.std.specs.FinMap.{entries}
 use Rattle.std.specs.List.{flat_map}
 use Rattle.cfdp_directives.specs.Pdu.Checksum.{modular_checksum}
 use Rattle.link_sim.specs.World.State.{WorldState}
-use Rattle.link_sim.specs.declared.side.Side.TheVariants.{One, Two}
-use Rattle.cfdp_report.specs.Dump.Lines.{hex_number_text, name_text}
+use Rattle.station_pair.specs.declared.side.Side.TheVariants.{One, Two}
+use Rattle.cfdp_report.specs.Report.Name.{name_text}
+use Rattle.cfdp_report.specs.Numbers.{hex_number_text}
 use Rattle.cfdp_report.specs.Report.Lines.{answer_line, count_line, indication_line, is_own_completion}
 use Rattle.cfdp_report.specs.declared.report.answer.Answered.{Answered}
 use Rattle.cfdp_script.specs.Script.Run.{puts_in, received, told}

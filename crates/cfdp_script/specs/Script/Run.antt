@@ -11,10 +11,10 @@ use Rattle.link_sim.specs.World.Steps.{FindsNoMemory, NoneWaits, Steps, WantsMem
 use Rattle.link_sim.specs.declared.event.Applied.TheVariants as did
 use Rattle.link_sim.specs.declared.event.Event.{Event}
 use Rattle.link_sim.specs.declared.event.Event.TheVariants as event
-use Rattle.link_sim.specs.declared.recover_error.RecoverError.{RecoverError}
-use Rattle.link_sim.specs.declared.recover_error.RecoverError.TheVariants.{Settle, StillArmed}
-use Rattle.link_sim.specs.declared.settle_error.SettleError.TheVariants.{NoMemory}
-use Rattle.link_sim.specs.declared.side.Side.{Side}
+use Rattle.station_pair.specs.declared.recover_error.RecoverError.{RecoverError}
+use Rattle.station_pair.specs.declared.recover_error.RecoverError.TheVariants.{Settle, StillArmed}
+use Rattle.station_pair.specs.declared.settle_error.SettleError.TheVariants.{NoMemory}
+use Rattle.station_pair.specs.declared.side.Side.{Side}
 use Rattle.cfdp_report.specs.Report.Answers.{answer_after}
 use Rattle.cfdp_report.specs.declared.report.answer.Answer.{Answer}
 use Rattle.cfdp_report.specs.declared.report.answer.Answered.{Answered}

@@ -1,18 +1,19 @@
 -- How the program ends at a script, and what it writes.
-use Rattle.std.specs.Prelude.{◌≡◌, ◌⊎◌, ◌<◌, ℕ, List, Option, None, Some, IfSome, length, ⊤}
+use Rattle.std.specs.Prelude.{◌≡◌, ◌⊎◌, ◌<◌, ℕ, List, Option, None, Some, length, ⊤}
 use Rattle.std.specs.FinMap.{empty}
 use Rattle.std.specs.Io.KnownBytes.{Keeps}
 use Rattle.link_sim.specs.Clean.{IsClean}
 use Rattle.link_sim.specs.Running.{KeepsPromises}
 use Rattle.link_sim.specs.Settling.{IsSettled}
 use Rattle.link_sim.specs.World.State.{WorldState, IsFirst}
-use Rattle.link_sim.specs.declared.side.Side.TheVariants.{One, Two}
-use Rattle.link_sim.specs.declared.world_config.WorldConfig.{WorldConfig}
+use Rattle.station_pair.specs.declared.side.Side.TheVariants.{One, Two}
+use Rattle.station_pair.specs.declared.world_config.WorldConfig.{WorldConfig}
 use Rattle.cfdp_script.specs.Script.Ending.{EndsRun, IsTold, RunsAll}
 use Rattle.cfdp_script.specs.Script.Outboxes.{outbox_of}
 use Rattle.cfdp_script.specs.Script.Report.{puts_asked, puts_completed}
 use Rattle.cfdp_script.specs.Script.Run.{AreAccepted}
 use Rattle.cfdp_script.specs.Script.Lines.{IsFirstBad, files_of, settings_of, steps_of}
+use Rattle.cfdp_report.specs.Reading.{EndsReadingUpTo}
 use Rattle.cfdp_report.specs.Settings.{world_of}
 use Rattle.cfdp_script.specs.declared.script.command.FileLine.{FileLine}
 use Rattle.cfdp_report.specs.declared.exit.Exit.{Exit}
@@ -75,16 +76,6 @@ EndsFrom exit config files steps old new =
     ⊎ ((first : WorldState)
     × IsFirst config (outbox_of One files, outbox_of Two files) (empty, empty) first
     × EndsRun exit steps first old new)
-
--- Reading ended with this fault, where a reader had this left: a read failed, there was no memory,
--- or
--- there was too much of it.
-abbrev pub EndsReadingUpTo : (most : ℕ) → Fault → Option (List ℕ) → Type 0
-EndsReadingUpTo most (Unreadable kind) left = ⊤
-EndsReadingUpTo most NoMemoryAtStart left = ⊤
-EndsReadingUpTo most TooLong left = IfSome left (λ text. most < length text)
-EndsReadingUpTo most NoMemory left = ⊥
-EndsReadingUpTo most Unwritable left = ⊥
 
 -- the same of a script
 abbrev pub EndsReading : Fault → Option (List ℕ) → Type 0

@@ -1,23 +1,26 @@
 ghost use Rattle.std.specs.Prelude.{◌≡◌};
 ghost use Rattle.std.specs.Result.{result_ok};
 ghost use Rattle.cfdp_report.specs.Numbers.{number_of, octet_of};
-ghost use Rattle.cfdp_script.specs.Script.Words.{left};
-ghost use Rattle.cfdp_script.specs.Script.Lines.{Reads, both, line_of, meaning, set_of, file_of};
+ghost use Rattle.cfdp_report.specs.Words.{left};
+ghost use Rattle.cfdp_report.specs.Meaning.{both};
+ghost use Rattle.cfdp_script.specs.Script.Lines.{Reads, line_of, meaning, set_of, file_of};
 ghost use Rattle.cfdp_script.specs.Script.Lines.{fill_of, fill_count, command_of, put_of, call_of};
 ghost use Rattle.cfdp_script.specs.Script.Lines.{motion_of, round_of, station_words};
 ghost use Rattle.cfdp_script.specs.Script.Lines.{transaction_words, number_words, frames_of};
 ghost use Rattle.cfdp_script.specs.Script.Lines.{which_of, count_of, frame_number, lane_of};
-ghost use Rattle.cfdp_script.specs.Script.Lines.{prompt_of, asked_of};
-ghost use Rattle.cfdp_script.specs.Script.Lines.{damage_at, damage_of, damaged_of, id_of};
+ghost use Rattle.cfdp_script.specs.Script.Lines.{prompt_of};
+ghost use Rattle.cfdp_script.specs.Script.Lines.{damage_at, damage_of, damaged_of};
 ghost use Rattle.cfdp_script.specs.Script.Lines.{disorder_of, pick_at, pick_of};
 ghost use Rattle.cfdp_script.specs.Script.Lines.{station_of};
 
-use crate::script::words::{Words, cut_at_first};
 use cfdp_directives::Octets;
 use cfdp_header::TransactionId;
-use cfdp_report::{LineError, Setting, parse_hex_octet, parse_number, parse_setting};
+use cfdp_report::{
+    LineError, Setting, Unread, Words, parse_asked, parse_hex_octet, parse_id, parse_number,
+    parse_setting,
+};
 use link_sim::{Event, Lane, Side};
-use std::alloc::{AllocError, Global};
+use std::alloc::Global;
 
 /// The longest line of a script, in octets, without its line feed.
 pub const MAX_LINE: usize = 4096;
@@ -142,37 +145,6 @@ impl Fate {
             Fate::Arrives => Event::Deliver(from, lane),
             Fate::IsLost => Event::Strike(from, lane),
         }
-    }
-}
-
-/// Why a line was not read.
-#[derive(Clone, Copy)]
-pub enum Unread {
-    /// It is bad.
-    Bad(LineError),
-    /// There is no memory for what it holds.
-    NoMemory,
-}
-
-impl From<LineError> for Unread {
-    ghost use Rattle.std.specs.Prelude.{◌≡◌};
-    ghost use Rattle.cfdp_script.specs.declared.script.command.Unread.TheVariants.{Bad};
-
-    ghost from_gives = { λ error unread. unread ≡ Bad error };
-
-    fn from(error: LineError) -> Unread {
-        Unread::Bad(error)
-    }
-}
-
-impl From<AllocError> for Unread {
-    ghost use Rattle.std.specs.Prelude.{◌≡◌};
-    ghost use Rattle.cfdp_script.specs.declared.script.command.Unread.TheVariants.{NoMemory};
-
-    ghost from_gives = { λ _ unread. unread ≡ NoMemory };
-
-    fn from(_error: AllocError) -> Unread {
-        Unread::NoMemory
     }
 }
 
@@ -520,23 +492,6 @@ fn parse_prompt(words: Words<'_>) -> Result<Command, LineError>
     }))
 }
 
-/// Whether a prompt asks for a Keep Alive, or else for a NAK: `keep` or `nak`.
-///
-/// # Errors
-///
-/// `UnknownPrompt`.
-pub fn parse_asked(word: &[u8]) -> Result<bool, LineError>
-    ensures { result_ok result ≡ asked_of word.now }
-{
-    if word == b"nak".as_slice() {
-        Ok(false)
-    } else if word == b"keep".as_slice() {
-        Ok(true)
-    } else {
-        Err(LineError::UnknownPrompt)
-    }
-}
-
 fn parse_value(word: &[u8]) -> Result<u64, LineError>
     ensures { result_ok result ≡ number_of word.now }
 {
@@ -547,24 +502,6 @@ fn parse_octet(word: &[u8]) -> Result<u8, LineError>
     ensures { result_ok result ≡ octet_of word.now }
 {
     parse_hex_octet(word).ok_or(LineError::BadOctet)
-}
-
-/// A transaction: two numbers with a colon between, as in `1:7`.
-///
-/// # Errors
-///
-/// `BadId`.
-pub fn parse_id(word: &[u8]) -> Result<TransactionId, LineError>
-    ensures { result_ok result ≡ id_of word.now }
-{
-    let (source, behind) = cut_at_first(word, b':');
-    let Some(number) = behind else {
-        return Err(LineError::BadId);
-    };
-    match (parse_number(source), parse_number(number)) {
-        (Some(source), Some(number)) => Ok(TransactionId { source, number }),
-        _ => Err(LineError::BadId),
-    }
 }
 
 fn parse_station(word: &[u8]) -> Result<Side, LineError>

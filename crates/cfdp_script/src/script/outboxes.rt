@@ -1,6 +1,6 @@
 //! The files that a script gives its stations to send.
 ghost use Rattle.std.specs.Prelude.{◌≡◌, IfOk, OnOk};
-ghost use Rattle.link_sim.specs.declared.side.Side.TheVariants as sides;
+ghost use Rattle.station_pair.specs.declared.side.Side.TheVariants as sides;
 ghost use Rattle.cfdp_script.specs.Script.Outboxes.{octets_of, outbox_of, with_file};
 
 use crate::script::command::{Contents, FileLine};

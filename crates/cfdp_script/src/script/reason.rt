@@ -1,8 +1,9 @@
 //! What is wrong with a line of a script, as it is told.
 ghost use Rattle.std.specs.Prelude.{◌≡◌, ◌<◌};
 
-use crate::script::words::cut_at_first;
-use cfdp_report::{BadLine, Hint, LineError, Nearest, Quote, consider_keys, parse_setting};
+use cfdp_report::{
+    BadLine, Hint, LineError, Nearest, Quote, consider_keys, cut_at_first, parse_setting,
+};
 use std::alloc::{AllocError, Global};
 
 /// How a command is written.

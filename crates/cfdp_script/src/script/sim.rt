@@ -3,7 +3,7 @@ ghost use Rattle.std.specs.Io.Buffered.{writer_buffer, writer_contents};
 ghost use Rattle.std.specs.FinMap as map;
 ghost use Rattle.std.specs.Prelude.{◌≤◌, IfOk, IfSome, length};
 ghost use Rattle.link_sim.specs.World.State.{IsFirst};
-ghost use Rattle.link_sim.specs.declared.side.Side.TheVariants as sides;
+ghost use Rattle.station_pair.specs.declared.side.Side.TheVariants as sides;
 ghost use Rattle.cfdp_script.specs.Script.Outboxes.{outbox_of};
 ghost use Rattle.cfdp_script.specs.Script.Ending.{EndsRun};
 ghost use Rattle.cfdp_report.specs.Exit.{IsFlushedAt};
@@ -14,15 +14,17 @@ use crate::script::command::FileLine;
 use crate::script::outboxes::outboxes;
 use crate::script::run::{Ended, run_steps};
 use crate::script::{Script, Step};
-use cfdp_report::{Exit, Fault, Onlooker, Ran, Screen, Shown};
+use crate::world_onlooker::WorldOnlooker;
+use cfdp_report::{Exit, Fault};
 use cfdp_store::{MemoryInbox, MemoryOutbox};
+use cfdp_watch::{Onlooker, Ran, Screen, Shown};
 use link_sim::{World, WorldConfig, worlds_keep_the_promises};
 use std::alloc::{AllocError, Global};
 use std::io::{BufWriter, Read, Write};
 use valid_config::Valid;
 
 /// A world in memory, and who looks on.
-type Watched<'a> = World<MemoryOutbox, MemoryInbox, Onlooker<'a>>;
+type Watched<'a> = World<MemoryOutbox, MemoryInbox, WorldOnlooker<'a>>;
 
 /// Reads a script, runs it and writes its report, which has left the buffer then. Somebody looks on
 /// if something is to be shown, and shows it as it passes.
@@ -121,12 +123,8 @@ fn first_world<'a>(
     let alloc = rt.alloc();
     let outboxes = outboxes(alloc, files)?;
     let screen = Screen { rt, progress: None };
-    World::in_memory(
-        alloc,
-        config,
-        outboxes,
-        Onlooker::new(screen, config, shown)?,
-    )
+    let onlooker = Onlooker::new(screen, config, shown)?;
+    World::in_memory(alloc, config, outboxes, WorldOnlooker::new(onlooker))
 }
 
 /// Does these commands in a world, writes the report, and gives what is known of it then.

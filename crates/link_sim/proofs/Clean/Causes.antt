@@ -9,17 +9,17 @@ use Rattle.link_sim.specs.declared.event.Event.{Event}
 use Rattle.link_sim.specs.declared.event.Event.TheVariants as event
 use Rattle.link_sim.specs.declared.event.Applied.{Applied}
 use Rattle.link_sim.specs.declared.event.Applied.TheVariants as did
-use Rattle.link_sim.specs.declared.event.Refusal.{Refusal}
-use Rattle.link_sim.specs.declared.settle_error.SettleError.{SettleError}
-use Rattle.link_sim.specs.declared.settle_error.SettleError.TheVariants.{NoMemory, StoreFailed, TableFull}
+use Rattle.station_pair.specs.declared.refusal.Refusal.{Refusal}
+use Rattle.station_pair.specs.declared.settle_error.SettleError.{SettleError}
+use Rattle.station_pair.specs.declared.settle_error.SettleError.TheVariants.{NoMemory, StoreFailed, TableFull}
 use Rattle.link_sim.specs.declared.shortages.Shortages.{Shortages}
 use Rattle.link_sim.specs.Settling.{IsOfSettling, AreOfSettling, AreInOrder, SettlesFrom, behind, KeepsAll, IsSettled, IsSettledAt, HasSent, IsSpared, CountsStayAt, CountsStay, GoesWellFrom, Ends, HasCauseFrom, all_shortages}
 use Rattle.link_sim.specs.Onward.{GoesOnFrom}
 use Rattle.link_sim.specs.World.State.{WorldState, entity_at}
 use Rattle.link_sim.specs.World.Steps.{NoneWaits, NoneWhole, Flushes, Steps}
 use Rattle.link_sim.specs.Work.{world_work}
-use Rattle.link_sim.specs.declared.side.Side.{Side}
-use Rattle.link_sim.specs.declared.side.Side.TheVariants.{One, Two}
+use Rattle.station_pair.specs.declared.side.Side.{Side}
+use Rattle.station_pair.specs.declared.side.Side.TheVariants.{One, Two}
 use Rattle.link_sim.proofs.Events.Keeping.{each}
 use Rattle.link_sim.proofs.Recovery.Along.{along-both}
 

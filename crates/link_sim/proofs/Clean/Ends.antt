@@ -36,15 +36,15 @@ use Rattle.cfdp_entity.specs.Table.{Entry, TableState, place_of, record_of, has_
 use Rattle.cfdp_entity.proofs.CallerLemmas.{nothing-due}
 use Rattle.cfdp_entity.proofs.Histories.{no-record}
 use Rattle.link_sim.specs.declared.event.AcceptedPut.{AcceptedPut}
-use Rattle.link_sim.specs.declared.side.Side.{Side}
-use Rattle.link_sim.specs.declared.side.Side.TheVariants.{One, Two}
+use Rattle.station_pair.specs.declared.side.Side.{Side}
+use Rattle.station_pair.specs.declared.side.Side.TheVariants.{One, Two}
 use Rattle.link_sim.specs.Between.{Pdu, IsReceiverIn, IsOnCourse, AreSpelled}
 use Rattle.link_sim.specs.Clean.{IsClean, IsCompleteAt, AllComplete}
 use Rattle.link_sim.specs.EveryPut.{IsFound, KeepCourse}
 use Rattle.link_sim.specs.Exchange.{is_closed, is_closed_in, maybe, tells_complete}
 use Rattle.link_sim.specs.Observed.{seen}
 use Rattle.link_sim.specs.Settling.{IsSettled}
-use Rattle.link_sim.specs.Stations.{other}
+use Rattle.station_pair.specs.Stations.{other}
 use Rattle.link_sim.specs.Sound.{IsSound}
 use Rattle.link_sim.specs.Theorem.{side_of, put_of, completions_at}
 use Rattle.link_sim.specs.Waiting.{one_tells}

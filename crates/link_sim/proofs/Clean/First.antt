@@ -11,12 +11,13 @@ use Rattle.cfdp_sender.specs.declared.transfer.Transfer.{Transfer}
 use Rattle.cfdp_station.specs.declared.config.StationConfig.{StationConfig}
 use Rattle.link_stack.specs.Drops.{count_of}
 use Rattle.link_stack.specs.Upward.{UpState, drop_count}
-use Rattle.link_sim.specs.declared.side.Side.{Side}
-use Rattle.link_sim.specs.declared.side.Side.TheVariants.{One, Two}
-use Rattle.link_sim.specs.declared.world_config.WorldConfig.{WorldConfig}
+use Rattle.station_pair.specs.declared.side.Side.{Side}
+use Rattle.station_pair.specs.declared.side.Side.TheVariants.{One, Two}
+use Rattle.station_pair.specs.declared.world_config.WorldConfig.{WorldConfig}
 use Rattle.link_sim.specs.Clean.{IsClean, IsCleanAt, IsCleanEntity, is_cancelling, is_bad}
-use Rattle.link_sim.specs.Stations.{other}
-use Rattle.link_sim.specs.World.State.{WorldState, LanesState, IsFirst, IsFirstAt, entity_at, lane_from, link_from, no_lanes, on_lane, station_at}
+use Rattle.station_pair.specs.Stations.{other}
+use Rattle.link_sim.specs.World.State.{WorldState, LanesState, IsFirst, entity_at, lane_from, link_from, no_lanes, on_lane, station_at}
+use Rattle.cfdp_station.specs.New.{IsFirstAt}
 use Rattle.link_sim.specs.World.Steps.{TakesPut}
 use Rattle.link_sim.proofs.Clean.Hears.{any-append}
 use Rattle.link_sim.proofs.Clean.Settles.{clean-same}

@@ -11,8 +11,8 @@ use Rattle.link_sim.specs.declared.event.Applied.{Applied}
 use Rattle.link_sim.specs.declared.event.Applied.TheVariants as did
 use Rattle.link_sim.specs.declared.event.Event.{Event}
 use Rattle.link_sim.specs.declared.event.Event.TheVariants as event
-use Rattle.link_sim.specs.declared.event.Refusal.TheVariants as refusal
-use Rattle.link_sim.specs.declared.side.Side.{Side}
+use Rattle.station_pair.specs.declared.refusal.Refusal.TheVariants as refusal
+use Rattle.station_pair.specs.declared.side.Side.{Side}
 use Rattle.link_sim.specs.Sound.{IsSound}
 use Rattle.link_sim.specs.World.State.{WorldState, entity_at}
 use Rattle.link_sim.specs.World.Steps.{TakesPut, Puts, Calls, Stays, Steps}

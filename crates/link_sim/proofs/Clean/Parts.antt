@@ -4,7 +4,7 @@ use Rattle.link_sim.specs.Observed.{seen}
 use Rattle.link_sim.specs.Parts.{SettlesPart}
 use Rattle.link_sim.specs.World.State.{WorldState}
 use Rattle.link_sim.specs.declared.event.Event.{Event}
-use Rattle.link_sim.specs.declared.settle_error.SettleError.{SettleError}
+use Rattle.station_pair.specs.declared.settle_error.SettleError.{SettleError}
 use Rattle.link_sim.proofs.Clean.Causes.{Lowers, cause-then, lowers-both, on-both}
 use Rattle.link_sim.proofs.Events.Folding.{leads-both}
 

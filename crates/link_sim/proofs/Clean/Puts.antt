@@ -23,15 +23,15 @@ use Rattle.cfdp_entity.specs.Table.{Entry, record_of}
 use Rattle.cfdp_entity.specs.Truth.{IsTrueOf}
 use Rattle.cfdp_entity.proofs.CallerLemmas.{same_id-true}
 use Rattle.link_sim.specs.declared.event.AcceptedPut.{AcceptedPut}
-use Rattle.link_sim.specs.declared.side.Side.{Side}
-use Rattle.link_sim.specs.declared.side.Side.TheVariants.{One, Two}
+use Rattle.station_pair.specs.declared.side.Side.{Side}
+use Rattle.station_pair.specs.declared.side.Side.TheVariants.{One, Two}
 use Rattle.link_sim.specs.Between.{Pdu, of_id, IsUnspoiled, IsOnCourse, AreSpelled}
 use Rattle.link_sim.specs.Clean.{IsClean, IsCleanEntity, is_cancelling, is_bad}
 use Rattle.link_sim.specs.EveryPut.{LosesNone, KeepCourse, StayOnCourse}
 use Rattle.link_sim.specs.Exchange.{AllTrue, IsTrueForth, IsTrueBack, pauses}
 use Rattle.link_sim.specs.Known.{IsDirected, IsSending, AreKnown}
 use Rattle.link_sim.specs.Observed.{seen}
-use Rattle.link_sim.specs.Stations.{other}
+use Rattle.station_pair.specs.Stations.{other}
 use Rattle.link_sim.specs.Sound.{IsSound}
 use Rattle.link_sim.specs.Theorem.{WorldSeen, at, side_of, accepted_as, with_octets, put_by, put_of}
 use Rattle.link_sim.specs.Waiting.{IsUncancelled, spoils}

@@ -17,8 +17,8 @@ use Rattle.link_stack.specs.Upward.{LinkReceiverState, UpState, drop_count, lane
 use Rattle.link_sim.specs.declared.event.Event.{Event}
 use Rattle.link_sim.specs.declared.event.Event.TheVariants as event
 use Rattle.link_sim.specs.declared.event.Applied.TheVariants as did
-use Rattle.link_sim.specs.declared.side.Side.{Side}
-use Rattle.link_sim.specs.declared.side.Side.TheVariants.{One, Two}
+use Rattle.station_pair.specs.declared.side.Side.{Side}
+use Rattle.station_pair.specs.declared.side.Side.TheVariants.{One, Two}
 use Rattle.link_sim.specs.Between.{Pdu}
 use Rattle.link_sim.specs.Clean.{IsClean, IsCleanAt, IsCleanEntity}
 use Rattle.link_sim.specs.EveryPut.{KeepCourse}
@@ -26,7 +26,7 @@ use Rattle.link_sim.specs.Exchange.{AllTrue}
 use Rattle.link_sim.specs.Known.{AreKnown}
 use Rattle.link_sim.specs.Observed.{seen}
 use Rattle.link_sim.specs.Runs.{IsSwapped}
-use Rattle.link_sim.specs.Stations.{other}
+use Rattle.station_pair.specs.Stations.{other}
 use Rattle.link_sim.specs.Sound.{IsSound}
 use Rattle.link_sim.specs.Theorem.{put_of}
 use Rattle.link_sim.specs.Work.{AreWithin, most_offset}

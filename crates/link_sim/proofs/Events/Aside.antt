@@ -32,21 +32,23 @@ use Rattle.cfdp_station.specs.Station.{StationState, KeepsLink, KeepsRest}
 use Rattle.cfdp_station.specs.Taking.{TakesFrame}
 use Rattle.cfdp_station.specs.declared.polled.Polled.{Polled}
 use Rattle.cfdp_station.specs.declared.polled.Polled.TheVariants.{Moved, Nothing, Full, SourceFailed}
-use Rattle.link_sim.specs.declared.side.Side.{Side}
-use Rattle.link_sim.specs.declared.side.Side.TheVariants.{One, Two}
+use Rattle.station_pair.specs.declared.side.Side.{Side}
+use Rattle.station_pair.specs.declared.side.Side.TheVariants.{One, Two}
 use Rattle.link_sim.specs.declared.event.AcceptedPut.{AcceptedPut}
 use Rattle.link_sim.specs.declared.event.Applied.{Applied}
 use Rattle.link_sim.specs.declared.event.Applied.TheVariants as did
 use Rattle.link_sim.specs.declared.event.Event.{Event}
 use Rattle.link_sim.specs.declared.event.Event.TheVariants as event
 use Rattle.link_sim.specs.FrameLink.{most_struck, FrameLinkState, FrameLinksState, lane_of_links, oldest}
-use Rattle.link_sim.specs.declared.world_config.WorldConfig.{WorldConfig}
-use Rattle.link_sim.specs.AtStation.{AreCarried, AreSameMarks, FailsAt, FillsAt, FrameArrivesAt, HearsAt, KeepsFailures, KeepsOutbox, SendsOneAt, StrikesAt}
+use Rattle.station_pair.specs.declared.world_config.WorldConfig.{WorldConfig}
+use Rattle.link_sim.specs.AtStation.{AreCarried, AreSameMarks, FailsAt, FillsAt, FrameArrivesAt, HearsAt, SendsOneAt, StrikesAt}
+use Rattle.cfdp_station.specs.Failures.{KeepsFailures, KeepsOutbox}
 use Rattle.link_sim.specs.OneWay.{IsCarried}
 use Rattle.link_sim.specs.Running.{AreSteps, Called, Happens, Led}
-use Rattle.link_sim.specs.World.State.{WorldState, IsFirst, IsFirstAt}
+use Rattle.link_sim.specs.World.State.{WorldState, IsFirst}
+use Rattle.cfdp_station.specs.New.{IsFirstAt}
 use Rattle.link_sim.specs.World.Steps.{Steps, TellsTime}
-use Rattle.link_sim.specs.Stations.{IsWorldConfig}
+use Rattle.station_pair.specs.Stations.{IsWorldConfig}
 use Rattle.link_sim.proofs.Events.AtStations.{delivered_at, first_carried, struck_at}
 use Rattle.link_sim.proofs.Events.Behind.{AreBehind, FillsBoth, IsBehind, SendsDown, all_left, all_sent, flush_both, lane_leaves, none_behind, one_more, sends_down}
 use Rattle.link_sim.proofs.Events.InWorlds.{delivers-one, delivers-two, flushes-one, flushes-two, polls-one, polls-two, strikes-one, strikes-two, world_of}

@@ -15,14 +15,14 @@ use Rattle.aos_frame.specs.declared.config.Lane.{Lane}
 use Rattle.aos_frame.specs.declared.config.Lane.TheVariants.{Directives, Data}
 use Rattle.link_stack.specs.Downward.{DownState, LinkSenderState, Flushes, IsDown, SendsPdu, first_down, first_lane_down, lane_down, packing, sealed_frame}
 use Rattle.link_stack.specs.Upward.{LinkReceiverState, IsUp, UpState, first_lane_up, first_up, lane_of, lane_up}
-use Rattle.cfdp_station.specs.Link.{FlushesBoth}
+use Rattle.cfdp_station.specs.Link.{FlushesBoth, IsNotWhole}
 use Rattle.cfdp_station.specs.Station.{StationState}
 use Rattle.cfdp_station.specs.Taking.{GivesPdus, TakesFrame}
 use Rattle.link_sim.specs.declared.event.Applied.{Applied}
 use Rattle.link_sim.specs.declared.event.Applied.TheVariants as did
-use Rattle.link_sim.specs.declared.event.Refusal.TheVariants as refusal
+use Rattle.station_pair.specs.declared.refusal.Refusal.TheVariants as refusal
 use Rattle.link_sim.specs.FrameLink.{FrameLinkState, FrameLinksState, lane_of_links, oldest}
-use Rattle.link_sim.specs.AtStation.{AddsNone, AreCarried, AreSameLinks, AreSetUp, CarryOn, FrameArrivesAt, HearsAt, IsNotWhole, IsSameEnd, IsSameLink, IsSameMarks, OnlySends, PullsAll, PullsBoth, StrikesAt}
+use Rattle.link_sim.specs.AtStation.{AddsNone, AreCarried, AreSameLinks, AreSetUp, CarryOn, FrameArrivesAt, HearsAt, IsSameEnd, IsSameLink, IsSameMarks, OnlySends, PullsAll, PullsBoth, StrikesAt}
 use Rattle.link_sim.specs.OneWay.{OneWayState, IsOneWay, IsOneWayOf, IsCarried, IsRested, SendsMore, SendsNone, HearsMore, one_way, packets_sent}
 use Rattle.link_sim.proofs.Lanes.Frames.{sealed-channel}
 use Rattle.link_sim.proofs.Lanes.Each.{each-lane, either-lane, lane-valid}

@@ -19,16 +19,16 @@ use Rattle.cfdp_entity.specs.Entity.{EntityState, first_entity}
 use Rattle.cfdp_entity.specs.Sound.{IsSound as IsSoundEntity}
 use Rattle.cfdp_station.specs.Station.{StationState}
 use Rattle.cfdp_station.specs.declared.config.StationConfig.{StationConfig}
-use Rattle.link_sim.specs.declared.side.Side.{Side}
-use Rattle.link_sim.specs.declared.side.Side.TheVariants.{One, Two}
+use Rattle.station_pair.specs.declared.side.Side.{Side}
+use Rattle.station_pair.specs.declared.side.Side.TheVariants.{One, Two}
 use Rattle.link_sim.specs.declared.event.Event.{Event}
 use Rattle.link_sim.specs.declared.event.Event.TheVariants as event
 use Rattle.link_sim.specs.declared.event.Applied.{Applied}
 use Rattle.link_sim.specs.declared.event.Applied.TheVariants as did
-use Rattle.link_sim.specs.declared.event.Refusal.TheVariants as refusal
+use Rattle.station_pair.specs.declared.refusal.Refusal.TheVariants as refusal
 use Rattle.link_sim.specs.declared.event.AcceptedPut.{AcceptedPut}
-use Rattle.link_sim.specs.declared.world_config.WorldConfig.{WorldConfig}
-use Rattle.link_sim.specs.Stations.{IsWorldConfig, other}
+use Rattle.station_pair.specs.declared.world_config.WorldConfig.{WorldConfig}
+use Rattle.station_pair.specs.Stations.{IsWorldConfig, other}
 use Rattle.link_sim.specs.OneWay.{pdus_sent, pdus_delivered}
 use Rattle.link_sim.specs.World.State.{WorldState, AreWays, LanesState, delivered_from, entity_at, files_at, no_lanes, on_lane, sent_from, way, IsFirst}
 use Rattle.link_sim.specs.World.Steps.{Puts, Calls, Polls, Flushes, Delivers, Strikes, Damages, Steps}

@@ -22,9 +22,9 @@ use Rattle.mpdu.proofs.Packed.{pushed, zone_taken}
 use Rattle.link_stack.specs.Frames.{AreOfLink, packet_drop, packet_of, frame_of, pdus_in, zone_in}
 use Rattle.link_stack.specs.Downward.{DownState, LinkSenderState, Flushes, IsDown, MakesFrame, SendsPdu, lane_down, packing, sealed_frame}
 use Rattle.link_stack.specs.Upward.{LinkReceiverState, UpState, lane_up}
-use Rattle.cfdp_station.specs.Link.{FlushesBoth}
+use Rattle.cfdp_station.specs.Link.{FlushesBoth, IsNotWhole}
 use Rattle.link_sim.specs.FrameLink.{FrameLinkState, FrameLinksState, lane_of_links}
-use Rattle.link_sim.specs.AtStation.{AddsNone, AreCarried, AreSameMarks, FillsLaneAt, IsNotWhole, IsSameEnd, IsSameLink, IsSameMarks, KeepsLaneAt, SendsAt}
+use Rattle.link_sim.specs.AtStation.{AddsNone, AreCarried, AreSameMarks, FillsLaneAt, IsSameEnd, IsSameLink, IsSameMarks, KeepsLaneAt, SendsAt}
 use Rattle.link_sim.specs.OneWay.{OneWayState, IsOneWay, IsCarried, SendsMore, one_way, packets_sent, pdus_sent, zones_of}
 use Rattle.link_sim.proofs.Events.AtStations.{filled_on, flushed_none, moved_on}
 use Rattle.link_sim.proofs.Lanes.Each.{each-lane}

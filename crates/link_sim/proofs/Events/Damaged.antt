@@ -13,8 +13,8 @@ use Rattle.cfdp_station.specs.Taking.{HearsAll, TakesFrame}
 use Rattle.link_sim.specs.declared.event.AcceptedPut.{AcceptedPut}
 use Rattle.link_sim.specs.declared.event.Applied.{Applied}
 use Rattle.link_sim.specs.declared.event.Applied.TheVariants as did
-use Rattle.link_sim.specs.declared.event.Refusal.TheVariants as refusal
-use Rattle.link_sim.specs.declared.side.Side.TheVariants.{One, Two}
+use Rattle.station_pair.specs.declared.refusal.Refusal.TheVariants as refusal
+use Rattle.station_pair.specs.declared.side.Side.TheVariants.{One, Two}
 use Rattle.link_sim.specs.AtStation.{AreCarried, AreSetUp, DamagesAt}
 use Rattle.link_sim.specs.FrameLink.{FrameLinksState, lane_of_links, most_struck}
 use Rattle.link_sim.specs.OneWay.{OneWayState, IsOneWay, SendsNone, one_way}

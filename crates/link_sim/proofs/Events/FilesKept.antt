@@ -38,10 +38,10 @@ use Rattle.link_sim.specs.declared.event.Applied.{Applied}
 use Rattle.link_sim.specs.declared.event.Applied.TheVariants as did
 use Rattle.link_sim.specs.declared.event.Event.{Event}
 use Rattle.link_sim.specs.declared.event.Event.TheVariants as event
-use Rattle.link_sim.specs.declared.event.Refusal.TheVariants as refusal
-use Rattle.link_sim.specs.declared.side.Side.{Side}
-use Rattle.link_sim.specs.declared.side.Side.TheVariants.{One, Two}
-use Rattle.link_sim.specs.Stations.{other}
+use Rattle.station_pair.specs.declared.refusal.Refusal.TheVariants as refusal
+use Rattle.station_pair.specs.declared.side.Side.{Side}
+use Rattle.station_pair.specs.declared.side.Side.TheVariants.{One, Two}
+use Rattle.station_pair.specs.Stations.{other}
 use Rattle.link_sim.specs.World.State.{WorldState, entity_at, published_at, station_at}
 use Rattle.link_sim.specs.World.Steps.{Calls, Damages, Delivers, Flushes, Polls, PublishesAt, Puts, Stays, Steps, Strikes}
 use Rattle.link_sim.proofs.Events.Keeping.{both}

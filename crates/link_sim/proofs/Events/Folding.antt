@@ -6,7 +6,7 @@ use Rattle.cfdp_header.specs.Files.{FileMap}
 use Rattle.cfdp_directives.specs.User.Put.{Put, overwritten, inbox_after}
 use Rattle.cfdp_directives.proofs.Puts.{inbox_after-append, Contains-append_right}
 use Rattle.cfdp_entity.specs.Sound.{FindsMore}
-use Rattle.link_sim.specs.declared.side.Side.{Side}
+use Rattle.station_pair.specs.declared.side.Side.{Side}
 use Rattle.link_sim.specs.Calls.{Upholds}
 use Rattle.link_sim.specs.Observed.{seen}
 use Rattle.link_sim.specs.World.State.{WorldState}

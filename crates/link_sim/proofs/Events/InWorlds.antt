@@ -10,15 +10,15 @@ use Rattle.link_stack.specs.Upward.{LinkReceiverState, lane_up}
 use Rattle.cfdp_station.specs.Link.{next_lane}
 use Rattle.cfdp_station.specs.Station.{StationState}
 use Rattle.cfdp_station.specs.Taking.{GivesPdus}
-use Rattle.link_sim.specs.declared.side.Side.{Side}
-use Rattle.link_sim.specs.declared.side.Side.TheVariants.{One, Two}
+use Rattle.station_pair.specs.declared.side.Side.{Side}
+use Rattle.station_pair.specs.declared.side.Side.TheVariants.{One, Two}
 use Rattle.link_sim.specs.declared.event.AcceptedPut.{AcceptedPut}
 use Rattle.std.specs.declared.alloc.AllocError.{AllocError}
 use Rattle.link_sim.specs.declared.event.Event.{Event}
 use Rattle.link_sim.specs.Calls.{TriesEvent}
 use Rattle.link_sim.specs.declared.event.Applied.{Applied}
 use Rattle.link_sim.specs.declared.event.Applied.TheVariants as did
-use Rattle.link_sim.specs.declared.event.Refusal.TheVariants as refusal
+use Rattle.station_pair.specs.declared.refusal.Refusal.TheVariants as refusal
 use Rattle.link_sim.specs.FrameLink.{FrameLinkState, FrameLinksState, lane_of_links, most_struck}
 use Rattle.link_sim.specs.AtStation.{AreCarried, AreSameLinks, AreSameMarks, FailsAt, FlushesAt, FrameArrivesAt, HearsAt, IsSameLink, KeepsAt, PollsAt, SendsOneAt, StrikesAt}
 use Rattle.link_sim.specs.OneWay.{HearsMore, IsCarried, IsOneWay, SendsMore, SendsNone, one_way}

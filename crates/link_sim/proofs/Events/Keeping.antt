@@ -14,10 +14,10 @@ use Rattle.cfdp_directives.proofs.Puts.{completions-append, inbox_after-append, 
 use Rattle.mpdu.specs.Parts.{IsPartOf}
 use Rattle.cfdp_entity.specs.Entity.{EntityState}
 use Rattle.cfdp_entity.specs.Sound.{IsSound as IsSoundEntity, FindsMore, ComesTrue, SaysDelivered, GoesOn}
-use Rattle.link_sim.specs.declared.side.Side.{Side}
-use Rattle.link_sim.specs.declared.side.Side.TheVariants.{One, Two}
+use Rattle.station_pair.specs.declared.side.Side.{Side}
+use Rattle.station_pair.specs.declared.side.Side.TheVariants.{One, Two}
 use Rattle.link_sim.specs.declared.event.AcceptedPut.{AcceptedPut}
-use Rattle.link_sim.specs.Stations.{other}
+use Rattle.station_pair.specs.Stations.{other}
 use Rattle.link_sim.specs.Runs.{IsSwapped}
 use Rattle.link_sim.specs.World.State.{WorldState, AreWays, delivered_from, entity_at, sent_from}
 use Rattle.link_sim.specs.Theorem.{at, put_of, completions_at, FoldsAt, CausedAt, ToldAt, TruthAt, HoldsAt}

@@ -29,10 +29,10 @@ use Rattle.cfdp_entity.specs.Table.{Ticks}
 use Rattle.cfdp_station.specs.Link.{next_lane}
 use Rattle.cfdp_station.specs.Taking.{HearsPdu, HearsAll}
 use Rattle.mpdu.specs.Parts.{IsPartOf}
-use Rattle.link_sim.specs.declared.side.Side.{Side}
-use Rattle.link_sim.specs.declared.side.Side.TheVariants.{One, Two}
+use Rattle.station_pair.specs.declared.side.Side.{Side}
+use Rattle.station_pair.specs.declared.side.Side.TheVariants.{One, Two}
 use Rattle.link_sim.specs.declared.event.AcceptedPut.{AcceptedPut}
-use Rattle.link_sim.specs.Stations.{other}
+use Rattle.station_pair.specs.Stations.{other}
 use Rattle.link_sim.specs.OneWay.{IsOneWay, pdus_sent, pdus_delivered}
 use Rattle.link_sim.specs.Runs.{IsSwapped}
 use Rattle.link_sim.specs.World.State.{WorldState, AreWays, delivered_from, entity_at, sent_from, station_at, way_from}

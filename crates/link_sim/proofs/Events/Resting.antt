@@ -14,11 +14,11 @@ use Rattle.link_sim.specs.declared.event.Applied.{Applied}
 use Rattle.link_sim.specs.declared.event.Applied.TheVariants as did
 use Rattle.link_sim.specs.declared.event.Event.{Event}
 use Rattle.link_sim.specs.declared.event.Event.TheVariants as event
-use Rattle.link_sim.specs.declared.event.Refusal.TheVariants as refusal
-use Rattle.link_sim.specs.declared.side.Side.{Side}
+use Rattle.station_pair.specs.declared.refusal.Refusal.TheVariants as refusal
+use Rattle.station_pair.specs.declared.side.Side.{Side}
 use Rattle.link_sim.specs.OneWay.{OneWayState, IsOneWay, IsRested, SendsMore}
 use Rattle.link_sim.specs.Running.{AreApart}
-use Rattle.link_sim.specs.Stations.{other}
+use Rattle.station_pair.specs.Stations.{other}
 use Rattle.link_sim.specs.Sound.{IsSound}
 use Rattle.link_sim.specs.World.State.{WorldState, AreRested, LanesState, LinkState, entity_at, lane_from, link_from, on_lane, station_at, way, way_from}
 use Rattle.link_sim.specs.World.Steps.{DeliversFrame, Fills, KeepsLinks, KeepsMarks, LosesFrame, SendsOne, Spares, Steps, TakesPut}

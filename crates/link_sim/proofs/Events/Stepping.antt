@@ -4,7 +4,7 @@ use Rattle.std.specs.Prelude.{Result, Ok, Err, IfOk, OnErr}
 use Rattle.std.specs.declared.alloc.AllocError.{AllocError}
 use Rattle.link_sim.specs.declared.event.Event.{Event}
 use Rattle.link_sim.specs.declared.event.Applied.{Applied}
-use Rattle.link_sim.specs.declared.side.Side.{Side}
+use Rattle.station_pair.specs.declared.side.Side.{Side}
 use Rattle.link_sim.specs.World.State.{WorldState}
 use Rattle.link_sim.specs.World.Steps.{FindsNoMemory, Stays, Steps, side_in}
 

@@ -5,9 +5,9 @@ use Rattle.aos_frame.specs.Frame.{other_lane}
 use Rattle.aos_frame.specs.declared.config.Lane.{Lane}
 use Rattle.link_stack.specs.Drops.{count_of}
 use Rattle.link_stack.specs.Upward.{LinkReceiverState, UpState, drop_count, lane_up}
-use Rattle.link_sim.specs.declared.side.Side.{Side}
+use Rattle.station_pair.specs.declared.side.Side.{Side}
 use Rattle.link_sim.specs.EveryPut.{LosesNoneAt, LosesNone}
-use Rattle.link_sim.specs.Stations.{other}
+use Rattle.station_pair.specs.Stations.{other}
 use Rattle.link_sim.specs.World.State.{WorldState, LanesState, LinkState, lane_from, link_from, on_lane, station_at}
 use Rattle.link_sim.specs.World.Steps.{KeepsLinks, KeepsMarks, DeliversFrame, LosesFrame}
 use Rattle.link_sim.proofs.Events.Keeping.{both}

@@ -8,8 +8,8 @@ use Rattle.cfdp_header.proofs.Ids.{same_id-is}
 use Rattle.cfdp_directives.specs.User.Put.{Put}
 use Rattle.cfdp_entity.specs.Sound.{FindsMore}
 use Rattle.link_sim.specs.declared.event.AcceptedPut.{AcceptedPut}
-use Rattle.link_sim.specs.declared.side.Side.{Side}
-use Rattle.link_sim.specs.declared.side.Side.TheVariants.{One, Two}
+use Rattle.station_pair.specs.declared.side.Side.{Side}
+use Rattle.station_pair.specs.declared.side.Side.TheVariants.{One, Two}
 use Rattle.link_sim.specs.Known.{AddsPut}
 use Rattle.link_sim.specs.Theorem.{WorldSeen, at, side_of, accepted_as, put_at, put_by, put_of}
 use Rattle.link_sim.proofs.Found.Puts.{SendsSame, puts-more}

@@ -11,13 +11,13 @@ use Rattle.cfdp_receiver.specs.State.{ReceiverState}
 use Rattle.cfdp_entity.specs.Entity.{EntityState}
 use Rattle.cfdp_entity.specs.Seen.{Seen, Sends, Receives}
 use Rattle.cfdp_entity.specs.Table.{record_of}
-use Rattle.link_sim.specs.declared.side.Side.{Side}
+use Rattle.station_pair.specs.declared.side.Side.{Side}
 use Rattle.link_sim.specs.Between.{of_id, IsReceiverIn, AreSpelled}
 use Rattle.link_sim.specs.Found.{HasExchange}
 use Rattle.link_sim.specs.OneWay.{OneWayState, on_way, arriving, IsOneWay}
 use Rattle.link_sim.specs.Runs.{Exchange}
 use Rattle.link_sim.specs.Settling.{IsSettled}
-use Rattle.link_sim.specs.Stations.{other}
+use Rattle.station_pair.specs.Stations.{other}
 use Rattle.link_sim.specs.Sound.{IsSound}
 use Rattle.link_sim.specs.Stages.{IsAtRest, NothingDue}
 use Rattle.link_sim.specs.World.State.{AreRested, AreWays, WorldState, arriving_from, entity_at, on_way_from, way_from}

@@ -15,7 +15,7 @@ use Rattle.cfdp_entity.specs.Seen.{Seen, Sends, Receives}
 use Rattle.cfdp_entity.specs.Table.{record_of}
 use Rattle.cfdp_entity.specs.Truth.{KnowsTruth}
 use Rattle.cfdp_entity.proofs.CallerLemmas.{same_id-true}
-use Rattle.link_sim.specs.declared.side.Side.{Side}
+use Rattle.station_pair.specs.declared.side.Side.{Side}
 use Rattle.link_sim.specs.Between.{Pdu, of_id, IsReceiverIn, IsOnCourse, IsUnspoiled, AreSpelled}
 use Rattle.link_sim.specs.Course.{IsCourse}
 use Rattle.link_sim.specs.EveryPut.{KeepCourse}
@@ -24,7 +24,7 @@ use Rattle.link_sim.specs.Known.{IsSending, AreKnown}
 use Rattle.link_sim.specs.Observed.{seen}
 use Rattle.link_sim.specs.OneWay.{OneWayState, on_way, arriving, IsOneWay}
 use Rattle.link_sim.specs.Runs.{Exchange}
-use Rattle.link_sim.specs.Stations.{other}
+use Rattle.station_pair.specs.Stations.{other}
 use Rattle.link_sim.specs.Sound.{IsSound}
 use Rattle.link_sim.specs.Theorem.{put_of}
 use Rattle.link_sim.specs.World.State.{AreWays, WorldState, arriving_from, delivered_from, entity_at, on_way_from, way_from}

@@ -19,14 +19,14 @@ use Rattle.link_sim.specs.Found.{HasExchange, ExpiresHere, ExpiresThere, Expires
 use Rattle.link_sim.specs.Known.{AreKnown}
 use Rattle.link_sim.specs.Observed.{seen}
 use Rattle.link_sim.specs.Runs.{Exchange, expire_sender, ReceiverExpires}
-use Rattle.link_sim.specs.Stations.{other}
+use Rattle.station_pair.specs.Stations.{other}
 use Rattle.link_sim.specs.Sound.{IsSound}
 use Rattle.link_sim.specs.Stages.{AreWaitedBySender, AreWaitedByReceiver}
 use Rattle.link_sim.specs.Theorem.{put_of}
 use Rattle.link_sim.specs.Waiting.{one_tells}
 use Rattle.link_sim.specs.World.State.{WorldState, arriving_from, entity_at}
 use Rattle.link_sim.specs.World.Steps.{TellsTime}
-use Rattle.link_sim.specs.declared.side.Side.{Side}
+use Rattle.station_pair.specs.declared.side.Side.{Side}
 use Rattle.link_sim.proofs.Found.ExpiresWorld.{kinds_of, fired-sender, fired-receiver, fired-none, fired-waited, fired-all, expired-rest, none-expires, none-waited, SendsIn, Received, StaysNone}
 use Rattle.link_sim.proofs.Events.Keeping.{other-other}
 use Rattle.link_sim.proofs.EveryPut.Known.{ticks-known, same-known}

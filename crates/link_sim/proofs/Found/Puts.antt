@@ -8,8 +8,8 @@ use Rattle.cfdp_header.specs.Ids.{same_id}
 use Rattle.cfdp_header.proofs.Ids.{same_id-is, same_id-itself}
 use Rattle.cfdp_directives.specs.User.Put.{Put}
 use Rattle.cfdp_entity.specs.Sound.{FindsMore, FindsById}
-use Rattle.link_sim.specs.declared.side.Side.{Side}
-use Rattle.link_sim.specs.declared.side.Side.TheVariants.{One, Two}
+use Rattle.station_pair.specs.declared.side.Side.{Side}
+use Rattle.station_pair.specs.declared.side.Side.TheVariants.{One, Two}
 use Rattle.link_sim.specs.declared.event.AcceptedPut.{AcceptedPut}
 use Rattle.link_sim.specs.Theorem.{StationSeen, WorldSeen, at, accepted_as, side_of, with_octets, put_at, put_by, put_of}
 

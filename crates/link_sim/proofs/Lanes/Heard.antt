@@ -9,7 +9,7 @@ use Rattle.mpdu.specs.Stream.{survivors}
 use Rattle.mpdu.proofs.Fewer.{survivors-busy}
 use Rattle.mpdu.proofs.Parts.{part-map}
 use Rattle.link_stack.specs.Frames.{pdus_in}
-use Rattle.link_sim.specs.declared.side.Side.{Side}
+use Rattle.station_pair.specs.declared.side.Side.{Side}
 use Rattle.link_sim.specs.OneWay.{OneWayState, packets_sent, pdus_delivered, pdus_sent}
 use Rattle.link_sim.specs.Runs.{IsSwapped}
 use Rattle.link_sim.specs.World.State.{WorldState, delivered_from, sent_from, way_from}

@@ -2,7 +2,7 @@
 use Rattle.std.proofs.Common.{◌≡◌, ℕ, ◌+◌, List, ◌++◌, ap, ◌∙◌}
 use Rattle.aos_frame.specs.declared.config.Lane.{Lane}
 use Rattle.aos_frame.specs.declared.config.Lane.TheVariants.{Directives, Data}
-use Rattle.link_sim.specs.declared.side.Side.{Side}
+use Rattle.station_pair.specs.declared.side.Side.{Side}
 use Rattle.link_sim.specs.OneWay.{OneWayState, arriving, on_way}
 use Rattle.link_sim.specs.Work.{octets_left, octets_left_from}
 use Rattle.link_sim.specs.World.State.{WorldState, arriving_from, on_way_from, way_from}

@@ -4,9 +4,9 @@ use Rattle.aos_frame.specs.Frame.{other_lane}
 use Rattle.aos_frame.specs.declared.config.Lane.{Lane}
 use Rattle.link_stack.specs.Downward.{DownState, LinkSenderState, lane_down}
 use Rattle.link_stack.specs.Upward.{LinkReceiverState, UpState, lane_up}
-use Rattle.link_sim.specs.declared.side.Side.{Side}
-use Rattle.link_sim.specs.declared.side.Side.TheVariants.{One, Two}
-use Rattle.link_sim.specs.Stations.{other}
+use Rattle.station_pair.specs.declared.side.Side.{Side}
+use Rattle.station_pair.specs.declared.side.Side.TheVariants.{One, Two}
+use Rattle.station_pair.specs.Stations.{other}
 use Rattle.link_sim.specs.OneWay.{OneWayState, IsOneWay, SendsNone, pdus_delivered, pdus_sent}
 use Rattle.link_sim.specs.World.State.{WorldState, AreWays, LanesState, LinkState, delivered_from, lane_from, link_from, on_lane, sent_from, station_at, way, way_from}
 use Rattle.link_sim.specs.World.Steps.{KeepsLinks, KeepsMarks, KeepsOther, DeliversFrame, LosesFrame, StrikesFrame}

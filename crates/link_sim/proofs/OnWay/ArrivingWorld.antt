@@ -9,10 +9,10 @@ use Rattle.link_stack.specs.Frames.{pdus_in}
 use Rattle.link_stack.specs.Upward.{LinkReceiverState, drop_count, lane_up}
 use Rattle.cfdp_station.specs.Link.{next_lane}
 use Rattle.cfdp_station.specs.Polling.{next_pdu}
-use Rattle.link_sim.specs.declared.side.Side.{Side}
+use Rattle.station_pair.specs.declared.side.Side.{Side}
 use Rattle.link_sim.specs.OneWay.{OneWayState, packets_sent, pdus_sent, behind, on_way, unbroken, arriving, IsOneWay, SendsMore}
 use Rattle.link_sim.specs.Runs.{IsSwapped}
-use Rattle.link_sim.specs.Stations.{other}
+use Rattle.station_pair.specs.Stations.{other}
 use Rattle.link_sim.specs.World.State.{WorldState, AreWays, arriving_from, entity_at, station_at, way_from}
 use Rattle.link_sim.specs.World.Steps.{SendsOne, Fills, DeliversFrame, filling}
 use Rattle.link_sim.proofs.Lanes.Counts.{sum-low, sum-other}

@@ -11,8 +11,8 @@ use Rattle.link_stack.specs.Downward.{DownState, LinkSenderState, lane_down}
 use Rattle.link_stack.specs.Upward.{drop_count, lane_up}
 use Rattle.cfdp_station.specs.Link.{next_lane}
 use Rattle.cfdp_station.specs.Polling.{next_pdu}
-use Rattle.link_sim.specs.declared.side.Side.{Side}
-use Rattle.link_sim.specs.Stations.{other}
+use Rattle.station_pair.specs.declared.side.Side.{Side}
+use Rattle.station_pair.specs.Stations.{other}
 use Rattle.link_sim.specs.OneWay.{OneWayState, behind, on_way, packets_sent}
 use Rattle.link_sim.specs.Runs.{IsSwapped}
 use Rattle.link_sim.specs.Settling.{IsSettledAt}

@@ -13,7 +13,7 @@ use Rattle.link_sim.specs.Theorem.{put_of}
 use Rattle.link_sim.specs.Tracks.{KeepsPutsOf, RunsAlong}
 use Rattle.link_sim.specs.World.State.{WorldState}
 use Rattle.link_sim.specs.World.Steps.{Steps, TellsTime}
-use Rattle.link_sim.specs.declared.side.Side.{Side}
+use Rattle.station_pair.specs.declared.side.Side.{Side}
 use Rattle.link_sim.proofs.EveryPut.Puts.{same-puts}
 use Rattle.link_sim.proofs.Events.Moving.{EntityLaws, Moves, sends-one, sends-two}
 use Rattle.link_sim.proofs.Runs.World.{runs-on-same, runs-on-trans}

@@ -12,8 +12,8 @@ use Rattle.cfdp_entity.proofs.CallerLemmas.{same_id-true}
 use Rattle.link_sim.specs.Found.{IsPutOf}
 use Rattle.link_sim.specs.Tracks.{StandsIn, AllTracked, KeepsPutsOf, GetsDone, Advances, is_done, done_at}
 use Rattle.link_sim.specs.World.State.{WorldState, entity_at}
-use Rattle.link_sim.specs.declared.side.Side.{Side}
-use Rattle.link_sim.specs.declared.side.Side.TheVariants.{One, Two}
+use Rattle.station_pair.specs.declared.side.Side.{Side}
+use Rattle.station_pair.specs.declared.side.Side.TheVariants.{One, Two}
 
 -- ---- counts
 pub how_many : {X : Type 0} → (X → Bool) → List X → ℕ

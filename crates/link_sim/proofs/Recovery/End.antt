@@ -20,14 +20,14 @@ use Rattle.link_sim.specs.Clean.{IsCompleteAt}
 use Rattle.link_sim.specs.Found.{IsPutOf}
 use Rattle.link_sim.specs.Observed.{seen}
 use Rattle.link_sim.specs.Runs.{Exchange}
-use Rattle.link_sim.specs.Stations.{other}
+use Rattle.station_pair.specs.Stations.{other}
 use Rattle.link_sim.specs.Sound.{IsSound}
 use Rattle.link_sim.specs.Stages.{Stands, IsCompleteExchange}
 use Rattle.link_sim.specs.Theorem.{accepted_as}
 use Rattle.link_sim.specs.Tracks.{StandsIn}
 use Rattle.link_sim.specs.Waiting.{IsCompleted}
 use Rattle.link_sim.specs.World.State.{WorldState, entity_at}
-use Rattle.link_sim.specs.declared.side.Side.{Side}
+use Rattle.station_pair.specs.declared.side.Side.{Side}
 use Rattle.link_sim.proofs.Clean.Ends.{complete-at, side-is}
 use Rattle.link_sim.proofs.Found.Puts.{found-by, accepted-among}
 

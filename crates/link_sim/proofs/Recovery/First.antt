@@ -23,13 +23,13 @@ use Rattle.link_sim.specs.EveryPut.{KeepsPuts}
 use Rattle.link_sim.specs.Exchange.{maybe}
 use Rattle.link_sim.specs.Found.{IsPutOf, HasExchange, RunsTo}
 use Rattle.link_sim.specs.Runs.{Exchange, IsItsSender, Runs}
-use Rattle.link_sim.specs.Stations.{other}
+use Rattle.station_pair.specs.Stations.{other}
 use Rattle.link_sim.specs.Sound.{IsSound}
 use Rattle.link_sim.specs.Stages.{Stands, IsAtRest, IsActiveCourse, IsBelow, IsReceiverBelow, IsOver, IsOverAt}
 use Rattle.link_sim.specs.Tracks.{StandsIn, StandsOf, OverIn, AllStand, AllTracked, RunsAlong}
 use Rattle.link_sim.specs.Waiting.{policy_at, is_open, is_open_sender, is_open_receiver, IsWaitingRecord, IsWaitingIn, IsWaiting, IsOpen, IsComing, IsUnfinished, AllWait, IsUncancelled}
 use Rattle.link_sim.specs.World.State.{WorldState, arriving_from, entity_at, on_way_from}
-use Rattle.link_sim.specs.declared.side.Side.{Side}
+use Rattle.station_pair.specs.declared.side.Side.{Side}
 use Rattle.link_sim.proofs.Clean.Puts.{IsText, text-at}
 use Rattle.link_sim.proofs.Events.Keeping.{other-other}
 use Rattle.link_sim.proofs.Recovery.Records.{IsSentHere, IsReceivedHere, sent-here, received-here, its-sender}

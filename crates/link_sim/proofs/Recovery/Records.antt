@@ -18,14 +18,14 @@ use Rattle.link_sim.specs.Found.{IsPutOf, HasExchange}
 use Rattle.link_sim.specs.Known.{IsWithPeer}
 use Rattle.link_sim.specs.Observed.{seen}
 use Rattle.link_sim.specs.Runs.{Exchange, IsItsSender}
-use Rattle.link_sim.specs.Stations.{other}
+use Rattle.station_pair.specs.Stations.{other}
 use Rattle.link_sim.specs.Sound.{IsSound}
 use Rattle.link_sim.specs.Stages.{is_answered}
 use Rattle.link_sim.specs.Theorem.{put_of}
 use Rattle.link_sim.specs.Tracks.{is_done, done_at}
 use Rattle.link_sim.specs.World.State.{WorldState, entity_at}
-use Rattle.link_sim.specs.declared.side.Side.{Side}
-use Rattle.link_sim.specs.declared.side.Side.TheVariants.{One, Two}
+use Rattle.station_pair.specs.declared.side.Side.{Side}
+use Rattle.station_pair.specs.declared.side.Side.TheVariants.{One, Two}
 use Rattle.link_sim.proofs.Clean.Puts.{StandsAt, stands-at}
 use Rattle.link_sim.proofs.Found.Puts.{puts-by-id}
 

@@ -10,11 +10,11 @@ use Rattle.link_sim.specs.Sound.{IsSound}
 use Rattle.link_sim.specs.Tracks.{AllStand, KeepsPutsOf, StandsOf}
 use Rattle.link_sim.specs.Waiting.{AllWait, IgnoreInactivity, IsCompleted, IsUnfinished}
 use Rattle.link_sim.specs.World.State.{WorldState, entity_at}
-use Rattle.link_sim.specs.declared.recover_error.RecoverError.{RecoverError}
-use Rattle.link_sim.specs.declared.recover_error.RecoverError.TheVariants.{Settle, StillArmed}
-use Rattle.link_sim.specs.declared.settle_error.SettleError.{SettleError}
-use Rattle.link_sim.specs.declared.side.Side.{Side}
-use Rattle.link_sim.specs.declared.side.Side.TheVariants.{One, Two}
+use Rattle.station_pair.specs.declared.recover_error.RecoverError.{RecoverError}
+use Rattle.station_pair.specs.declared.recover_error.RecoverError.TheVariants.{Settle, StillArmed}
+use Rattle.station_pair.specs.declared.settle_error.SettleError.{SettleError}
+use Rattle.station_pair.specs.declared.side.Side.{Side}
+use Rattle.station_pair.specs.declared.side.Side.TheVariants.{One, Two}
 use Rattle.link_sim.proofs.Stages.Stand.{stands-complete}
 use Rattle.link_sim.proofs.Recovery.Count.{AdvancesBy, AdvancesAll, all-advance, few-rounds}
 use Rattle.link_sim.proofs.Recovery.End.{completed}

@@ -28,14 +28,14 @@ use Rattle.link_sim.specs.EveryPut.{KeepsPuts}
 use Rattle.link_sim.specs.Exchange.{is_closed, is_closed_in, maybe}
 use Rattle.link_sim.specs.Found.{IsPutOf, HasExchange, RunsTo, ExpiresHere, ExpiresThere, ExpiresOn}
 use Rattle.link_sim.specs.Runs.{Exchange, IsItsSender, Runs, Settles, TellsMore, expire_sender, ReceiverExpires}
-use Rattle.link_sim.specs.Stations.{other}
+use Rattle.station_pair.specs.Stations.{other}
 use Rattle.link_sim.specs.Sound.{IsSound}
 use Rattle.link_sim.specs.Stages.{Stands, IsAtRest, IsOver, AreWaitedBySender, AreWaitedByReceiver, is_answered, is_answered_in}
 use Rattle.link_sim.specs.Tracks.{StandsIn, OverIn, AllTracked, KeepsPutsOf, RunsAlong, GetsDone, Advances, done_at}
 use Rattle.link_sim.specs.Waiting.{policy_at, IgnoreInactivity}
 use Rattle.link_sim.specs.World.State.{WorldState, entity_at}
-use Rattle.link_sim.specs.declared.side.Side.{Side}
-use Rattle.link_sim.specs.declared.side.Side.TheVariants.{One, Two}
+use Rattle.station_pair.specs.declared.side.Side.{Side}
+use Rattle.station_pair.specs.declared.side.Side.TheVariants.{One, Two}
 use Rattle.link_sim.proofs.Events.Keeping.{other-other}
 use Rattle.link_sim.proofs.EveryPut.Routes.{and-parts}
 use Rattle.link_sim.proofs.Recovery.Records.{done-sender, done-receiver, IsSentHere, IsReceivedHere, sent-here, received-here, its-sender, its-receiver}

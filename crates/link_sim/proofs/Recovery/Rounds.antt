@@ -6,11 +6,11 @@ use Rattle.link_sim.specs.declared.event.Event.{Event}
 use Rattle.link_sim.specs.declared.event.Event.TheVariants as event
 use Rattle.link_sim.specs.declared.event.Applied.{Applied}
 use Rattle.link_sim.specs.declared.event.Applied.TheVariants as did
-use Rattle.link_sim.specs.declared.settle_error.SettleError.{SettleError}
-use Rattle.link_sim.specs.declared.recover_error.RecoverError.{RecoverError}
-use Rattle.link_sim.specs.declared.recover_error.RecoverError.TheVariants.{Settle}
-use Rattle.link_sim.specs.declared.side.Side.{Side}
-use Rattle.link_sim.specs.declared.side.Side.TheVariants.{One, Two}
+use Rattle.station_pair.specs.declared.settle_error.SettleError.{SettleError}
+use Rattle.station_pair.specs.declared.recover_error.RecoverError.{RecoverError}
+use Rattle.station_pair.specs.declared.recover_error.RecoverError.TheVariants.{Settle}
+use Rattle.station_pair.specs.declared.side.Side.{Side}
+use Rattle.station_pair.specs.declared.side.Side.TheVariants.{One, Two}
 use Rattle.link_sim.specs.Calls.{TriesRecovery}
 use Rattle.link_sim.specs.Recovering.{AreRounds, EndsBy, HasEnded, IsNext, Recovers, Round, StaysArmed, armed_at, most_rounds, raised_by}
 use Rattle.link_sim.specs.Settling.{IsOfSettling, AreOfSettling, GoesWell, IsSettled}

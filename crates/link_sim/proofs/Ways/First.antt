@@ -9,12 +9,12 @@ use Rattle.aos_frame.specs.declared.config.LinkConfig.{LinkConfig}
 use Rattle.link_stack.specs.Downward.{DownState, LinkSenderState, IsDown, first_down, first_lane_down, lane_down}
 use Rattle.link_stack.specs.Upward.{LinkReceiverState, IsUp, UpState, first_lane_up, first_up, lane_up}
 use Rattle.link_stack.proofs.Grown.{new_is}
-use Rattle.link_sim.specs.declared.side.Side.{Side}
-use Rattle.link_sim.specs.declared.side.Side.TheVariants.{One, Two}
-use Rattle.link_sim.specs.declared.world_config.WorldConfig.{WorldConfig}
+use Rattle.station_pair.specs.declared.side.Side.{Side}
+use Rattle.station_pair.specs.declared.side.Side.TheVariants.{One, Two}
+use Rattle.station_pair.specs.declared.world_config.WorldConfig.{WorldConfig}
 use Rattle.link_sim.specs.OneWay.{IsOneWay, IsRested}
 use Rattle.link_sim.specs.World.State.{WorldState, LanesState, LinkState, AreRested, AreWays, IsFirst, no_frames, no_lanes, on_lane, way}
-use Rattle.link_sim.specs.Stations.{IsWorldConfig}
+use Rattle.station_pair.specs.Stations.{IsWorldConfig}
 use Rattle.link_sim.proofs.Lanes.Each.{lane-valid}
 use Rattle.link_sim.proofs.OnWay.Rests.{rests-unflushed}
 use Rattle.link_sim.proofs.Ways.Sending.{new_way, way_is}

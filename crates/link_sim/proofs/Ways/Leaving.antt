@@ -10,7 +10,7 @@ use Rattle.link_sim.specs.FrameLink.{FrameLinkState, FrameLinksState, lane_of_li
 use Rattle.link_sim.specs.AtStation.{AddsNone, IsSameEnd, IsSameMarks, PullsAll, PullsOne}
 use Rattle.link_sim.specs.OneWay.{IsOneWay, SendsNone, one_way}
 use Rattle.link_sim.proofs.Lanes.Each.{either-lane}
-use Rattle.link_sim.proofs.Lanes.Frames.{next-is_whole, none-is_whole}
+use Rattle.cfdp_station.proofs.Whole.{next-is_whole, none-is_whole}
 use Rattle.link_sim.proofs.Ways.Pulling.{one_less, pulled_more, pulled_none}
 
 -- where a whole zone waits, there is a buffer

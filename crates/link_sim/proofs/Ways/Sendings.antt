@@ -9,7 +9,7 @@ use Rattle.link_sim.specs.World.State.{WorldState}
 use Rattle.link_sim.specs.World.Steps.{FindsNoMemory, Steps}
 use Rattle.link_sim.specs.declared.event.Applied.TheVariants as did
 use Rattle.link_sim.specs.declared.event.Event.TheVariants as event
-use Rattle.link_sim.specs.declared.side.Side.{Side}
+use Rattle.station_pair.specs.declared.side.Side.{Side}
 
 -- what holds at an error holds of the answer
 pub on_err : {A E : Type 0} (r : Result A E) (P : Type 0) → P → OnErr r P

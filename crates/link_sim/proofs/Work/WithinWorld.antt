@@ -11,14 +11,14 @@ use Rattle.cfdp_entity.specs.declared.request.Request.TheVariants as calls
 use Rattle.cfdp_entity.specs.Config.{IsConfig}
 use Rattle.cfdp_entity.specs.Entity.{EntityState}
 use Rattle.cfdp_entity.specs.Polling.{turn, served}
-use Rattle.link_sim.specs.declared.side.Side.{Side}
+use Rattle.station_pair.specs.declared.side.Side.{Side}
 use Rattle.link_sim.specs.declared.event.Event.{Event}
 use Rattle.link_sim.specs.declared.event.Event.TheVariants as event
 use Rattle.link_sim.specs.declared.event.Applied.{Applied}
 use Rattle.link_sim.specs.declared.event.Applied.TheVariants as did
-use Rattle.link_sim.specs.declared.event.Refusal.TheVariants as refusal
-use Rattle.link_sim.specs.declared.world_config.WorldConfig.{WorldConfig}
-use Rattle.link_sim.specs.Stations.{other}
+use Rattle.station_pair.specs.declared.refusal.Refusal.TheVariants as refusal
+use Rattle.station_pair.specs.declared.world_config.WorldConfig.{WorldConfig}
+use Rattle.station_pair.specs.Stations.{other}
 use Rattle.link_sim.specs.Work.{AreWithin, most_offset}
 use Rattle.link_sim.specs.World.State.{WorldState, station_at, entity_at, IsFirst}
 use Rattle.link_sim.specs.World.Steps.{Spares, Stays, TakesPut, StepsAt, TellsTime, DeliversFrame, Puts, Calls, Polls, Flushes, Delivers, Strikes, Damages, Steps}

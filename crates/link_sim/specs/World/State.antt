@@ -3,18 +3,18 @@ use Rattle.std.specs.Prelude.{◌≡◌, ℕ, Bool, true, List, [], ◌++◌}
 use Rattle.aos_frame.specs.declared.config.Lane.{Lane}
 use Rattle.aos_frame.specs.declared.config.Lane.TheVariants.{Directives, Data}
 use Rattle.cfdp_header.specs.Files.{FileMap}
-use Rattle.link_stack.specs.Downward.{LinkSenderState, first_down, lane_down}
-use Rattle.link_stack.specs.Upward.{LinkReceiverState, first_up, lane_up}
-use Rattle.cfdp_entity.specs.Entity.{EntityState, entity_standing, first_entity}
+use Rattle.link_stack.specs.Downward.{LinkSenderState, lane_down}
+use Rattle.link_stack.specs.Upward.{LinkReceiverState, lane_up}
+use Rattle.cfdp_entity.specs.Entity.{EntityState}
+use Rattle.cfdp_station.specs.New.{IsFirstAt}
 use Rattle.cfdp_station.specs.Station.{StationState}
-use Rattle.cfdp_station.specs.declared.config.StationConfig.{StationConfig}
-use Rattle.link_sim.specs.declared.side.Side.{Side}
-use Rattle.link_sim.specs.declared.side.Side.TheVariants.{One, Two}
+use Rattle.station_pair.specs.declared.side.Side.{Side}
+use Rattle.station_pair.specs.declared.side.Side.TheVariants.{One, Two}
 use Rattle.link_sim.specs.declared.event.AcceptedPut.{AcceptedPut}
-use Rattle.link_sim.specs.declared.world_config.WorldConfig.{WorldConfig}
+use Rattle.station_pair.specs.declared.world_config.WorldConfig.{WorldConfig}
 use Rattle.link_sim.specs.FrameLink.{FrameLinkState, FrameLinksState}
 use Rattle.link_sim.specs.OneWay.{OneWayState, IsOneWay, IsRested, arriving, on_way, pdus_delivered, pdus_sent}
-use Rattle.link_sim.specs.Stations.{other}
+use Rattle.station_pair.specs.Stations.{other}
 
 -- All frames that a station sent in a lane, in order; the marks of those that no longer wait, in
 -- the same order: true where delivered; and how many of the last of these were struck in a row.
@@ -106,18 +106,6 @@ no_frames = record { frames = []; marks = []; run = 0 }
 
 abbrev pub no_lanes : LanesState
 no_lanes = record { directives = no_frames; file_data = no_frames }
-
--- A station that did nothing yet, with these files to send, which stand or don't, and these that
--- were published before.
-pub record IsNewAt (c : StationConfig) (stands : Bool) (sources files : FileMap) (s : StationState)
-    : Type 0 where
-  pub entity : s.entity.state ≡ entity_standing stands (first_entity sources files c.entity)
-  pub down : s.down ≡ first_down c.sends c.capacity
-  pub up : s.up ≡ first_up c.receives
-
--- One whose files stand.
-abbrev pub IsFirstAt : StationConfig → (sources files : FileMap) → StationState → Type 0
-IsFirstAt c sources files s = IsNewAt c true sources files s
 
 -- Nothing happened yet.
 pub record IsFirst (c : WorldConfig) (outboxes inboxes : FileMap × FileMap) (w : WorldState)

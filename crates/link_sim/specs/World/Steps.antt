@@ -32,16 +32,17 @@ use Rattle.cfdp_station.specs.Link.{next_lane}
 use Rattle.cfdp_station.specs.Polling.{next_pdu}
 use Rattle.cfdp_station.specs.Station.{KeepsLink}
 use Rattle.cfdp_station.specs.Taking.{GivesPdus, HearsAll, TakesFrame}
-use Rattle.link_sim.specs.declared.side.Side.{Side}
+use Rattle.station_pair.specs.declared.side.Side.{Side}
 use Rattle.link_sim.specs.declared.event.Event.{Event}
 use Rattle.link_sim.specs.declared.event.Event.TheVariants as event
 use Rattle.link_sim.specs.declared.event.Applied.{Applied}
 use Rattle.link_sim.specs.declared.event.Applied.TheVariants as did
-use Rattle.link_sim.specs.declared.event.Refusal.TheVariants as refusal
+use Rattle.station_pair.specs.declared.refusal.Refusal.TheVariants as refusal
 use Rattle.link_sim.specs.FrameLink.{most_struck}
-use Rattle.link_sim.specs.AtStation.{KeepsFailures, KeepsOutbox, CountsPut, RaisesByRequest}
+use Rattle.link_sim.specs.AtStation.{RaisesByRequest}
+use Rattle.cfdp_station.specs.Failures.{KeepsFailures, KeepsOutbox, CountsPut}
 use Rattle.link_sim.specs.OneWay.{SendsMore, SendsNone, HearsMore}
-use Rattle.link_sim.specs.Stations.{other}
+use Rattle.station_pair.specs.Stations.{other}
 use Rattle.link_sim.specs.World.State.{LinkState, WorldState, entity_at, lane_from, link_from, station_at, way_from}
 
 -- ---- what stays

@@ -1,7 +1,7 @@
 use Rattle.std.proofs.Common.{subst}
 use Rattle.std.specs.FinMap.{empty}
 use Rattle.cfdp_station.specs.declared.config.StationConfig.{StationConfig}
-use Rattle.link_sim.specs.World.State.{IsNewAt}
+use Rattle.cfdp_station.specs.New.{IsNewAt}
 use Rattle.cfdp_node.specs.Looping.Turns.{EndsFromOne, IsTold}
 use Rattle.cfdp_node.proofs.LoopLemmas.{from_first}
 use Rattle.cfdp_node.proofs.looping.run_first.Goals as goal

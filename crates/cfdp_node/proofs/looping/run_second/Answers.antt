@@ -1,5 +1,5 @@
 use Rattle.std.proofs.Common.{subst, true}
-use Rattle.link_sim.specs.World.State.{IsNewAt}
+use Rattle.cfdp_station.specs.New.{IsNewAt}
 use Rattle.cfdp_port.specs.Pair.{pair}
 use Rattle.cfdp_node.proofs.LoopLemmas.{from_both}
 use Rattle.cfdp_node.proofs.looping.run_second.Goals as goal

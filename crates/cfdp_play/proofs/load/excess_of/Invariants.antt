@@ -1,6 +1,6 @@
 use Rattle.std.proofs.Common.{◌+◌, [], length}
 use Rattle.std.specs.Option.{option_map_or}
-use Rattle.cfdp_script.specs.Script.Words.{parts}
+use Rattle.cfdp_report.specs.Words.{parts}
 use Rattle.cfdp_play.specs.Load.{lines_of}
 use Rattle.cfdp_play.proofs.Loads.{Leaves}
 use Rattle.cfdp_play.proofs.load.excess_of.Given as goal

@@ -5,7 +5,7 @@ use Rattle.link_sim.specs.Running.{AreApart, Goes, KeepsPromises}
 use Rattle.link_sim.specs.Sound.{IsSound}
 use Rattle.link_sim.specs.Theorem.{Follows}
 use Rattle.link_sim.specs.World.State.{WorldState, AreRested, entity_at, files_at}
-use Rattle.link_sim.specs.declared.side.Side.{Side}
+use Rattle.station_pair.specs.declared.side.Side.{Side}
 use Rattle.link_sim.proofs.Ways.First.{first-rests, first-ways}
 use Rattle.link_sim.proofs.Events.Folding.{inbox-follows}
 use Rattle.link_sim.proofs.Events.Leading.{led-keeps}

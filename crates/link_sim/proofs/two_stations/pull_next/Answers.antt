@@ -5,7 +5,7 @@ use Rattle.link_stack.specs.Downward.{DownState, frame_lane, lane_down}
 use Rattle.link_sim.specs.FrameLink.{FrameLinksState, frames_sent, lane_of_links}
 use Rattle.link_sim.specs.AtStation.{IsSameMarks, PullsOne}
 use Rattle.link_sim.proofs.Lanes.Each.{each-lane}
-use Rattle.link_sim.proofs.Lanes.Frames.{next-is_whole}
+use Rattle.cfdp_station.proofs.Whole.{next-is_whole}
 use Rattle.link_sim.proofs.Ways.Leaving.{some-room}
 use Rattle.link_sim.proofs.two_stations.pull_next.Goals as goal
 

@@ -1,5 +1,5 @@
 use Rattle.std.proofs.Common.{subst}
-use Rattle.link_sim.specs.Stations.{IsWorldConfig}
+use Rattle.station_pair.specs.Stations.{IsWorldConfig}
 use Rattle.link_sim.proofs.Events.Happening.{happens-led}
 use Rattle.link_sim.proofs.world.run.Goals as goal
 

@@ -2,7 +2,7 @@ use Rattle.std.proofs.Common.{inl, inr, subst, sym}
 use Rattle.link_sim.specs.Running.{Goes}
 use Rattle.link_sim.specs.Sound.{IsSound}
 use Rattle.link_sim.specs.World.State.{AreRested, WorldState}
-use Rattle.link_sim.specs.declared.side.Side.{Side}
+use Rattle.station_pair.specs.declared.side.Side.{Side}
 use Rattle.link_sim.proofs.Events.Beginning.{event-moves, sound-first}
 use Rattle.link_sim.proofs.Events.Keeping.{Grounds, sound-next}
 use Rattle.link_sim.proofs.Events.Leading.{led-keeps}

@@ -1,5 +1,5 @@
 use Rattle.std.proofs.Common.{◌≡◌, subst}
-use Rattle.link_sim.specs.Stations.{IsWorldConfig}
+use Rattle.station_pair.specs.Stations.{IsWorldConfig}
 use Rattle.any_order.proofs.Beginning.{begins}
 use Rattle.any_order.proofs.unordered.UnorderedWorld.new.Goals as goal
 

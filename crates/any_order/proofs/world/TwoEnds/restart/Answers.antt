@@ -1,6 +1,6 @@
 use Rattle.std.proofs.Common.{◌≡◌, refl, ap, ◌∙◌}
-use Rattle.link_sim.specs.declared.side.Side.{Side}
-use Rattle.link_sim.specs.Stations.{station_of}
+use Rattle.station_pair.specs.declared.side.Side.{Side}
+use Rattle.station_pair.specs.Stations.{station_of}
 use Rattle.any_order.proofs.Happening.{happened_one, happened_two}
 use Rattle.any_order.proofs.Leading.{makes_config}
 use Rattle.any_order.proofs.world.TwoEnds.restart.Goals as goal

@@ -1,6 +1,6 @@
 use Rattle.std.proofs.Common.{◌≡◌, ◌+◌, ◌-◌, ◌≤◌, length, [], MatchOption}
 use Rattle.std.specs.Option.{option_map_or}
-use Rattle.cfdp_script.specs.Script.Words.{parts}
+use Rattle.cfdp_report.specs.Words.{parts}
 use Rattle.cfdp_script.specs.Script.Lines.{numbered}
 use Rattle.cfdp_script.specs.Script.Gathering.{gathered, gather}
 use Rattle.cfdp_script.proofs.script.Script.read_lines.Given as goal

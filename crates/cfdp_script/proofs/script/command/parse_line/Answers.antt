@@ -1,5 +1,5 @@
 use Rattle.std.proofs.Common.{◌≡◌, ◌≤◌, List, ℕ, length, le-leb, subst, refl, arith}
-use Rattle.cfdp_script.specs.Script.Words.{words_of}
+use Rattle.cfdp_report.specs.Words.{words_of}
 use Rattle.cfdp_script.specs.Script.Lines.{Reads, line_of, meaning}
 use Rattle.cfdp_report.proofs.Numerals.{ascii-pass}
 use Rattle.cfdp_script.proofs.script.command.parse_line.Goals as goal

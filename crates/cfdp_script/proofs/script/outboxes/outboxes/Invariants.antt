@@ -1,5 +1,5 @@
 use Rattle.std.proofs.Common.{◌≡◌, drop}
-use Rattle.link_sim.specs.declared.side.Side.TheVariants.{One, Two}
+use Rattle.station_pair.specs.declared.side.Side.TheVariants.{One, Two}
 use Rattle.cfdp_script.specs.Script.Outboxes.{outbox_of, with_files}
 use Rattle.cfdp_script.proofs.script.outboxes.outboxes.Given as goal
 

@@ -1,5 +1,5 @@
 use Rattle.std.proofs.Common.{None, Some, ap, subst, sym, ◌∙◌}
-use Rattle.link_sim.specs.Stations.{IsWorldConfig}
+use Rattle.station_pair.specs.Stations.{IsWorldConfig}
 use Rattle.cfdp_report.specs.Settings.{world_of}
 use Rattle.cfdp_script.proofs.Endings.{noted_of_text, read_commands_end}
 use Rattle.cfdp_script.proofs.script.sim.run_text.Goals as goal

@@ -4,9 +4,9 @@ use Rattle.aos_frame.specs.declared.config.ChannelConfig.{ChannelConfig}
 use Rattle.aos_frame.specs.declared.config.Lane.{Lane}
 use Rattle.aos_frame.specs.declared.config.LinkConfig.{LinkConfig}
 use Rattle.link_stack.specs.Downward.{DownState, lane_down}
-use Rattle.link_sim.specs.declared.side.Side.{Side}
-use Rattle.link_sim.specs.declared.side.Side.TheVariants.{One, Two}
-use Rattle.link_sim.specs.Stations.{other, station_of}
+use Rattle.station_pair.specs.declared.side.Side.{Side}
+use Rattle.station_pair.specs.declared.side.Side.TheVariants.{One, Two}
+use Rattle.station_pair.specs.Stations.{other, station_of}
 use Rattle.link_sim.specs.AtStation.{AreCarried, DamagesAt}
 use Rattle.link_sim.specs.FrameLink.{lane_of_links}
 use Rattle.link_sim.specs.World.State.{WorldState}

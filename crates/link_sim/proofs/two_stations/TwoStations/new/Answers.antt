@@ -6,7 +6,7 @@ use Rattle.link_stack.specs.Upward.{first_up}
 use Rattle.cfdp_entity.specs.Entity.{entity_standing, first_entity}
 use Rattle.cfdp_station.specs.declared.config.StationConfig.{StationConfig}
 use Rattle.link_sim.specs.AtStation.{AreCarried}
-use Rattle.link_sim.specs.Stations.{IsWorldConfig}
+use Rattle.station_pair.specs.Stations.{IsWorldConfig}
 use Rattle.link_sim.proofs.Events.AtStations.{first-lanes, first-set-up}
 use Rattle.link_sim.proofs.Events.InWorlds.{none-seen, ways-of}
 use Rattle.link_sim.proofs.Ways.First.{first-down_lane}

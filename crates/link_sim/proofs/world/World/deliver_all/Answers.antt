@@ -3,7 +3,7 @@ use Rattle.std.proofs.lemmas.Result.{err_from_is_err_and}
 use Rattle.link_sim.specs.Parts.{SettlesPart}
 use Rattle.link_sim.specs.Settling.{next_of}
 use Rattle.link_sim.specs.declared.event.Event.TheVariants as event
-use Rattle.link_sim.specs.declared.settle_error.SettleError.{SettleError}
+use Rattle.station_pair.specs.declared.settle_error.SettleError.{SettleError}
 use Rattle.link_sim.proofs.Clean.Causes.{none-waits}
 use Rattle.link_sim.proofs.Clean.Parts.{err-as, first-fails, part-else, part-then, then-fails}
 use Rattle.link_sim.proofs.world.World.deliver_all.Goals as goal

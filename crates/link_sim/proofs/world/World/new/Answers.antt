@@ -1,6 +1,6 @@
 use Rattle.std.proofs.Common.{subst, sym}
 use Rattle.link_sim.specs.Running.{AreApart}
-use Rattle.link_sim.specs.Stations.{IsWorldConfig}
+use Rattle.station_pair.specs.Stations.{IsWorldConfig}
 use Rattle.link_sim.specs.World.State.{WorldState}
 use Rattle.link_sim.proofs.world.World.new.Goals as goal
 

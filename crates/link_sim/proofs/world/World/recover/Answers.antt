@@ -4,7 +4,7 @@ use Rattle.link_sim.specs.Observed.{seen}
 use Rattle.link_sim.specs.Onward.{RecoversOn}
 use Rattle.link_sim.specs.Recovering.{Recovers, most_rounds}
 use Rattle.link_sim.specs.World.State.{WorldState}
-use Rattle.link_sim.specs.declared.settle_error.SettleError.{SettleError}
+use Rattle.station_pair.specs.declared.settle_error.SettleError.{SettleError}
 use Rattle.link_sim.proofs.Events.Folding.{leads-both, leads-upholds, upholds-leads}
 use Rattle.link_sim.proofs.Recovery.Rounds.{recovery-ended, run-none, run-more, stays-armed}
 use Rattle.link_sim.proofs.Recovery.Recovered.{all-completed, not-armed, other-error}

@@ -7,7 +7,7 @@ use Rattle.link_sim.specs.World.State.{WorldState}
 use Rattle.link_sim.specs.World.Steps.{Steps}
 use Rattle.link_sim.specs.Work.{world_work}
 use Rattle.link_sim.specs.declared.event.Applied.TheVariants as did
-use Rattle.link_sim.specs.declared.settle_error.SettleError.{SettleError}
+use Rattle.station_pair.specs.declared.settle_error.SettleError.{SettleError}
 use Rattle.link_sim.proofs.Events.Folding.{leads-none, leads-both}
 use Rattle.link_sim.proofs.Clean.Causes.{on-then, cause-here, nothing-same}
 use Rattle.link_sim.proofs.Clean.Parts.{err-as}

@@ -4,7 +4,7 @@ use Rattle.link_sim.specs.Calls.{Settles}
 use Rattle.link_sim.specs.Observed.{seen}
 use Rattle.link_sim.specs.Onward.{GoesOn}
 use Rattle.link_sim.specs.Settling.{first_event}
-use Rattle.link_sim.specs.declared.settle_error.SettleError.{SettleError}
+use Rattle.station_pair.specs.declared.settle_error.SettleError.{SettleError}
 use Rattle.link_sim.proofs.Events.Folding.{leads-none, leads-both, leads-upholds}
 use Rattle.link_sim.proofs.Clean.Causes.{on-then, cause-then}
 use Rattle.link_sim.proofs.Clean.Parts.{err-as}

@@ -5,8 +5,8 @@ use Rattle.aos_frame.specs.declared.config.Lane.TheVariants.{Directives}
 use Rattle.link_sim.specs.Parts.{SettlesPart}
 use Rattle.link_sim.specs.Settling.{first_event}
 use Rattle.link_sim.specs.declared.event.Event.TheVariants as event
-use Rattle.link_sim.specs.declared.side.Side.TheVariants.{One, Two}
-use Rattle.link_sim.specs.declared.settle_error.SettleError.{SettleError}
+use Rattle.station_pair.specs.declared.side.Side.TheVariants.{One, Two}
+use Rattle.station_pair.specs.declared.settle_error.SettleError.{SettleError}
 use Rattle.link_sim.proofs.Clean.Causes.{any-true, round-settled}
 use Rattle.link_sim.proofs.Clean.Parts.{err-as, first-fails, none-true, part-both, part-else, part-then, part-three, then-fails}
 use Rattle.link_sim.proofs.world.World.settle_round.Goals as goal

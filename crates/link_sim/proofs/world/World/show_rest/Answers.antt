@@ -5,7 +5,7 @@ use Rattle.link_sim.specs.Runs.{Exchange}
 use Rattle.link_sim.specs.Settling.{IsSettled}
 use Rattle.link_sim.specs.Stages.{IsAtRest}
 use Rattle.link_sim.specs.World.State.{WorldState}
-use Rattle.link_sim.specs.declared.side.Side.{Side}
+use Rattle.station_pair.specs.declared.side.Side.{Side}
 use Rattle.link_sim.proofs.Found.Ends.{settled-rests}
 use Rattle.link_sim.proofs.world.World.show_rest.Goals as goal
 

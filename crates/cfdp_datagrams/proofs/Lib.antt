@@ -1,0 +1,2 @@
+mod CarrierLemmas
+mod Paces

@@ -1,0 +1,16 @@
+//! The datagrams between a station and its peer: what one carries, and the UDP socket that they go
+//! over, which keeps the rate, waits where nothing is to be done, and sends and takes beacons.
+//!
+//! Tested by `tests/rows/stations.rows`, `tests/stations.py` and `tests/relay.py`, through the
+//! program above.
+#![tactic(auto)]
+
+mod carrier;
+mod link_clock;
+mod pacer;
+mod peer_socket;
+mod reports;
+
+pub use carrier::{Carrier, CarrierWire, PacketForm, PduCarrier};
+pub use pacer::{Pacer, a_rate_is_kept};
+pub use peer_socket::{Pace, PeerSocket, Unit, Unusable, frame_len};

@@ -1,0 +1,8 @@
+use Rattle.std.proofs.Common.{sym}
+use Rattle.std.proofs.Output.{has_written_of_eq}
+use Rattle.cfdp_dump.proofs.FieldTexts.{text_is}
+use Rattle.cfdp_dump.proofs.spelled.field.TextFieldDisplay.fmt.Goals as goal
+
+pub returns-clause-writes : goal.returns-clause-writes
+returns-clause-writes g c =
+    λ plain ok. has_written_of_eq _ _ _ _ _ (sym (text_is c.args.self.now.0.now c.args.self.now.1.now c.args.self.now.2.now)) (c.write.ensures.writes plain ok)

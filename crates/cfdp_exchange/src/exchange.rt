@@ -1,0 +1,70 @@
+//! What the socket of a station and those who look on tell each other.
+use crate::beacon::Beacon;
+use crate::drops::CarrierTally;
+use crate::lost_frames::FrameGaps;
+use crate::watched::Watched;
+use std::cell::Cell;
+use std::io::ErrorKind;
+
+/// Why a station can't reserve numbers in its state file.
+#[derive(Clone, Copy)]
+pub enum Stop {
+    /// All numbers are used.
+    Spent,
+    /// The file can't be written.
+    Unwritable(ErrorKind),
+}
+
+/// What the socket of a station and those who look on tell each other.
+#[derive(Drop)]
+pub struct Exchange {
+    /// Whether the peer seems to be set up otherwise: frames or PDUs of its came that aren't for
+    /// this station, or its beacon said so.
+    pub differs: Cell<bool>,
+    /// The peer's beacon, where one came that nobody has looked at.
+    pub beacon: Cell<Option<Beacon>>,
+    /// Why the system failed to send or to receive, where nobody has looked at that.
+    pub failed: Cell<Option<ErrorKind>>,
+    /// Why no more frames leave: their counts can't be reserved. `None` if they can.
+    pub no_counts: Cell<Option<Stop>>,
+    /// Why no more puts are made: their transaction numbers can't be reserved. `None` if they can.
+    pub no_numbers: Cell<Option<Stop>>,
+    /// Whether the link is down by plan: nothing leaves, what comes is thrown away, and the time
+    /// that the station is told stands still.
+    pub is_frozen: Cell<bool>,
+    /// What else a wait looks at, so that it ends once a command may have come.
+    pub watched: Cell<Watched>,
+    /// How many transaction numbers are reserved and not used.
+    pub numbers_left: Cell<u64>,
+    /// Whether more are wanted.
+    pub wants_numbers: Cell<bool>,
+    /// Whether something was asked of the station, so that the next wait is none.
+    pub is_stirred: Cell<bool>,
+    /// The time that the station was told last.
+    pub told: Cell<u64>,
+    /// How many frames were found missing, and how many datagrams were thrown away.
+    pub gaps: FrameGaps,
+    /// How often datagrams were dropped of which nothing was given to the station.
+    pub dropped: CarrierTally,
+}
+
+impl Exchange {
+    /// Before the first turn.
+    pub fn new() -> Exchange {
+        Exchange {
+            differs: Cell::new(false),
+            beacon: Cell::new(None),
+            failed: Cell::new(None),
+            no_counts: Cell::new(None),
+            no_numbers: Cell::new(None),
+            is_frozen: Cell::new(false),
+            watched: Cell::new(Watched::nothing()),
+            numbers_left: Cell::new(0),
+            wants_numbers: Cell::new(false),
+            is_stirred: Cell::new(false),
+            told: Cell::new(0),
+            gaps: FrameGaps::new(),
+            dropped: CarrierTally::new(),
+        }
+    }
+}

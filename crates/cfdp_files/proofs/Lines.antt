@@ -1,0 +1,25 @@
+-- The lines of a file of reserved numbers.
+use Rattle.std.proofs.Common.{◌≡◌, ◌++◌, ◌∷◌, ◌∙◌, [], List, ℕ, Bool, false, Option, Some, append_assoc, append-nil, ap, sym, refl, inl, inr, codes, decimal, nat_eq}
+use Rattle.std.specs.Prelude.{unwrap_or}
+use Rattle.std.proofs.lemmas.Bool.{true≢false}
+use Rattle.std.specs.Cmp.Lexicographic.{pointwise, bytes_decides}
+use Rattle.cfdp_files.specs.declared.reserving.Reserved.{Reserved}
+use Rattle.cfdp_files.specs.StateText.{Says, lines_text}
+
+-- the lines, number by number
+pub lines_split : (r : Reserved) (rest : List ℕ) → lines_text r ++ rest
+    ≡ codes "cfdp_node station 1\nnumbers " ++ (decimal r.numbers ++ (10 ∷ (codes "frames " ++ (decimal r.frames ++ (10 ∷ rest)))))
+lines_split r rest =
+    rw (append_assoc (decimal r.numbers) (codes "\nframes " ++ (decimal r.frames ++ codes "\n")) rest, append_assoc (decimal r.frames) (codes "\n") rest) refl
+
+-- a file begins with the lines
+pub front_is : (text : List ℕ) (r : Reserved) → Says text r → (rest : List ℕ) × (text ≡ lines_text r ++ rest)
+front_is text r (inl whole) = (_, whole)
+front_is text r (inr older) = ([], older ∙ sym (append-nil (lines_text r)))
+
+-- a comparison that fails is one of two texts
+pub unequal : (text other : List ℕ) (b : Bool) → b ≡ pointwise nat_eq text other → b ≡ false → text ≡ other → ⊥
+unequal text other b is fails same = true≢false (sym ((bytes_decides text other).1 same) ∙ sym is ∙ fails)
+
+pub some_same : (a b : Reserved) → Some a ≡ Some b → a ≡ b
+some_same a b same = ap (λ (o : Option Reserved). unwrap_or o a) same

@@ -1,0 +1,33 @@
+-- Numbers that are reserved before they are used: a file says that all below two numbers are, and a
+-- number that is used lies below what it says.
+use Rattle.std.specs.Prelude.{◌≡◌, ℕ, ◌+◌, ◌<◌, ◌≤◌, max, Option, unwrap_or}
+use Rattle.cfdp_files.specs.declared.reserving.Reserved.{Reserved}
+use Rattle.cfdp_files.specs.declared.reserving.Taken.{Taken}
+
+-- the number of a start's first transaction: the one that is said, or else the first that was not
+-- reserved before and is not before the clock's
+abbrev pub first_number : Option ℕ → ℕ → Reserved → ℕ
+first_number said clock before = unwrap_or said (max before.numbers clock)
+
+-- A start takes these: a number for each put, all of them reserved, and counts of frames that were
+-- not reserved before. What was reserved stays so.
+pub record Begins (before : Reserved) (said : Option ℕ) (clock puts : ℕ) (taken : Taken) : Type 0 where
+  pub number : taken.beginning.number ≡ first_number said clock before
+  pub each_put : taken.numbers_end ≡ taken.beginning.number + puts
+  pub numbers : taken.numbers_end ≤ taken.reserved.numbers
+  pub numbers_stay : before.numbers ≤ taken.reserved.numbers
+  pub new_frames : before.frames < taken.beginning.frames
+  pub frames : taken.beginning.frames ≤ taken.reserved.frames
+
+-- A frame of this count may leave once these are reserved; nothing changes if it might before.
+pub record Covers (before : Reserved) (count : ℕ) (after : Reserved) : Type 0 where
+  pub covered : count < after.frames
+  pub frames_stay : before.frames ≤ after.frames
+  pub numbers : after.numbers ≡ before.numbers
+  pub same : count < before.frames → after ≡ before
+
+-- All numbers below this one may be used once these are reserved.
+pub record Adds (before : Reserved) (end : ℕ) (after : Reserved) : Type 0 where
+  pub numbers : end ≤ after.numbers
+  pub numbers_stay : before.numbers ≤ after.numbers
+  pub frames : after.frames ≡ before.frames

@@ -1,0 +1,94 @@
+//! A folder that files are received into, which one process has at a time.
+use crate::locks::{LockError, lock};
+use cfdp_report::cause_text;
+use std::fs::{File, FileType};
+use std::{fs, io};
+
+/// The exit status where a folder failed.
+const DEVICE: u8 = 3;
+
+/// What the name of a part file begins with. Behind it come the two numbers of its transaction.
+const PART: &str = ".part-";
+
+/// A folder into which no other process receives, as long as this value lives.
+#[derive(Drop)]
+pub struct HeldFolder {
+    _folder: File,
+}
+
+impl HeldFolder {
+    /// Takes a folder, and removes from it the part files of a run that died.
+    ///
+    /// # Errors
+    ///
+    /// The exit status, where it can't be had, which was told on standard error.
+    pub fn take(rt: &HostRuntime, path: &str) -> Result<HeldFolder, u8> {
+        match locked(rt, path) {
+            Ok(folder) => {
+                remove_parts(rt, path);
+                Ok(HeldFolder { _folder: folder })
+            }
+            Err(error) => {
+                tell(rt, path, &error);
+                Err(DEVICE)
+            }
+        }
+    }
+
+    /// Removes the part files of this folder, whose path this is: of files that never came whole.
+    pub fn clear(&self, rt: &HostRuntime, path: &str) {
+        remove_parts(rt, path);
+    }
+}
+
+fn locked(rt: &HostRuntime, path: &str) -> Result<File, LockError> {
+    let folder = File::open(rt, path)?;
+    lock(&folder)?;
+    Ok(folder)
+}
+
+fn tell(rt: &HostRuntime, path: &str, error: &LockError) {
+    let _ = match error {
+        LockError::InUse => eprintln!(rt;
+            "error: {path}: another station or loop is receiving into this folder"
+        ),
+        LockError::System(error) => eprintln!(rt; "error: {path}: {}", cause_text(error.kind())),
+    };
+}
+
+/// Removes the part files of a folder, as far as they can be removed.
+fn remove_parts(rt: &HostRuntime, path: &str) {
+    let Ok(entries) = fs::read_dir(rt, path) else {
+        return;
+    };
+    for entry in entries {
+        if let Ok(entry) = entry
+            && is_part_name(entry.file_name())
+            && is_plain(entry.file_type())
+        {
+            let _ = fs::remove_file(rt, entry.path());
+        }
+    }
+}
+
+/// Whether this is the name of a part file.
+fn is_part_name(name: &str) -> bool {
+    match name.strip_prefix(PART) {
+        Some(numbers) => match numbers.split_once('-') {
+            Some((source, number)) => is_number(source) && is_number(number),
+            None => false,
+        },
+        None => false,
+    }
+}
+
+fn is_number(word: &str) -> bool {
+    !word.is_empty() && word.as_bytes().iter().all(|octet| octet.is_ascii_digit())
+}
+
+fn is_plain(kind: io::Result<FileType>) -> bool {
+    match kind {
+        Ok(kind) => kind.is_file(),
+        Err(_) => false,
+    }
+}

@@ -1,0 +1,22 @@
+//! What a station has of the folders and files of its machine: the folder that it receives into
+//! and the files in it, locks, and the file of the numbers that it reserved.
+//!
+//! Tested by `tests/rows/stations.rows` and `tests/stations.py`, through the program above.
+#![tactic(auto)]
+
+mod held_folder;
+mod inbox_files;
+mod locks;
+mod made_files;
+mod plain_file;
+mod reserving;
+mod state_file;
+mod state_text;
+mod trial;
+
+pub use held_folder::HeldFolder;
+pub use inbox_files::InboxFiles;
+pub use locks::{LockError, lock};
+pub use plain_file::{Use, is_same_folder, lies_in, open_plain};
+pub use state_file::{Reservation, StateError};
+pub use trial::try_folder;

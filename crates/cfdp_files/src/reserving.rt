@@ -1,0 +1,93 @@
+//! What a station has reserved, and what it reserves before it uses more.
+ghost use Rattle.std.specs.Prelude.{◌≡◌, ◌+◌, ◌^◌, ◌<◌, ◌≤◌, ◌↔◌, ◌⊎◌, IfSome, IsNone};
+ghost use Rattle.cfdp_files.specs.Reserving.{Adds, Begins, Covers, first_number};
+
+/// How many frame counts are reserved at a time.
+pub const FRAMES: u64 = 1 << 20;
+
+/// What is reserved: all numbers below these.
+#[derive(Clone, Copy, Debug, PartialEq, Eq)]
+pub struct Reserved {
+    /// Of transactions.
+    pub numbers: u64,
+    /// Of the counts of frames of both lanes, not modulo 2^28.
+    pub frames: u64,
+}
+
+/// With which numbers a station begins.
+#[derive(Clone, Copy, Debug, PartialEq, Eq)]
+pub struct Beginning {
+    /// The number of its first transaction.
+    pub number: u64,
+    /// The count of the first frame of both lanes, not modulo 2^28.
+    pub frames: u64,
+}
+
+/// What a start takes.
+#[derive(Clone, Copy, Debug, PartialEq, Eq)]
+pub struct Taken {
+    /// With which numbers the station begins.
+    pub beginning: Beginning,
+    /// The first number behind those that are reserved for the station.
+    pub numbers_end: u64,
+    /// What is reserved then.
+    pub reserved: Reserved,
+}
+
+impl Reserved {
+    /// What is reserved where no station has run.
+    pub const NOTHING: Reserved = Reserved {
+        numbers: 1,
+        frames: 0,
+    };
+
+    /// Returns what a start takes that reserves a number for each of so many puts: from the one on
+    /// that is said, or else behind all that were reserved before and not before the clock's.
+    /// `None` if so many numbers, or one frame more, can't be counted.
+    pub fn begin(self, said: Option<u64>, clock: u64, puts: u64) -> Option<Taken>
+        ensures begins { IfSome result (Begins self said clock puts) }
+        ensures spent { IsNone result ↔ ((2 ^ 64 ≤ first_number said clock self + puts)
+            ⊎ (2 ^ 64 ≤ self.frames + 1)) }
+    {
+        let number = said.unwrap_or(self.numbers.max(clock));
+        let numbers_end = number.checked_add(puts)?;
+        // The peer may await the count behind the last one that was reserved.
+        let frames = self.frames.checked_add(1)?;
+        Some(Taken {
+            beginning: Beginning { number, frames },
+            numbers_end,
+            reserved: Reserved {
+                numbers: numbers_end.max(self.numbers),
+                frames: frames.saturating_add(FRAMES),
+            },
+        })
+    }
+
+    /// Returns what must be reserved before a frame of this count leaves: the same as now where the
+    /// count is below what is reserved. `None` if no more can be counted.
+    pub fn covering(self, count: u64) -> Option<Reserved>
+        ensures covers { IfSome result (Covers self count) }
+        ensures spent { IsNone result ↔ ((self.frames ≤ count) × (2 ^ 64 ≤ count + 1)) }
+    {
+        if count < self.frames {
+            return Some(self);
+        }
+        let _next = count.checked_add(1)?;
+        Some(Reserved {
+            frames: count.saturating_add(FRAMES),
+            ..self
+        })
+    }
+
+    /// Returns what must be reserved before so many numbers more are used than those below `end`.
+    /// `None` if so many can't be counted.
+    pub fn adding(self, end: u64, more: u64) -> Option<Reserved>
+        ensures adds { IfSome result (Adds self (end + more)) }
+        ensures spent { IsNone result ↔ (2 ^ 64 ≤ end + more) }
+    {
+        Some(Reserved {
+            numbers: end.checked_add(more)?.max(self.numbers),
+            ..self
+        })
+    }
+}

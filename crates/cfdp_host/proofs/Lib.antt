@@ -1,3 +1,0 @@
-pub mod JournalLines
-mod AskingRows
-mod CarrierLemmas

@@ -1,9 +1,0 @@
-use Rattle.std.proofs.Common.{ℕ, List, [], arith, sym}
-use Rattle.std.proofs.lemmas.List.{append-nil}
-use Rattle.cfdp_host.specs.Carrier.{carrying}
-use Rattle.cfdp_host.proofs.carrier.datagram.pdu_of_packet.Goals as goal
-
-pub returns-then-not-is_empty-clause-only : goal.returns-then-not-is_empty-clause-only
-returns-then-not-is_empty-clause-only c packet_type count header pdu long some spelled =
-    let found = c.in-Ok.ensures.only (carrying packet_type c.args.apid count header pdu) c.args.datagram.now [] spelled (sym (append-nil c.args.datagram.now)) in
-    grind (arith, found.1, c.is_empty.ensures, c.if-not-is_empty.true)

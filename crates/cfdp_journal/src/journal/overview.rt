@@ -1,0 +1,578 @@
+//! What an operator asks of a station: its open transactions, and its counters.
+use crate::journal::json::JsonName;
+use crate::journal::meaning::phase_word;
+use crate::journal::register::{Known, Register, is_open};
+use crate::journal::stopped::Stopped;
+use crate::journal::totals::Totals;
+use cfdp_console::Way;
+use cfdp_exchange::FrameGaps;
+use cfdp_header::TransactionId;
+use cfdp_report::{Name, parse_id};
+use cfdp_station::{EntityDrop, FrameError, LinkDrop, Phase, Station, Timer};
+use cfdp_store::{Inbox, Outbox};
+use std::alloc::{AllocError, Global};
+use std::fmt;
+
+/// In what an operator is answered.
+#[derive(Clone, Copy, Debug, PartialEq, Eq)]
+pub enum Form {
+    /// Lines for people.
+    Text,
+    /// One object of JSON, in one line.
+    Json,
+}
+
+/// What a station has besides its transactions.
+#[derive(Clone, Copy)]
+pub struct Waiting {
+    /// How many files wait for their put, as far as that is known.
+    pub files: usize,
+    /// What the station doesn't do now.
+    pub stopped: Option<Stopped>,
+    /// The time now, in units of the clock that the station is told.
+    pub now: u64,
+}
+
+/// A transaction that is open, and how far it has come.
+#[derive(Clone, Copy)]
+struct Open {
+    id: TransactionId,
+    phase: Phase,
+    /// Up to which offset octets of its file were sent, or came.
+    progress: Option<u64>,
+    /// Its timer that expires next.
+    next: Option<NextTimer>,
+}
+
+/// A timer, and in how many units of the clock it expires.
+#[derive(Clone, Copy)]
+struct NextTimer {
+    timer: Timer,
+    left: u64,
+}
+
+/// All timers of a transaction, in the order in which those of one deadline expire.
+const TIMERS: [Timer; 4] = [
+    Timer::EofAck,
+    Timer::Nak,
+    Timer::FinishedAck,
+    Timer::Inactivity,
+];
+
+/// The word for what a timer waits for.
+fn timer_word(timer: Timer) -> &'static str {
+    match timer {
+        Timer::EofAck => "eof-ack",
+        Timer::Nak => "nak",
+        Timer::FinishedAck => "finished-ack",
+        Timer::Inactivity => "inactivity",
+    }
+}
+
+/// The timer of a transaction that expires next; `None` where none is armed.
+fn next_timer<O: Outbox, I: Inbox>(
+    station: &Station<O, I>,
+    id: TransactionId,
+    now: u64,
+) -> Option<NextTimer> {
+    let mut next: Option<NextTimer> = None;
+    for timer in TIMERS {
+        if let Some(deadline) = station.deadline_of(id, timer) {
+            let left = deadline.saturating_sub(now);
+            let is_first = match next {
+                Some(before) => left < before.left,
+                None => true,
+            };
+            if is_first {
+                next = Some(NextTimer { timer, left });
+            }
+        }
+    }
+    next
+}
+
+/// Writes the transactions that are open, in order of their ids.
+///
+/// # Errors
+///
+/// That of the writer, and an error where there is no memory.
+pub fn write_list<O: Outbox, I: Inbox, W: fmt::Write>(
+    alloc: Global,
+    out: &mut W,
+    form: Form,
+    register: &Register,
+    station: &Station<O, I>,
+    waiting: Waiting,
+) -> fmt::Result {
+    let open = open_transactions(alloc, station, waiting.now)?;
+    let open = open.as_slice();
+    let wait = station
+        .next_timeout()
+        .map(|deadline| deadline.saturating_sub(waiting.now));
+    match form {
+        Form::Text => write_lines(out, register, open, waiting, wait),
+        Form::Json => write_array(out, register, open, waiting, wait),
+    }
+}
+
+/// The transactions that are open, in order of their ids.
+fn open_transactions<O: Outbox, I: Inbox>(
+    alloc: Global,
+    station: &Station<O, I>,
+    now: u64,
+) -> Result<Vec<Open>, AllocError> {
+    let mut open = Vec::new(alloc);
+    for (id, phase) in station.transactions() {
+        if phase != Phase::Closed {
+            open.push(open_at(station, id, phase, now))?;
+        }
+    }
+    open.sort_unstable_by_key(|it| it.id);
+    Ok(open)
+}
+
+/// The most transactions that are shown in a console at once.
+const MOST_SHOWN: usize = 64;
+
+/// The transactions that are open, in order of their ids, as the console of the entity
+/// `own` shows them: the first 64.
+///
+/// # Errors
+///
+/// `AllocError` where there is no memory for them.
+pub fn shown_open<O: Outbox, I: Inbox>(
+    alloc: Global,
+    register: &Register,
+    station: &Station<O, I>,
+    now: u64,
+    own: u64,
+) -> Result<Vec<cfdp_console::Open>, AllocError> {
+    let mut shown = Vec::new(alloc);
+    for (id, phase) in open_ids(alloc, station)?.iter().take(MOST_SHOWN) {
+        let open = open_at(station, *id, *phase, now);
+        shown.push(shown_one(alloc, own, open, register.get(*id))?)?;
+    }
+    Ok(shown)
+}
+
+/// The transaction of this id, which is a word as `1:7`, as the console of the entity `own` shows
+/// it; nothing where none is open.
+///
+/// # Errors
+///
+/// `AllocError` where there is no memory for it.
+pub fn shown_alone<O: Outbox, I: Inbox>(
+    alloc: Global,
+    register: &Register,
+    station: &Station<O, I>,
+    now: u64,
+    own: u64,
+    word: &[u8],
+) -> Result<Vec<cfdp_console::Open>, AllocError> {
+    let mut shown = Vec::new(alloc);
+    if let Ok(id) = parse_id(word)
+        && let Some(phase) = station.phase(id)
+        && phase != Phase::Closed
+    {
+        let open = open_at(station, id, phase, now);
+        shown.push(shown_one(alloc, own, open, register.get(id))?)?;
+    }
+    Ok(shown)
+}
+
+/// The ids of the transactions that are open, in their order, and how far each is.
+fn open_ids<O: Outbox, I: Inbox>(
+    alloc: Global,
+    station: &Station<O, I>,
+) -> Result<Vec<(TransactionId, Phase)>, AllocError> {
+    let mut open = Vec::new(alloc);
+    for (id, phase) in station.transactions() {
+        if phase != Phase::Closed {
+            open.push((id, phase))?;
+        }
+    }
+    open.sort_unstable_by_key(|it| it.0);
+    Ok(open)
+}
+
+/// How far a transaction has come.
+fn open_at<O: Outbox, I: Inbox>(
+    station: &Station<O, I>,
+    id: TransactionId,
+    phase: Phase,
+    now: u64,
+) -> Open {
+    Open {
+        id,
+        phase,
+        progress: station.progress(id),
+        next: next_timer(station, id, now),
+    }
+}
+
+/// A transaction as the console shows it.
+fn shown_one(
+    alloc: Global,
+    own: u64,
+    open: Open,
+    known: Option<&Known>,
+) -> Result<cfdp_console::Open, AllocError> {
+    let (source, destination) = match known.and_then(|known| known.names.as_ref()) {
+        Some(names) => (
+            Some(format!(in alloc; "{}", Name(names.source.as_slice()))?),
+            Some(format!(in alloc; "{}", Name(names.destination.as_slice()))?),
+        ),
+        None => (None, None),
+    };
+    Ok(cfdp_console::Open {
+        id: format!(in alloc; "{}:{}", open.id.source, open.id.number)?,
+        way: if open.id.source == own {
+            Way::Sends
+        } else {
+            Way::Receives
+        },
+        phase: phase_word(open.phase),
+        source,
+        destination,
+        size: known.and_then(|known| known.size),
+        octets: open.progress,
+        is_suspended: is_suspended(known),
+        waits_for: waits_for(open, is_suspended(known)),
+    })
+}
+
+/// What a transaction waits for, in words; empty where it waits for its turn alone.
+fn waits_for(open: Open, is_suspended: bool) -> &'static str {
+    if is_suspended {
+        return "resume";
+    }
+    match open.next {
+        Some(next) => match next.timer {
+            Timer::EofAck => "ACK of its EOF",
+            Timer::Nak => "data requested by NAKs",
+            Timer::FinishedAck => "ACK of its Finished",
+            Timer::Inactivity => "next PDU of the peer",
+        },
+        None => "",
+    }
+}
+
+/// A number that may be unknown, in a line.
+#[derive(Clone, Copy)]
+struct OrDash(Option<u64>);
+
+impl fmt::Display for OrDash {
+    fn fmt<W: fmt::Write>(&self, f: &mut fmt::Formatter<W>) -> fmt::Result {
+        match self.0 {
+            Some(number) => write!(f, "{number}"),
+            None => write!(f, "-"),
+        }
+    }
+}
+
+/// A number that may be unknown, in an object.
+#[derive(Clone, Copy)]
+struct OrNull(Option<u64>);
+
+impl fmt::Display for OrNull {
+    fn fmt<W: fmt::Write>(&self, f: &mut fmt::Formatter<W>) -> fmt::Result {
+        match self.0 {
+            Some(number) => write!(f, "{number}"),
+            None => write!(f, "null"),
+        }
+    }
+}
+
+fn write_lines<W: fmt::Write>(
+    out: &mut W,
+    register: &Register,
+    open: &[Open],
+    waiting: Waiting,
+    wait: Option<u64>,
+) -> fmt::Result {
+    let (count, files, wait) = (open.len(), waiting.files, OrDash(wait));
+    writeln!(out, "open {count} waiting {files} timeout {wait}")?;
+    if let Some(stopped) = waiting.stopped {
+        writeln!(out, "{stopped}")?;
+    }
+    for it in open {
+        write_line(out, *it, register.get(it.id))?;
+    }
+    Ok(())
+}
+
+/// Writes the line of a transaction.
+fn write_line<W: fmt::Write>(out: &mut W, open: Open, known: Option<&Known>) -> fmt::Result {
+    let Open {
+        id,
+        phase,
+        progress,
+        next,
+    } = open;
+    write!(out, "{}:{} {}", id.source, id.number, phase_word(phase))?;
+    match known.and_then(|known| known.names.as_ref()) {
+        Some(names) => {
+            let (from, to) = (names.source.as_slice(), names.destination.as_slice());
+            write!(out, " {} {}", Name(from), Name(to))?;
+        }
+        None => write!(out, " - -")?,
+    }
+    let size = OrDash(known.and_then(|known| known.size));
+    write!(out, " {size} {}", OrDash(progress))?;
+    match next {
+        Some(next) => write!(out, " {} {}", next.left, timer_word(next.timer))?,
+        None => write!(out, " - -")?,
+    }
+    if let Some(held) = known.and_then(|known| known.held) {
+        write!(out, " held {held}")?;
+    }
+    if is_suspended(known) {
+        write!(out, " suspended")?;
+    }
+    writeln!(out)
+}
+
+fn is_suspended(known: Option<&Known>) -> bool {
+    match known {
+        Some(known) => known.is_suspended && !known.is_over,
+        None => false,
+    }
+}
+
+fn write_array<W: fmt::Write>(
+    out: &mut W,
+    register: &Register,
+    open: &[Open],
+    waiting: Waiting,
+    wait: Option<u64>,
+) -> fmt::Result {
+    let (count, files, wait) = (open.len(), waiting.files, OrNull(wait));
+    write!(
+        out,
+        "{{\"open\":{count},\"waiting\":{files},\"timeout\":{wait},"
+    )?;
+    if let Some(stopped) = waiting.stopped {
+        write!(out, "\"stopped\":\"{stopped}\",")?;
+    }
+    write!(out, "\"transactions\":[")?;
+    for (place, it) in open.iter().enumerate() {
+        if place > 0 {
+            write!(out, ",")?;
+        }
+        write_object(out, *it, register.get(it.id))?;
+    }
+    writeln!(out, "]}}")
+}
+
+/// Writes the object of a transaction.
+fn write_object<W: fmt::Write>(out: &mut W, open: Open, known: Option<&Known>) -> fmt::Result {
+    let Open {
+        id,
+        phase,
+        progress,
+        next,
+    } = open;
+    let phase = phase_word(phase);
+    write!(
+        out,
+        "{{\"transaction\":\"{}:{}\",\"phase\":\"{phase}\"",
+        id.source, id.number
+    )?;
+    if let Some(names) = known.and_then(|known| known.names.as_ref()) {
+        let from = JsonName(names.source.as_slice());
+        let to = JsonName(names.destination.as_slice());
+        write!(out, ",\"source\":{from},\"destination\":{to}")?;
+    }
+    let size = OrNull(known.and_then(|known| known.size));
+    let progress = OrNull(progress);
+    let held = OrNull(known.and_then(|known| known.held));
+    let suspended = is_suspended(known);
+    write!(
+        out,
+        ",\"size\":{size},\"progress\":{progress},\"held\":{held},\"suspended\":{suspended}"
+    )?;
+    match next {
+        Some(next) => {
+            let (left, word) = (next.left, timer_word(next.timer));
+            write!(out, ",\"timeout\":{left},\"timer\":\"{word}\"}}")
+        }
+        None => write!(out, ",\"timeout\":null,\"timer\":null}}"),
+    }
+}
+
+/// Writes the counters: a line for each in text, a member for each in JSON.
+///
+/// # Errors
+///
+/// That of the writer.
+pub fn write_counters<O: Outbox, I: Inbox, W: fmt::Write>(
+    out: &mut W,
+    form: Form,
+    totals: &Totals,
+    gaps: &FrameGaps,
+    station: &Station<O, I>,
+) -> fmt::Result {
+    match form {
+        Form::Text => {
+            for (name, count) in figures(totals, gaps, station) {
+                writeln!(out, "{name} {count}")?;
+            }
+            write_dropped_lines(out, station)
+        }
+        Form::Json => {
+            write!(out, "{{")?;
+            write_counter_members(out, totals, gaps, station)?;
+            writeln!(out, "}}")
+        }
+    }
+}
+
+/// Writes the counters as members of an object.
+///
+/// # Errors
+///
+/// That of the writer.
+pub fn write_counter_members<O: Outbox, I: Inbox, W: fmt::Write>(
+    out: &mut W,
+    totals: &Totals,
+    gaps: &FrameGaps,
+    station: &Station<O, I>,
+) -> fmt::Result {
+    let figures = figures(totals, gaps, station);
+    write_members(out, &figures)?;
+    write_dropped_members(out, station)
+}
+
+/// The counters but for what was dropped, by their names.
+fn figures<O: Outbox, I: Inbox>(
+    totals: &Totals,
+    gaps: &FrameGaps,
+    station: &Station<O, I>,
+) -> [(&'static str, u64); 15] {
+    let sent = station.counters().sent;
+    let pdus = sent
+        .file_data
+        .saturating_add(sent.file_data_again)
+        .saturating_add(sent.naks)
+        .saturating_add(sent.other_directives);
+    [
+        ("files_sent", totals.complete as u64),
+        ("octets_sent", totals.octets_sent),
+        ("files_received", totals.received as u64),
+        ("octets_received", totals.octets_received),
+        ("files_failed", totals.failed as u64),
+        ("puts_made", totals.made as u64),
+        ("puts_refused", totals.refused as u64),
+        ("pdus_sent", pdus),
+        ("file_data_sent", sent.file_data),
+        ("file_data_sent_again", sent.file_data_again),
+        ("naks_sent", sent.naks),
+        ("frame_gaps", gaps.gaps()),
+        ("frames_missing", gaps.missing()),
+        (
+            "frames_damaged",
+            station.link_drops(LinkDrop::Frame(FrameError::Damaged)),
+        ),
+        ("datagrams_thrown_away", gaps.thrown_away()),
+    ]
+}
+
+/// Writes a line for each cause by which something was dropped.
+fn write_dropped_lines<O: Outbox, I: Inbox, W: fmt::Write>(
+    out: &mut W,
+    station: &Station<O, I>,
+) -> fmt::Result {
+    for by in LinkDrop::ALL {
+        let (number, name) = (by.number(), by.name());
+        write_dropped(out, "link", number, name, station.link_drops(by))?;
+    }
+    write_pdus_dropped(out, station)
+}
+
+fn write_pdus_dropped<O: Outbox, I: Inbox, W: fmt::Write>(
+    out: &mut W,
+    station: &Station<O, I>,
+) -> fmt::Result {
+    for by in EntityDrop::ALL {
+        let (number, name) = (by.number(), by.name());
+        write_dropped(out, "pdu", number, name, station.drops(by))?;
+    }
+    Ok(())
+}
+
+/// Writes the line of a cause, where its count isn't zero.
+fn write_dropped<W: fmt::Write>(
+    out: &mut W,
+    of: &str,
+    number: u8,
+    name: &str,
+    count: u64,
+) -> fmt::Result {
+    if count > 0 {
+        writeln!(out, "dropped {of} {number} {name} {count}")?;
+    }
+    Ok(())
+}
+
+/// Writes these counters as members of an object.
+fn write_members<W: fmt::Write>(out: &mut W, figures: &[(&'static str, u64)]) -> fmt::Result {
+    for (place, (name, count)) in figures.iter().enumerate() {
+        if place > 0 {
+            write!(out, ",")?;
+        }
+        write!(out, "\"{name}\":{count}")?;
+    }
+    Ok(())
+}
+
+/// Writes what was dropped as two members of an object.
+fn write_dropped_members<O: Outbox, I: Inbox, W: fmt::Write>(
+    out: &mut W,
+    station: &Station<O, I>,
+) -> fmt::Result {
+    write!(out, ",\"link_drops\":{{")?;
+    write_link_members(out, station)?;
+    write!(out, "}},\"pdu_drops\":{{")?;
+    write_pdu_members(out, station)?;
+    write!(out, "}}")
+}
+
+fn write_link_members<O: Outbox, I: Inbox, W: fmt::Write>(
+    out: &mut W,
+    station: &Station<O, I>,
+) -> fmt::Result {
+    let mut has_one = false;
+    for by in LinkDrop::ALL {
+        has_one = write_member(out, by.name(), station.link_drops(by), has_one)?;
+    }
+    Ok(())
+}
+
+fn write_pdu_members<O: Outbox, I: Inbox, W: fmt::Write>(
+    out: &mut W,
+    station: &Station<O, I>,
+) -> fmt::Result {
+    let mut has_one = false;
+    for by in EntityDrop::ALL {
+        has_one = write_member(out, by.name(), station.drops(by), has_one)?;
+    }
+    Ok(())
+}
+
+/// Writes a cause and its count, where it isn't zero, behind the one before if there is one.
+/// Answers whether there is one now.
+fn write_member<W: fmt::Write>(
+    out: &mut W,
+    name: &str,
+    count: u64,
+    has_one: bool,
+) -> Result<bool, fmt::Error> {
+    if count == 0 {
+        return Ok(has_one);
+    }
+    if has_one {
+        write!(out, ",")?;
+    }
+    write!(out, "\"{name}\":{count}")?;
+    Ok(true)
+}

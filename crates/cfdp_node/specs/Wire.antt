@@ -1,2 +1,0 @@
--- Wires of UDP sockets.
-pub mod Pacer

@@ -1,0 +1,5 @@
+//! What the commands that transfer files between folders (`loop`, `station`) share.
+
+pub mod fault;
+pub mod named_files;
+pub mod telling;

@@ -1,8 +1,0 @@
-use Rattle.std.proofs.Common.{sym}
-use Rattle.std.proofs.Output.{has_written_of_eq}
-use Rattle.cfdp_report.proofs.FieldTexts.{filled_is}
-use Rattle.cfdp_report.proofs.dump.field.FilledFieldDisplay.fmt.Goals as goal
-
-pub returns-clause-writes : goal.returns-clause-writes
-returns-clause-writes g c =
-    λ plain ok. has_written_of_eq _ _ _ _ _ (sym (filled_is c.args.self.now.0.now c.args.self.now.1.now c.args.self.now.2.now)) (c.write.ensures.writes plain ok)

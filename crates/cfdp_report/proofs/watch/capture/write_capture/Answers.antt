@@ -1,6 +1,0 @@
-use Rattle.cfdp_report.proofs.Captures.{capture_goes_on}
-use Rattle.cfdp_report.proofs.watch.capture.write_capture.Goals as goal
-
-pub returns-clause-goes_on : goal.returns-clause-goes_on
-returns-clause-goes_on g c =
-    capture_goes_on _ c.args.sightings.now _ _ _ c.in_ok-write_records.ensures c.flush.ensures.bytes

@@ -1,6 +1,0 @@
-use Rattle.cfdp_script.proofs.Flushing.{flushed_dump}
-use Rattle.cfdp_script.proofs.dump.run_dump.Goals as goal
-
-pub returns-clause-told : goal.returns-clause-told
-returns-clause-told g c =
-    flushed_dump _ _ _ c.flushed.ensures.kept c.args.request (g.R.Read.remaining c.args.reader) c.dump_lines.result c.flushed.result c.dump_lines.ensures c.flushed.ensures.answer c.flushed.ensures.none

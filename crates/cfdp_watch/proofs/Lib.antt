@@ -1,0 +1,3 @@
+pub mod Traces
+pub mod Captures
+pub mod Charts

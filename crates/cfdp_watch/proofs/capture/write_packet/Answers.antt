@@ -1,0 +1,17 @@
+use Rattle.std.proofs.Common.{◌≡◌, ◌∙◌, ap, length, rules, arith}
+use Rattle.cfdp_watch.specs.Capture.{padding_len}
+use Rattle.cfdp_dump.proofs.TextLines.{appends_behind}
+use Rattle.cfdp_watch.proofs.capture.write_packet.Goals as goal
+
+pub returns : goal.returns
+returns g c =
+    let same : c.from-len.result ≡ length c.args.pdu.now = search (rules, arith) in
+    let padded : c.padding_len-padding.result ≡ padding_len (length c.args.pdu.now) = c.padding_len-padding.ensures.same ∙ ap padding_len same in
+    let filled = appends_behind _ _ _ _ _ _ (rw padded at c.in_ok-write_all-3.ensures.bytes) (rw (padded, same) at c.write_number-6.ensures) in
+    let pdu = appends_behind _ _ _ _ _ _ c.in_ok-write_all-2.ensures.bytes filled in
+    let sent = appends_behind _ _ _ _ _ _ (rw same at c.in_ok-write_number-5.ensures) pdu in
+    let captured = appends_behind _ _ _ _ _ _ (rw same at c.in_ok-write_number-4.ensures) sent in
+    let time = appends_behind _ _ _ _ _ _ (rw c.to_be_bytes.ensures at c.in_ok-write_all.ensures.bytes) captured in
+    let lane = appends_behind _ _ _ _ _ _ (rw c.interface.ensures at c.in_ok-write_number-3.ensures) time in
+    let len = appends_behind _ _ _ _ _ _ (rw (padded, same) at c.in_ok-write_number-2.ensures) lane in
+    appends_behind _ _ _ _ _ _ c.in_ok-write_number.ensures len

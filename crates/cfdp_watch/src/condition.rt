@@ -1,0 +1,104 @@
+//! Conditions in words (CCSDS 727.0-B-5, table 5-5).
+use cfdp_directives::{Condition, Indication};
+use station_pair::Side;
+use std::io;
+use std::io::Write;
+
+/// The code of a cancel that a user asked for.
+pub const CANCELLED: u8 = 15;
+
+/// Which conditions stations told their users.
+#[derive(Clone, Copy)]
+pub struct Conditions {
+    are_told: [bool; 16],
+}
+
+/// Of which stations the users cancelled transactions.
+#[derive(Clone, Copy)]
+pub struct Cancels {
+    pub one: bool,
+    pub two: bool,
+}
+
+impl Conditions {
+    /// None so far.
+    pub fn new() -> Conditions {
+        Conditions {
+            are_told: [false; 16],
+        }
+    }
+
+    /// Adds the one that an indication tells, where it tells one.
+    pub fn note(&mut self, indication: &Indication) {
+        if let Some(condition) = told_condition(indication) {
+            self.are_told[usize::from(condition.code())] = true;
+        }
+    }
+
+    /// Writes a line for each of them but 0, in the order of their codes: what it says, and of a
+    /// cancel also whose it was.
+    ///
+    /// # Errors
+    ///
+    /// That of the writer.
+    pub fn write<W: Write>(&self, cancels: Cancels, out: &mut W) -> io::Result<()> {
+        for code in 1..16u8 {
+            if self.are_told[usize::from(code)] {
+                write!(out, "condition {code}: {}", condition_words(code))?;
+                if code == CANCELLED {
+                    write_cancels(cancels, out)?;
+                }
+                writeln!(out)?;
+            }
+        }
+        Ok(())
+    }
+}
+
+/// Writes the stations whose users cancelled transactions, where it is known.
+fn write_cancels<W: Write>(cancels: Cancels, out: &mut W) -> io::Result<()> {
+    let mut mark = ": ";
+    for (side, has_cancelled) in [(Side::One, cancels.one), (Side::Two, cancels.two)] {
+        if has_cancelled {
+            write!(out, "{mark}station {}", side.entity())?;
+            mark = " and ";
+        }
+    }
+    Ok(())
+}
+
+/// The condition that an indication tells, where it tells one.
+fn told_condition(indication: &Indication) -> Option<Condition> {
+    match indication {
+        Indication::Finished { condition, .. } => Some(*condition),
+        Indication::Suspended(_, condition) => Some(*condition),
+        Indication::Fault(_, condition) => Some(*condition),
+        Indication::Abandoned(_, condition) => Some(*condition),
+        Indication::Transaction(_)
+        | Indication::EofSent(_)
+        | Indication::MetadataRecv { .. }
+        | Indication::EofRecv(_)
+        | Indication::Resumed(_)
+        | Indication::Progress(..) => None,
+    }
+}
+
+/// What a condition code says.
+fn condition_words(code: u8) -> &'static str {
+    match code {
+        0 => "no error",
+        1 => "ACK limit reached: no acknowledgement of an EOF or a Finished",
+        2 => "keep-alive limit reached: the receiver is too far behind",
+        3 => "unsupported transmission mode",
+        4 => "filestore rejection: the file cannot be stored or read",
+        5 => "checksum failure: the received file differs from the sent one",
+        6 => "file size error: file data passes the end of the file",
+        7 => "NAK limit reached: data is still missing after all allowed requests",
+        8 => "inactivity: no PDU of the transaction arrived in time",
+        10 => "check limit reached: the file is still incomplete",
+        11 => "unsupported checksum type",
+        14 => "suspended by a user",
+        15 => "cancelled by a user",
+        _ => "no meaning in the standard",
+    }
+}

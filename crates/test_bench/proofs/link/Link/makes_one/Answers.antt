@@ -1,6 +1,0 @@
-use Rattle.std.proofs.Common.{arith}
-use Rattle.aos_frame.specs.declared.config.Lane.TheVariants.{Directives}
-use Rattle.test_bench.proofs.link.Link.makes_one.Goals as goal
-
-pub next_frame-made-requires : goal.next_frame-made-requires
-next_frame-made-requires c = omega (arith, c.frame_len.ensures Directives, c.in_ok-frame.ensures.len, c.deref_mut.ensures.len)
