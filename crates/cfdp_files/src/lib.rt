@@ -6,6 +6,7 @@
 
 mod held_folder;
 mod inbox_files;
+mod least_number;
 mod locks;
 mod made_files;
 mod plain_file;
