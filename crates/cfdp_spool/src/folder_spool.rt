@@ -1,17 +1,22 @@
 //! A spool over a folder: files that are put into it are sent.
-ghost use Rattle.std.specs.Prelude.{◌≡◌, []};
+ghost use Rattle.std.specs.Prelude.{◌≡◌, [], ◌∷◌, ◌++◌, IfOk, IfSome};
+ghost use Rattle.cfdp_spool.specs.Leaving.{GivenAs, OnlyDoes, ToldToLeave, names_told};
+ghost use Rattle.cfdp_spool.specs.declared.folder_spool.place.Way.TheVariants.{Sent, Failed};
 
 mod folder;
+mod notes;
 mod notice;
+mod place;
 mod queue;
 mod scan;
 mod stamp;
 
 use cfdp_service::Spool;
-pub use folder::{SpoolFolder, Way, tell_spool};
+pub use folder::{SpoolFolder, tell_spool};
 pub use notice::{SpoolNews, SpoolNotice, SpoolTeller, StandardErrorTeller};
-use past::Past;
+use place::Way;
 use queue::Queue;
+use std::marker::Model;
 
 /// The exit status where a folder failed.
 const DEVICE: u8 = 3;
@@ -37,7 +42,14 @@ const DEVICE: u8 = 3;
 #[derive(Drop)]
 pub struct FolderSpool<'a, T: SpoolTeller> {
     queue: Queue<'a, T>,
-    gone: Past<Past<u8>>,
+}
+
+impl<'a, T: SpoolTeller> Model for FolderSpool<'a, T> {
+    ghost use Rattle.cfdp_spool.specs.Leaving.{SpoolState};
+
+    ghost Value = { SpoolState };
+
+    ghost view = { λ s. s.queue };
 }
 
 impl<'a, T: SpoolTeller> FolderSpool<'a, T> {
@@ -53,11 +65,14 @@ impl<'a, T: SpoolTeller> FolderSpool<'a, T> {
         path: &str,
         removes_sent: bool,
         teller: T,
-    ) -> Result<FolderSpool<'a, T>, u8> {
+    ) -> Result<FolderSpool<'a, T>, u8>
+        ensures path { IfOk result (λ spool. spool.path ≡ path.now) }
+        ensures removes { IfOk result (λ spool. spool.removes ≡ removes_sent) }
+        ensures told { IfOk result (λ spool. spool.told ≡ []) }
+    {
         match SpoolFolder::take(rt, path, removes_sent) {
             Ok(folder) => Ok(FolderSpool {
                 queue: Queue::new(rt, folder, teller),
-                gone: Past::new(),
             }),
             Err(error) => {
                 tell_spool(rt, path, &error);
@@ -68,26 +83,45 @@ impl<'a, T: SpoolTeller> FolderSpool<'a, T> {
 }
 
 impl<'a, T: SpoolTeller> Spool for FolderSpool<'a, T> {
-    ghost sent = { λ s. s.gone };
+    ghost sent = { λ s. names_told Sent s.told };
 
-    fn has_next(&mut self) -> bool {
+    fn has_next(&mut self) -> bool
+        ensures sent { names_told Sent self.new.told ≡ names_told Sent self.old.told }
+        ensures only { OnlyDoes self.old self.new }
+    {
         self.queue.has_next()
     }
 
-    fn next(&mut self) -> Option<Vec<u8>> {
+    fn next(&mut self) -> Option<Vec<u8>>
+        ensures sent { names_told Sent self.new.told ≡ names_told Sent self.old.told }
+        ensures only { OnlyDoes self.old self.new }
+        ensures given { IfSome result (λ name. GivenAs name.items self.new) }
+    {
         self.queue.next()
     }
 
-    fn sent(&mut self, name: &[u8]) {
+    fn sent(&mut self, name: &[u8])
+        ensures sent { names_told Sent self.new.told
+            ≡ names_told Sent self.old.told ++ (name.now ∷ []) }
+        ensures failed { names_told Failed self.new.told ≡ names_told Failed self.old.told }
+        ensures leaves { ToldToLeave name.now Sent self.old self.new }
+    {
         self.queue.leaves(name, Way::Sent);
-        self.gone.put(&Past::of(name));
     }
 
-    fn failed(&mut self, name: &[u8]) {
+    fn failed(&mut self, name: &[u8])
+        ensures sent { names_told Sent self.new.told ≡ names_told Sent self.old.told }
+        ensures failed { names_told Failed self.new.told
+            ≡ names_told Failed self.old.told ++ (name.now ∷ []) }
+        ensures leaves { ToldToLeave name.now Failed self.old self.new }
+    {
         self.queue.leaves(name, Way::Failed);
     }
 
-    fn put_back(&mut self, name: &[u8]) {
+    fn put_back(&mut self, name: &[u8])
+        ensures sent { names_told Sent self.new.told ≡ names_told Sent self.old.told }
+        ensures same { self.new ≡ self.old }
+    {
         self.queue.put_back(name);
     }
 }

@@ -1,10 +1,15 @@
 // The files of a spool that wait, and those that were given.
-use crate::folder_spool::folder::{SpoolFolder, Way};
+ghost use Rattle.std.specs.Prelude.{◌≡◌, IfSome};
+ghost use Rattle.cfdp_spool.specs.Leaving.{EndsWith, GivenAs, IsTold, OnlyDoes, ToldToLeave};
+
+use crate::folder_spool::folder::SpoolFolder;
 use crate::folder_spool::notice::{SpoolNews, SpoolNotice, SpoolTeller};
+use crate::folder_spool::place::{Place, Way};
 use crate::folder_spool::scan::{Lying, Scan};
 use crate::folder_spool::stamp::FileStamp;
 use std::collections::{BTreeMap, BTreeSet, VecDeque};
 use std::io;
+use std::marker::Model;
 use std::time::Instant;
 
 /// The most files that are known at a time: such as were given, or were put back.
@@ -21,6 +26,7 @@ const AGAIN: u64 = 5;
 #[derive(Drop)]
 struct Staying {
     name: Vec<u8>,
+    stamp: FileStamp,
     way: Way,
 }
 
@@ -58,9 +64,21 @@ pub struct Queue<'a, T: SpoolTeller> {
     tried: Option<Instant>,
 }
 
+impl<'a, T: SpoolTeller> Model for Queue<'a, T> {
+    ghost use Rattle.cfdp_spool.specs.Leaving.{AreTold, SpoolState};
+
+    ghost Value = { SpoolState };
+
+    ghost view = { λ q. q.folder };
+
+    ghost invariant = { λ q. AreTold q.folder.told q.staying.items };
+}
+
 impl<'a, T: SpoolTeller> Queue<'a, T> {
     /// Nothing is known of the folder.
-    pub fn new(rt: &'a HostRuntime, folder: SpoolFolder<'a>, teller: T) -> Queue<'a, T> {
+    pub fn new(rt: &'a HostRuntime, folder: SpoolFolder<'a>, teller: T) -> Queue<'a, T>
+        ensures { result ≡ folder.entry }
+    {
         let alloc = rt.alloc();
         Queue {
             rt,
@@ -80,7 +98,9 @@ impl<'a, T: SpoolTeller> Queue<'a, T> {
     }
 
     /// Whether a file waits.
-    pub fn has_next(&mut self) -> bool {
+    pub fn has_next(&mut self) -> bool
+        ensures { OnlyDoes self.old self.new }
+    {
         if self.offered.is_none() {
             self.offered = self.find();
         }
@@ -89,19 +109,24 @@ impl<'a, T: SpoolTeller> Queue<'a, T> {
 
     /// The name of the next file, which is known from now on as what it is now; `None` where none
     /// waits, or there is no memory for it.
-    pub fn next(&mut self) -> Option<Vec<u8>> {
+    pub fn next(&mut self) -> Option<Vec<u8>>
+        ensures only { OnlyDoes self.old self.new }
+        ensures given { IfSome result (λ name. GivenAs name.items self.new) }
+    {
         if !self.has_next() {
             return None;
         }
         let name = self.offered.take()?;
-        let stamp = self.folder.look(name.as_slice()).ok()??;
+        let stamp = self.folder.see(name.as_slice(), Place::Spool).ok()??;
         let kept = Vec::from_slice(self.rt.alloc(), name.as_slice()).ok()?;
         let _ = self.known.insert(kept, stamp).ok()?;
         Some(name)
     }
 
     /// Finds the next file that isn't known.
-    fn find(&mut self) -> Option<Vec<u8>> {
+    fn find(&mut self) -> Option<Vec<u8>>
+        ensures { OnlyDoes self.old self.new }
+    {
         let now = Instant::now(self.rt).ok()?;
         self.try_staying(now);
         if self.ready.is_empty() || self.known.len() >= MOST_KNOWN {
@@ -114,7 +139,9 @@ impl<'a, T: SpoolTeller> Queue<'a, T> {
     }
 
     /// The next of those that are ready and still there.
-    fn next_ready(&mut self) -> Option<Vec<u8>> {
+    fn next_ready(&mut self) -> Option<Vec<u8>>
+        ensures { self.new ≡ self.old }
+    {
         for _ in 0..self.ready.len() {
             if self.known.len() >= MOST_KNOWN {
                 return None;
@@ -128,7 +155,9 @@ impl<'a, T: SpoolTeller> Queue<'a, T> {
     }
 
     /// The next of those that were put back and are still there, if it has waited for long enough.
-    fn next_waiting(&mut self, now: Instant) -> Option<Vec<u8>> {
+    fn next_waiting(&mut self, now: Instant) -> Option<Vec<u8>>
+        ensures { self.new ≡ self.old }
+    {
         for _ in 0..self.waiting.len() {
             let first = self.waiting.front()?;
             if now.duration_since(first.since).as_secs() < AGAIN {
@@ -145,12 +174,14 @@ impl<'a, T: SpoolTeller> Queue<'a, T> {
 
     /// Whether a plain file of this name lies in the folder.
     fn is_there(&self, name: &[u8]) -> bool {
-        matches!(self.folder.look(name), Ok(Some(_)))
+        matches!(self.folder.look(name, Place::Spool), Ok(Some(_)))
     }
 
     /// Looks through the folder, if all that was found before is given and the last look is over
     /// for long enough.
-    fn look_through(&mut self, now: Instant) {
+    fn look_through(&mut self, now: Instant)
+        ensures { self.new ≡ self.old }
+    {
         if !self.ready.is_empty() || !is_due(self.looked, now) {
             return;
         }
@@ -168,7 +199,9 @@ impl<'a, T: SpoolTeller> Queue<'a, T> {
     }
 
     /// Takes what a look found, and tells of names that can't be sent.
-    fn takes(&mut self, scan: Scan) {
+    fn takes(&mut self, scan: Scan)
+        ensures { self.new ≡ self.old }
+    {
         self.has_told_unlisted = false;
         for name in scan.unsendable.iter() {
             if !self.told.contains(name.as_str()) {
@@ -183,7 +216,9 @@ impl<'a, T: SpoolTeller> Queue<'a, T> {
         self.ready = scan.files;
     }
 
-    fn tell_unlisted(&mut self, error: &io::Error) {
+    fn tell_unlisted(&mut self, error: &io::Error)
+        ensures { self.new ≡ self.old }
+    {
         if !self.has_told_unlisted {
             self.tell(SpoolNews::Unlisted(error.kind()));
         }
@@ -198,54 +233,87 @@ impl<'a, T: SpoolTeller> Queue<'a, T> {
     }
 
     /// Moves a file away that was given and whose sending is over.
-    pub fn leaves(&mut self, name: &[u8], way: Way) {
-        if let Err(error) = self.try_to_leave(name, way) {
+    pub fn leaves(&mut self, name: &[u8], way: Way)
+        ensures { ToldToLeave name.now way self.old self.new }
+    {
+        let stamp = self.known.get(name).copied();
+        self.folder.tells(name, way, stamp);
+        if let Some(stamp) = stamp
+            && let Err(error) = self.try_to_leave(name, stamp, way)
+        {
             self.tell(SpoolNews::Stays(name, error.kind()));
-            self.stays(name, way);
+            self.stays(name, stamp, way);
         }
     }
 
     /// Moves a file away, and forgets it.
-    fn try_to_leave(&mut self, name: &[u8], way: Way) -> io::Result<()> {
-        if let Some(stamp) = self.known.get(name) {
-            self.folder.leave(name, stamp, way)?;
-            let _ = self.known.remove(name);
-        }
+    fn try_to_leave(&mut self, name: &[u8], stamp: FileStamp, way: Way) -> io::Result<()>
+        requires { IsTold self.old name.now way stamp }
+        ensures only { OnlyDoes self.old self.new }
+        ensures ends { EndsWith name.now self.new }
+    {
+        self.folder.leave(name, stamp, way)?;
+        let _ = self.known.remove(name);
         Ok(())
     }
 
     /// Notes a file that can't be moved away. Where there is no memory for that, it is known until
     /// the end, and so isn't given again either.
-    fn stays(&mut self, name: &[u8], way: Way) {
+    fn stays(&mut self, name: &[u8], stamp: FileStamp, way: Way)
+        requires { IsTold self.old name.now way stamp }
+        ensures { self.new ≡ self.old }
+    {
         if let Ok(name) = Vec::from_slice(self.rt.alloc(), name) {
-            let _ = self.staying.push_back(Staying { name, way });
+            drop(self.staying.push_back(Staying { name, stamp, way }));
         }
     }
 
     /// Tries to move those away that the system refused to move.
-    fn try_staying(&mut self, now: Instant) {
+    fn try_staying(&mut self, now: Instant)
+        ensures { OnlyDoes self.old self.new }
+    {
         if self.staying.is_empty() || !is_due(self.tried, now) {
             return;
         }
         self.tried = Some(now);
         for _ in 0..self.staying.len() {
-            if let Some(Staying { name, way }) = self.staying.pop_front()
-                && self.try_to_leave(name.as_slice(), way).is_err()
-            {
-                self.stays(name.as_slice(), way);
-            }
+            self.try_first_staying();
         }
     }
 
+    /// Tries to move the first of those away that the system refused to move. If it refuses again,
+    /// that one stays behind the others.
+    fn try_first_staying(&mut self)
+        ensures { OnlyDoes self.old self.new }
+    {
+        if let Some(Staying { name, stamp, way }) = self.next_staying()
+            && self.try_to_leave(name.as_slice(), stamp, way).is_err()
+        {
+            self.stays(name.as_slice(), stamp, way);
+        }
+    }
+
+    /// Takes the first of those that the system refused to move.
+    fn next_staying(&mut self) -> Option<Staying>
+        ensures same { self.new ≡ self.old }
+        ensures told { IfSome result (λ s. IsTold self.new s.name.items s.way s.stamp) }
+    {
+        self.staying.pop_front()
+    }
+
     /// Gives a file again, behind those that are ready, and some seconds later.
-    pub fn put_back(&mut self, name: &[u8]) {
+    pub fn put_back(&mut self, name: &[u8])
+        ensures { self.new ≡ self.old }
+    {
         if self.try_to_put_back(name).is_err() {
             // Without memory for that the next look through the folder finds it.
             let _ = self.known.remove(name);
         }
     }
 
-    fn try_to_put_back(&mut self, name: &[u8]) -> io::Result<()> {
+    fn try_to_put_back(&mut self, name: &[u8]) -> io::Result<()>
+        ensures { self.new ≡ self.old }
+    {
         let since = Instant::now(self.rt)?;
         let name = Vec::from_slice(self.rt.alloc(), name)?;
         self.waiting.push_back(Waiting { name, since })?;

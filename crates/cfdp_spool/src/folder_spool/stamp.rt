@@ -1,4 +1,6 @@
 // What a file of a spool was when the system was asked for it.
+ghost use Rattle.std.specs.Prelude.{◌≡◌, ◌↔◌, true};
+
 use std::fs::Metadata;
 use std::os::unix::fs::MetadataExt;
 
@@ -33,8 +35,17 @@ impl FileStamp {
         }
     }
 
-    /// Whether this is the same file with the same octets, whatever names it had since.
-    pub fn is_moved_from(&self, before: &FileStamp) -> bool {
+    /// Returns `true` if this is the same file as another.
+    pub fn is(&self, before: &FileStamp) -> bool
+        ensures { (result ≡ true) ↔ (self.now ≡ before.now) }
+    {
+        self.content == before.content && self.changed == before.changed
+    }
+
+    /// Returns `true` if this is the same file with the same octets, whatever names it had since.
+    pub fn is_moved_from(&self, before: &FileStamp) -> bool
+        ensures { (result ≡ true) ↔ (self.now.content ≡ before.now.content) }
+    {
         self.content == before.content
     }
 }
