@@ -5,6 +5,7 @@ use std::time::{SystemTime, UNIX_EPOCH};
 
 /// How many random bits a number has, and above how many of its lowest bits these stand.
 const RANDOM_BITS: u32 = 42;
+
 const BELOW_RANDOM: u32 = 20;
 
 /// Returns the least number of a station's first transaction, for numbers of so many octets: the

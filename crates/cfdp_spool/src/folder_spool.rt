@@ -85,8 +85,11 @@ impl<'a, T: SpoolTeller> FolderSpool<'a, T> {
 impl<'a, T: SpoolTeller> Spool for FolderSpool<'a, T> {
     ghost sent = { λ s. names_told Sent s.told };
 
+    ghost failed = { λ s. names_told Failed s.told };
+
     fn has_next(&mut self) -> bool
         ensures sent { names_told Sent self.new.told ≡ names_told Sent self.old.told }
+        ensures failed { names_told Failed self.new.told ≡ names_told Failed self.old.told }
         ensures only { OnlyDoes self.old self.new }
     {
         self.queue.has_next()
@@ -94,6 +97,7 @@ impl<'a, T: SpoolTeller> Spool for FolderSpool<'a, T> {
 
     fn next(&mut self) -> Option<Vec<u8>>
         ensures sent { names_told Sent self.new.told ≡ names_told Sent self.old.told }
+        ensures failed { names_told Failed self.new.told ≡ names_told Failed self.old.told }
         ensures only { OnlyDoes self.old self.new }
         ensures given { IfSome result (λ name. GivenAs name.items self.new) }
     {
@@ -120,6 +124,7 @@ impl<'a, T: SpoolTeller> Spool for FolderSpool<'a, T> {
 
     fn put_back(&mut self, name: &[u8])
         ensures sent { names_told Sent self.new.told ≡ names_told Sent self.old.told }
+        ensures failed { names_told Failed self.new.told ≡ names_told Failed self.old.told }
         ensures same { self.new ≡ self.old }
     {
         self.queue.put_back(name);

@@ -7,7 +7,7 @@ ghost use Rattle.cfdp_spool.specs.Leaving.{file_path, folder_path, noted};
 use crate::folder_spool::notes::{Done, Told};
 use crate::folder_spool::place::{Place, Way};
 use crate::folder_spool::stamp::FileStamp;
-use cfdp_files::{LockError, lock};
+use cfdp_files::{LockError, LockedFile};
 use cfdp_report::cause_text;
 use past::Past;
 use std::fs::{File, ReadDir};
@@ -18,7 +18,8 @@ use std::{fs, io};
 /// By a file of this name it is tried whether files can be moved.
 const TRIAL: &str = ".spool-trial";
 
-/// The folder of a spool, which one process has at a time.
+/// The folder of a spool, which one process has at a time: `.leaving` in it is locked as long as
+/// this value lives.
 #[derive(Drop)]
 pub struct SpoolFolder<'a> {
     rt: &'a HostRuntime,
@@ -27,12 +28,13 @@ pub struct SpoolFolder<'a> {
     removes_sent: bool,
     told: Past<Told>,
     done: Past<Done>,
-    _held: File,
+    _held: LockedFile,
 }
 
 impl<'a> Model for SpoolFolder<'a> {
-    ghost use Rattle.std.specs.Prelude.{string_bytes};
-    ghost use Rattle.cfdp_spool.specs.Leaving.{IsRight, SpoolState};
+    ghost use Rattle.std.specs.Prelude.{◌≡◌, string_bytes};
+    ghost use Rattle.cfdp_spool.specs.declared.folder_spool.place.Place.TheVariants.{Leaving};
+    ghost use Rattle.cfdp_spool.specs.Leaving.{IsRight, SpoolState, folder_path};
 
     ghost Value = { SpoolState };
 
@@ -48,7 +50,7 @@ impl<'a> Model for SpoolFolder<'a> {
       removes = f.removes_sent;
       told = f.told;
       done = f.done;
-    }) };
+    }) × (f._held ≡ folder_path (string_bytes f.path) Leaving) };
 }
 
 // Paths, and what is asked of the system that moves no file.
@@ -327,8 +329,7 @@ impl<'a> SpoolFolder<'a> {
     {
         let leaving = format!(in rt.alloc(); "{path}/.leaving").map_err(io::Error::from)?;
         make_folder(rt, leaving.as_str())?;
-        let held = File::open(rt, leaving.as_str())?;
-        lock(&held)?;
+        let held = LockedFile::open(rt, leaving.as_str())?;
         let mut folder = SpoolFolder {
             rt,
             path: String::from_str(rt.alloc(), path).map_err(io::Error::from)?,

@@ -4,7 +4,6 @@ use Rattle.cfdp_spool.specs.Leaving.{SpoolState}
 use Rattle.cfdp_spool.specs.declared.folder_spool.place.Place.TheVariants.{Leaving}
 use Rattle.cfdp_spool.specs.declared.folder_spool.stamp.FileStamp.{FileStamp}
 use Rattle.cfdp_spool.specs.declared.folder_spool.notes.Told.{Told}
-use Rattle.cfdp_spool.specs.declared.folder_spool.notes.Done.{Done}
 use Rattle.cfdp_spool.specs.declared.folder_spool.notes.Done.TheVariants.{Saw}
 use Rattle.cfdp_spool.proofs.folder_spool.folder.SpoolFolder.try_to_leave.Goals as goal
 
