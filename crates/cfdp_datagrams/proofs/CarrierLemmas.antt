@@ -1,10 +1,10 @@
 -- What leaves over a wire of datagrams, step by step.
-use Rattle.std.proofs.Common.{◌≡◌, ℕ, ◌+◌, ◌≤◌, zero, suc, Bool, true, false, List, [], ◌∷◌, Option, Some, None, length, ◌⊎◌, inl, inr, refl, sym, ap, subst, ◌∙◌, arith}
+use Rattle.std.proofs.Common.{◌≡◌, ℕ, ◌+◌, ◌≤◌, suc, Bool, true, List, [], ◌∷◌, Option, Some, None, length, inl, inr, refl, sym, ap, subst, ◌∙◌, arith}
 use Rattle.std.specs.Prelude.{is_some, unwrap_or}
 use Rattle.cfdp_station.specs.Transmitting.{Times}
 use Rattle.cfdp_port.specs.Calls.{WireCall}
 use Rattle.cfdp_datagrams.specs.Carrier.{ConversionState}
-use Rattle.cfdp_datagrams.specs.CarrierWire.{AsksLeave, CarrierState, CarriesAs, Converts, LeavesNext, MayLeave, SendsStep, waiting_of}
+use Rattle.cfdp_datagrams.specs.CarrierWire.{CarrierState, CarriesAs, Converts, LeavesNext, MayLeave, SendsStep, waiting_of}
 
 -- what is in an option
 pub some_same : (a b : ConversionState) → Some a ≡ Some b → a ≡ b

@@ -1,5 +1,5 @@
 -- The datagrams that carry one PDU each.
-use Rattle.std.specs.Prelude.{◌≡◌, ◌⊎◌, ℕ, ◌+◌, ◌%◌, ◌≤◌, ◌==◌, if◌then◌else◌, not, List, [], ◌∷◌, ◌++◌, Option, Some, Result, length, replicate}
+use Rattle.std.specs.Prelude.{◌≡◌, ◌⊎◌, ℕ, ◌+◌, ◌%◌, ◌≤◌, ◌==◌, if◌then◌else◌, not, List, [], ◌++◌, Some, Result, length, replicate}
 use Rattle.cfd_bits.specs.Field.{field}
 use Rattle.aos_frame.specs.Frame.{other_lane}
 use Rattle.aos_frame.specs.declared.config.Lane.{Lane}
@@ -120,9 +120,13 @@ pub record GivesFrame (frame : List ℕ) (old new : ConversionState) : Type 0 wh
   pub other : lane_down (other_lane lane) new.down ≡ lane_down (other_lane lane) old.down
   pub rest : new ≡ record old { down = new.down }
 
+-- The PDU of a datagram that came was taken; or the datagram was dropped, and nothing changed.
+abbrev pub TakesOrDrops : (datagram : List ℕ) → (old new : ConversionState) → Type 0
+TakesOrDrops datagram old new = (new ≡ old) ⊎ TakesDatagram datagram old new
+
 -- The PDU of a datagram that came was taken, or it was dropped; then the oldest whole frame went to
 -- the station.
 pub record Passes (datagram frame : List ℕ) (old new : ConversionState) : Type 0 where
   pub taken : ConversionState
-  pub takes : (taken ≡ old) ⊎ TakesDatagram datagram old taken
+  pub takes : TakesOrDrops datagram old taken
   pub gives : GivesFrame frame taken new

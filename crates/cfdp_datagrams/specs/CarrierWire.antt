@@ -1,5 +1,5 @@
 -- A wire of frames over a wire of datagrams, call by call.
-use Rattle.std.specs.Prelude.{◌≡◌, ◌⊎◌, ℕ, Bool, true, false, List, [], ◌∷◌, Option, Some, None, Result, Ok, Err, length}
+use Rattle.std.specs.Prelude.{◌≡◌, ◌⊎◌, ℕ, Bool, true, false, List, ◌∷◌, Option, Some, None, Result, Ok, Err, length}
 use Rattle.cfdp_station.specs.Transmitting.{Times}
 use Rattle.cfdp_port.specs.Calls.{WireCall, Asked, Readied, Rested, Sent, Timed}
 use Rattle.cfdp_port.specs.declared.wire.WireFault.{WireFault}
@@ -8,7 +8,7 @@ use Rattle.cfdp_datagrams.specs.declared.carrier.datagram.PduCarrier.{PduCarrier
 use Rattle.cfdp_datagrams.specs.declared.carrier.datagram.PduCarrier.TheVariants as pdu_carriers
 use Rattle.cfdp_datagrams.specs.declared.carrier.Carrier.{Carrier}
 use Rattle.cfdp_datagrams.specs.declared.carrier.Carrier.TheVariants.{Frames, Packets, Pdus}
-use Rattle.cfdp_datagrams.specs.Carrier.{ConversionState, GivesFrame, IsFirst, Leaves, Passes, TakesFrame}
+use Rattle.cfdp_datagrams.specs.Carrier.{ConversionState, GivesFrame, IsFirst, Leaves, Passes, TakesFrame, TakesOrDrops}
 
 -- The wire of datagrams; the way from frames to these and back, if they aren't the frames; and
 -- whether that wire was ready, and nothing was sent since.
@@ -77,14 +77,35 @@ module _ {W : Type 0} (Steps : W → WireCall → W → Type 0) where
     pub takes : TakesFrame frame c taken
     pub sends : SendsOut (record old { conversion = Some taken }) new
 
-  -- Where a frame comes to the station, it is one of its end of the link: one that waited, or one
-  -- behind a datagram that came before that.
+  -- A frame comes to the station: one that waited, for which the wire isn't asked; or one after a
+  -- datagram that came before that.
   pub record BringsFrame (frame : List ℕ) (c : ConversionState) (old new : CarrierState W)
       : Type 0 where
     pub after : ConversionState
-    pub comes : GivesFrame frame c after ⊎ ((datagram : List ℕ)
+    pub comes : (GivesFrame frame c after × (new.wire ≡ old.wire)) ⊎ ((datagram : List ℕ)
         × Steps old.wire (Asked (Ok (Some datagram))) new.wire × Passes datagram frame c after)
     pub now : new.conversion ≡ Some after
+
+  -- A datagram came after which no frame comes to the station.
+  pub record BringsDatagram (c : ConversionState) (old new : CarrierState W) : Type 0 where
+    pub datagram : List ℕ
+    pub after : ConversionState
+    pub came : Steps old.wire (Asked (Ok (Some datagram))) new.wire
+    pub takes : TakesOrDrops datagram c after
+    pub now : new.conversion ≡ Some after
+
+  -- The wire was asked what came, and this is its answer; nothing else changed.
+  abbrev pub AsksWire : Result (Option (List ℕ)) WireFault → (old new : CarrierState W) → Type 0
+  AsksWire came old new = Steps old.wire (Asked came) new.wire
+      × (new.conversion ≡ old.conversion)
+
+  -- A frame comes; or nothing, where the wire says so; or a fault, which is the wire's, or stands
+  -- for a datagram after which no frame comes. Nothing is sent, and no PDU leaves the queue.
+  abbrev pub Brings : Result (Option (List ℕ)) WireFault → (c : ConversionState)
+      → (old new : CarrierState W) → Type 0
+  Brings (Ok (Some frame)) c old new = BringsFrame frame c old new
+  Brings (Ok None) c old new = AsksWire (Ok None) old new
+  Brings (Err fault) c old new = AsksWire (Err fault) old new ⊎ BringsDatagram c old new
 
   -- A frame may leave only where no datagram waits, and the wire was ready for one.
   pub record SaysReady (answer : Bool) (old new : CarrierState W) : Type 0 where
@@ -101,16 +122,17 @@ module _ {W : Type 0} (Steps : W → WireCall → W → Type 0) where
 
   abbrev pub Converts : (c : ConversionState) → WireCall → (old new : CarrierState W) → Type 0
   Converts c (Sent frame answer) old new = SendsFrame frame c old new
-  Converts c (Asked came) old new =
-      (frame : List ℕ) → came ≡ Ok (Some frame) → BringsFrame frame c old new
+  Converts c (Asked came) old new = Brings came c old new × (new.has_leave ≡ old.has_leave)
   Converts c (Readied answer) old new = SaysReady answer old new
   Converts c (Timed now) old new = TellsTime now old new
   Converts c (Rested is_open answer) old new =
       Steps old.wire (Rested is_open answer) new.wire × (new.conversion ≡ old.conversion)
+      × (new.has_leave ≡ old.has_leave)
 
   -- What a call does: where the datagrams are the frames, the wire of these does it.
   abbrev pub CarriesAs : Option ConversionState → WireCall → (old new : CarrierState W) → Type 0
   CarriesAs None call old new = Steps old.wire call new.wire × (new.conversion ≡ None)
+      × (new.has_leave ≡ old.has_leave)
   CarriesAs (Some c) call old new = Converts c call old new
 
   abbrev pub Carries : (old : CarrierState W) → WireCall → (new : CarrierState W) → Type 0

@@ -11,7 +11,7 @@
 ghost use Rattle.std.specs.Prelude.{◌≡◌, ℕ, ◌≤◌, List, [], ◌∷◌, length, take, None, Some, true};
 ghost use Rattle.std.specs.Prelude.{IfOk, IfSome, OnErr, OnOk};
 ghost use Rattle.cfdp_datagrams.specs.Carrier.{ConversionState, GivesFrame, IsFirst, Leaves};
-ghost use Rattle.cfdp_datagrams.specs.Carrier.{Passes, TakesDatagram, TakesFrame};
+ghost use Rattle.cfdp_datagrams.specs.Carrier.{Passes, TakesDatagram, TakesFrame, TakesOrDrops};
 ghost use Rattle.cfdp_datagrams.specs.CarrierWire.{Carries, IsFirstOf, LeavesNext, MayLeave};
 ghost use Rattle.cfdp_datagrams.specs.CarrierWire.{SendsOut, pdu_carrier, waiting_of};
 
@@ -183,11 +183,13 @@ impl Conversion {
     }
 
     /// Takes the PDU of a datagram that came, and writes the next frame for the station to the
-    /// front of a buffer, as `next_frame` does. A datagram that is dropped is counted in the tally.
+    /// front of a buffer, as `next_frame` does; `None` if there is none, though the PDU may have
+    /// been taken. A datagram that is dropped is counted in the tally.
     fn pass(&mut self, datagram: &[u8], tally: &CarrierTally, buffer: &mut [u8]) -> Option<usize>
         ensures within { IfSome result (λ len. len ≤ length buffer.new) }
         ensures passes { IfSome result (λ len. Passes datagram.now (take len buffer.new) self.old
             self.new) }
+        ensures none { result ≡ None → TakesOrDrops datagram.now self.old self.new }
     {
         if let Err(cause) = self.take_datagram(datagram) {
             tally.count(cause);

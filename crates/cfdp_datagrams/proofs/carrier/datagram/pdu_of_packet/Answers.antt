@@ -1,4 +1,4 @@
-use Rattle.std.proofs.Common.{ℕ, List, [], arith, sym}
+use Rattle.std.proofs.Common.{[], arith, sym}
 use Rattle.std.proofs.lemmas.List.{append-nil}
 use Rattle.cfdp_datagrams.specs.Carrier.{carrying}
 use Rattle.cfdp_datagrams.proofs.carrier.datagram.pdu_of_packet.Goals as goal

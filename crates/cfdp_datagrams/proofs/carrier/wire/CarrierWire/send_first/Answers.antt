@@ -1,4 +1,4 @@
-use Rattle.std.proofs.Common.{◌≡◌, ℕ, ◌∷◌, List, Option, Some, ap, refl, subst, sym, ◌∙◌}
+use Rattle.std.proofs.Common.{◌≡◌, ◌∷◌, ap, refl, subst, sym, ◌∙◌}
 use Rattle.cfdp_datagrams.specs.Carrier.{ConversionState, Leaves}
 use Rattle.cfdp_datagrams.specs.CarrierWire.{CarrierState}
 use Rattle.cfdp_datagrams.proofs.CarrierLemmas.{some_same}

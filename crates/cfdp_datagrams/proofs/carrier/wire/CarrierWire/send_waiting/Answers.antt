@@ -1,4 +1,4 @@
-use Rattle.std.proofs.Common.{◌≡◌, ℕ, ◌+◌, ◌≤◌, suc, true, ap, arith, inr}
+use Rattle.std.proofs.Common.{◌≤◌, suc, ap, arith, inr}
 use Rattle.cfdp_datagrams.specs.CarrierWire.{waiting_of}
 use Rattle.cfdp_datagrams.proofs.CarrierLemmas.{asked_more, asked_waits, first_of, one_less, one_more}
 use Rattle.cfdp_datagrams.proofs.carrier.wire.CarrierWire.send_waiting.Goals as goal
