@@ -26,8 +26,9 @@ use Rattle.any_order.proofs.Puts.{finds_by_id}
 use Rattle.cfdp_port.specs.Calls.{WireCall}
 use Rattle.cfdp_service.specs.Calls.{Asks, Chain, UserCall}
 use Rattle.cfdp_service.specs.Clerk.{ClerkState, ClerkSteps, IsDelivered as IsHeardComplete}
-use Rattle.any_link.specs.Promise.{IsDelivered, IsSent, KeepPromise, Lies, completed_by, told_by}
-use Rattle.any_link.specs.Serving.{Goes, HaveServed, Stations, served_at}
+use Rattle.any_link.specs.Promise.{IsDelivered, IsSent, Lies, completed_by, told_by}
+use Rattle.any_link.specs.Serving.{Stations, served_at}
+use Rattle.any_link.proofs.Standing.{Goes, HaveServed, KeepPromise}
 use Rattle.any_link.proofs.Calling.{IsPut, accepts_put}
 use Rattle.any_link.proofs.Doing.{AllLaws}
 use Rattle.any_link.proofs.Knowing.{AreKnown, Known, delivered, own_so, served_known, went_known, went_sent}
