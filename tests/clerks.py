@@ -1,6 +1,7 @@
 """What a station does with its files and for its operator: how many at a time, how often, in what
 order, and what it tells of that in its log and its counters."""
 import calendar
+import contextlib
 import json
 import os
 import re
@@ -186,6 +187,42 @@ def most_open_mistakes(program):
         waits_for(lambda: receiver.text("stdout").count("retained") == 4)
         if spool.came().keys() != {"a", "b", "d", "e"}:
             yield f"there came {sorted(spool.came())}: {receiver.text('stdout')!r}"
+
+
+def unnamed(number, octets):
+    """A file data PDU of station 1, of a transaction that no Metadata began."""
+    return struct.pack(">BHBHIHI", 0x30, 4 + len(octets), 0x13, 1, number, 2, 0) + octets
+
+
+def octets_in(folder):
+    """How many octets lie in the files of a folder, hidden ones too."""
+    lengths = []
+    for it in os.scandir(folder):
+        with contextlib.suppress(FileNotFoundError):
+            lengths.append(it.stat().st_size)
+    return sum(lengths), len(lengths)
+
+
+def unnamed_mistakes(program):
+    """What is wrong if a peer sends data without Metadata: the files of 2,000 octets are too long
+    as soon as these came, and of those with 500 the first two stay."""
+    with Link(program) as link:
+        words = ["--carrier", "pdus", "--inbox", "to", "--most-size", "1000", "--most-open", "2"]
+        receiver = link.starts(2, words, PATIENT)
+        peer = carriers.Peer("pdus", 1, link.ports)
+        try:
+            for number in range(1, 201):
+                peer.give(unnamed(number, bytes(2000 if number % 2 else 500)))
+                time.sleep(0.002)
+            folder = f"{link.folder}/2/to"
+            if not waits_for(lambda: octets_in(folder) == (1000, 2)):
+                yield f"of what came there lie {octets_in(folder)}: {receiver.text('stdout')!r}"
+            ends = lambda: set(re.findall(r"finished 1:(\d+) 15 ", receiver.text("stdout")))
+            wanted = {str(it) for it in range(1, 201)} - {"2", "4"}
+            if not waits_for(lambda: ends() == wanted):
+                yield f"there were cancelled {sorted(ends())}"
+        finally:
+            peer.close()
 
 
 # ---- in what order, and to what end
@@ -688,6 +725,7 @@ def all_mistakes(program):
     yield "the most octets that are taken", size_mistakes(program)
     yield "files as long as are taken, and one octet more, at once", quick_size_mistakes(program)
     yield "the most files that are taken at once", most_open_mistakes(program)
+    yield "data without Metadata, beyond both limits", unnamed_mistakes(program)
     yield "a put ahead of others", first_mistakes(program)
     yield "a station that is told to stop amid its files", stop_mistakes(program)
     yield "a spool whose station was killed as a file left", leaving_mistakes(program)

@@ -233,7 +233,7 @@ def again_mistakes(program):
         # It notes that one file isn't there yet, and on a slow machine that no answer comes, since
         # these are kept from it.
         late = "from/late: no such file"
-        notes = rf"note: ({late}|1:\d+ waits for the peer's Finished, .*)\n"
+        notes = rf"note: ({late}|1:\d+ waits for the peer's Finished; .*)\n"
         if re.sub(notes, "", stations.unheard(sender.text("stderr"))):
             yield f"the sender told {sender.text('stderr')!r}"
     wanted = {"first": b"before", "x": b"", "second": b"what it is now", "late": b"here"}

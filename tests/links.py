@@ -474,19 +474,23 @@ def numbers_of(station):
 
 
 def clock_mistakes(program):
-    """What is wrong with numbers that begin at the clock in microseconds, where that goes on, and
-    behind those that were used, where it goes back."""
+    """What is wrong with the numbers of a station's lives, wherever its clock goes: each is greater
+    than all before; and with those of new stations, which begin apart with one clock."""
     with Link(program) as link:
         words = link.puts(1, {"a": b"hello"})
-        runs = []
+        numbers = []
         for clock in (1_700_000_000, 1_700_000_000, 1_600_000_000, 1_800_000_000, 1_700_000_000):
-            found = numbers_of(link.starts(1, words, faults=f"clock=at:{clock}"))
-            runs += [(clock, it) for it in found]
-        numbers = [it for _, it in runs]
+            numbers += numbers_of(link.starts(1, words, faults=f"clock=at:{clock}"))
         if len(numbers) != 5 or numbers != sorted(set(numbers)):
-            yield f"with the clocks the numbers were {runs}"
-        if any(not 0 <= number - clock * 10**6 < 10**8 for clock, number in runs[:4:3]):
-            yield f"they don't begin at the clock: {runs}"
+            yield f"the numbers of its lives were {numbers}"
+    begun = []
+    for clock in (5, 5, 1_700_000_000, 1_700_000_000):
+        with Link(program) as link:
+            words = link.puts(1, {"a": b"hello"})
+            begun += numbers_of(link.starts(1, words, faults=f"clock=at:{clock}"))
+    gaps = [after - before for before, after in zip(sorted(begun), sorted(begun)[1:])]
+    if len(begun) != 4 or min(gaps) < 1 << 20 or not all(it < 1 << 63 for it in begun):
+        yield f"new stations begin with {begun}"
 
 
 def many_mistakes(program):

@@ -158,11 +158,11 @@ module _ {W : Type 0} (Steps : W → WireCall → W → Type 0) (all : AllLaws) 
         },
       )
 
-  pub spooled : {S : Type 0} (sent : S → List (List ℕ)) → ((calls : List UserCall) (old new : ClerkState S) → Chain (ClerkSteps sent) calls old new → old.asked ≡ None → old.files ≡ [] → (name : List ℕ) →
+  pub spooled : {S : Type 0} (sent failed : S → List (List ℕ)) → ((calls : List UserCall) (old new : ClerkState S) → Chain (ClerkSteps sent failed) calls old new → old.asked ≡ None → old.files ≡ [] → (name : List ℕ) →
       Contains (sent new.spool) name → Contains (sent old.spool) name ⊎ IsHeardComplete old.own calls name) → (mid now : Stations) (more : ℕ) → HaveServed Steps c files mid →
-      Times (Goes Steps c) more mid now → (s : Side) (old new : ClerkState S) → Chain (ClerkSteps sent) (served_at s mid).calls old new → old.asked ≡ None → old.files ≡ [] → (name : List ℕ) →
+      Times (Goes Steps c) more mid now → (s : Side) (old new : ClerkState S) → Chain (ClerkSteps sent failed) (served_at s mid).calls old new → old.asked ≡ None → old.files ≡ [] → (name : List ℕ) →
       Contains (sent new.spool) name → Contains (sent old.spool) name ⊎ IsDelivered s name now
-  spooled sent left mid now more served went s old new chain asked none name has =
+  spooled sent failed left mid now more served went s old new chain asked none name has =
       let k : AreKnown c files mid = served_known Steps all c files joined mid served in
       let then : AreKnown c files now = went_known Steps all c files joined more mid now went k in
       ⊎_elim (λ before. inl before)

@@ -1,2 +1,3 @@
+pub mod InboxFolder
 pub mod Reserving
 pub mod StateText

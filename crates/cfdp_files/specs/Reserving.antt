@@ -5,14 +5,14 @@ use Rattle.cfdp_files.specs.declared.reserving.Reserved.{Reserved}
 use Rattle.cfdp_files.specs.declared.reserving.Taken.{Taken}
 
 -- the number of a start's first transaction: the one that is said, or else the first that was not
--- reserved before and is not before the clock's
+-- reserved before and is not below the least
 abbrev pub first_number : Option ℕ → ℕ → Reserved → ℕ
-first_number said clock before = unwrap_or said (max before.numbers clock)
+first_number said least before = unwrap_or said (max before.numbers least)
 
 -- A start takes these: a number for each put, all of them reserved, and counts of frames that were
 -- not reserved before. What was reserved stays so.
-pub record Begins (before : Reserved) (said : Option ℕ) (clock puts : ℕ) (taken : Taken) : Type 0 where
-  pub number : taken.beginning.number ≡ first_number said clock before
+pub record Begins (before : Reserved) (said : Option ℕ) (least puts : ℕ) (taken : Taken) : Type 0 where
+  pub number : taken.beginning.number ≡ first_number said least before
   pub each_put : taken.numbers_end ≡ taken.beginning.number + puts
   pub numbers : taken.numbers_end ≤ taken.reserved.numbers
   pub numbers_stay : before.numbers ≤ taken.reserved.numbers

@@ -1,7 +1,12 @@
 //! A folder that files are received into, which one process has at a time.
-use crate::locks::{LockError, lock};
+ghost use Rattle.std.specs.Fs.{dir_entry_name};
+ghost use Rattle.std.specs.Prelude.{◌≡◌, IfOk, true};
+ghost use Rattle.cfdp_files.specs.InboxFolder.{IsPartName};
+
+use crate::locks::{LockError, LockedFile};
 use cfdp_report::cause_text;
-use std::fs::{File, FileType};
+use std::fs::{DirEntry, FileType};
+use std::marker::Model;
 use std::{fs, io};
 
 /// The exit status where a folder failed.
@@ -10,10 +15,19 @@ const DEVICE: u8 = 3;
 /// What the name of a part file begins with. Behind it come the two numbers of its transaction.
 const PART: &str = ".part-";
 
-/// A folder into which no other process receives, as long as this value lives.
+/// A folder into which no other process receives, as long as this value lives. Clauses see its
+/// path.
 #[derive(Drop)]
 pub struct HeldFolder {
-    _folder: File,
+    folder: LockedFile,
+}
+
+impl Model for HeldFolder {
+    ghost use Rattle.std.specs.Prelude.{ℕ, List};
+
+    ghost Value = { List ℕ };
+
+    ghost view = { λ held. held.folder };
 }
 
 impl HeldFolder {
@@ -22,11 +36,13 @@ impl HeldFolder {
     /// # Errors
     ///
     /// The exit status, where it can't be had, which was told on standard error.
-    pub fn take(rt: &HostRuntime, path: &str) -> Result<HeldFolder, u8> {
-        match locked(rt, path) {
+    pub fn take(rt: &HostRuntime, path: &str) -> Result<HeldFolder, u8>
+        ensures { IfOk result (λ held. held ≡ path.now) }
+    {
+        match LockedFile::open(rt, path) {
             Ok(folder) => {
                 remove_parts(rt, path);
-                Ok(HeldFolder { _folder: folder })
+                Ok(HeldFolder { folder })
             }
             Err(error) => {
                 tell(rt, path, &error);
@@ -39,12 +55,6 @@ impl HeldFolder {
     pub fn clear(&self, rt: &HostRuntime, path: &str) {
         remove_parts(rt, path);
     }
-}
-
-fn locked(rt: &HostRuntime, path: &str) -> Result<File, LockError> {
-    let folder = File::open(rt, path)?;
-    lock(&folder)?;
-    Ok(folder)
 }
 
 fn tell(rt: &HostRuntime, path: &str, error: &LockError) {
@@ -66,13 +76,22 @@ fn remove_parts(rt: &HostRuntime, path: &str) {
             && is_part_name(entry.file_name())
             && is_plain(entry.file_type())
         {
-            let _ = fs::remove_file(rt, entry.path());
+            remove_part(rt, &entry);
         }
     }
 }
 
+/// Removes a part file, if it can be removed.
+fn remove_part(rt: &HostRuntime, entry: &DirEntry<HostRuntime>)
+    requires { IsPartName (dir_entry_name entry.now) }
+{
+    let _ = fs::remove_file(rt, entry.path());
+}
+
 /// Whether this is the name of a part file.
-fn is_part_name(name: &str) -> bool {
+fn is_part_name(name: &str) -> bool
+    ensures { result ≡ true → IsPartName name.now }
+{
     match name.strip_prefix(PART) {
         Some(numbers) => match numbers.split_once('-') {
             Some((source, number)) => is_number(source) && is_number(number),

@@ -1,6 +1,9 @@
 //! The files of an inbox, where a file that came may not take the place of another, nor be longer
 //! than a limit.
-use crate::made_files::MadeFiles;
+ghost use Rattle.std.specs.Prelude.{◌≡◌, false, true};
+ghost use Rattle.cfdp_files.specs.InboxFolder.{MayBeNamed};
+
+use crate::made_files::{MadeFile, MadeFiles};
 use std::alloc::Allocator;
 use std::fs::{File, Files, Metadata, OpenFile, OpenOptions};
 use std::io;
@@ -123,20 +126,45 @@ impl<'a> InboxFiles<'a> {
     /// opened, and what was opened once more. It is opened to be read too: so the system doesn't
     /// wait, if a pipe gets that name in between.
     fn open_again(&self, path: &str) -> io::Result<File> {
-        self.made.check(path, &self.rt.symlink_metadata(path)?)?;
-        let file = File::options().read(true).write(true).open(self.rt, path)?;
-        self.made.check(path, &file.metadata()?)?;
+        let made = self.made.check(path, &self.rt.symlink_metadata(path)?)?;
+        let file = self.open_made(&made, path)?;
+        let _ = self.made.check(path, &file.metadata()?)?;
         Ok(file)
     }
 
+    /// Opens a file to write it.
+    fn open_made(&self, _made: &MadeFile, path: &str) -> io::Result<File>
+        requires { _made.now.path ≡ path.now }
+    {
+        File::options().read(true).write(true).open(self.rt, path)
+    }
+
     /// Gives a file another name, in the place of what has it or, if it keeps that, a free one.
-    fn give_name(&self, from: &str, to: &str) -> io::Result<()> {
+    fn give_name(&self, made: &MadeFile, from: &str, to: &str) -> io::Result<()>
+        requires made { made.now.path ≡ from.now }
+        requires size { MayBeNamed self.now.most_size made.now.size }
+    {
         if self.replaces {
-            return self.rt.rename(from, to);
+            return self.put_in_place(made, from, to);
         }
         self.rt.hard_link(from, to)?;
         let _ = self.rt.remove_file(from);
         Ok(())
+    }
+
+    /// Gives a file the name of another one, which is gone then.
+    fn put_in_place(&self, _made: &MadeFile, from: &str, to: &str) -> io::Result<()>
+        requires replaces { self.now.replaces ≡ true }
+        requires made { _made.now.path ≡ from.now }
+    {
+        self.rt.rename(from, to)
+    }
+
+    /// Returns `true` if a file is too long to get a name.
+    fn is_too_long(&self, made: &MadeFile) -> bool
+        ensures { result ≡ false → MayBeNamed self.now.most_size made.now.size }
+    {
+        self.most_size > 0 && made.size() > self.most_size
     }
 }
 
@@ -175,15 +203,14 @@ impl Files for InboxFiles<'_> {
     /// Where the old name can't be removed behind the link, the file has both: it is there under
     /// the new one, and the next start removes the other.
     fn rename(&self, from: &str, to: &str) -> io::Result<()> {
-        let found = self.rt.symlink_metadata(from)?;
-        self.made.check(from, &found)?;
-        if self.most_size > 0 && found.len() > self.most_size {
+        let made = self.made.check(from, &self.rt.symlink_metadata(from)?)?;
+        if self.is_too_long(&made) {
             return Err(io::Error::from(ErrorKind::FileTooLarge));
         }
-        self.give_name(from, to)?;
+        self.give_name(&made, from, to)?;
         // Another file may have come between the look and the renaming; or it has left by now.
         if let Ok(found) = self.rt.symlink_metadata(to) {
-            self.made.check(from, &found)?;
+            let _ = self.made.check(from, &found)?;
         }
         self.made.forgets(from);
         Ok(())

@@ -6,6 +6,7 @@
 
 mod held_folder;
 mod inbox_files;
+mod least_number;
 mod locks;
 mod made_files;
 mod plain_file;
@@ -16,7 +17,7 @@ mod trial;
 
 pub use held_folder::HeldFolder;
 pub use inbox_files::InboxFiles;
-pub use locks::{LockError, lock};
+pub use locks::{LockError, LockedFile, lock};
 pub use plain_file::{Use, is_same_folder, lies_in, open_plain};
 pub use state_file::{Reservation, StateError};
 pub use trial::try_folder;

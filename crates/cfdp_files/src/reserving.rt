@@ -42,14 +42,14 @@ impl Reserved {
     };
 
     /// Returns what a start takes that reserves a number for each of so many puts: from the one on
-    /// that is said, or else behind all that were reserved before and not before the clock's.
+    /// that is said, or else behind all that were reserved before and not below the least.
     /// `None` if so many numbers, or one frame more, can't be counted.
-    pub fn begin(self, said: Option<u64>, clock: u64, puts: u64) -> Option<Taken>
-        ensures begins { IfSome result (Begins self said clock puts) }
-        ensures spent { IsNone result ↔ ((2 ^ 64 ≤ first_number said clock self + puts)
+    pub fn begin(self, said: Option<u64>, least: u64, puts: u64) -> Option<Taken>
+        ensures begins { IfSome result (Begins self said least puts) }
+        ensures spent { IsNone result ↔ ((2 ^ 64 ≤ first_number said least self + puts)
             ⊎ (2 ^ 64 ≤ self.frames + 1)) }
     {
-        let number = said.unwrap_or(self.numbers.max(clock));
+        let number = said.unwrap_or(self.numbers.max(least));
         let numbers_end = number.checked_add(puts)?;
         // The peer may await the count behind the last one that was reserved.
         let frames = self.frames.checked_add(1)?;

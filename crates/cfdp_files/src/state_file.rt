@@ -2,6 +2,7 @@
 //! killed and started anew.
 ghost use Rattle.std.specs.Prelude.{◌≡◌, ◌+◌, ◌-◌, ◌^◌, ◌<◌, ◌≤◌, IfOk, IfSome, OnErr, OnOk, min};
 
+use crate::least_number::{least_number, microseconds};
 use crate::locks::{LockError, lock};
 use crate::plain_file::{Identity, Use, check_plain, folder_of, open_plain};
 use crate::reserving::{Beginning, Reserved};
@@ -11,7 +12,6 @@ use cfdp_report::cause_text;
 use std::alloc::AllocError;
 use std::fs::{File, Metadata};
 use std::io::{ErrorKind, Read, Write};
-use std::time::{SystemTime, UNIX_EPOCH};
 use std::{fmt, fs, io};
 
 /// The most octets of the file that are read: more than it has.
@@ -82,8 +82,7 @@ pub struct StateFile<'a> {
 impl<'a> StateFile<'a> {
     /// Takes the file at this path, which is made where there is none, and reserves a number for
     /// each of so many puts: from the one on that is said, or else behind all that were reserved
-    /// before and, where that is more and fits a number of so many octets, the microseconds since
-    /// 1970.
+    /// before and not below [`least_number`].
     ///
     /// # Errors
     ///
@@ -100,8 +99,8 @@ impl<'a> StateFile<'a> {
             Some(file) => read(rt, file)?,
             None => Reserved::NOTHING,
         };
-        let clock = clock_number(rt, width);
-        let taken = before.begin(said, clock, puts).ok_or(StateError::Spent)?;
+        let least = least_number(rt, width, held.is_none());
+        let taken = before.begin(said, least, puts).ok_or(StateError::Spent)?;
         let file = match held {
             Some(held) => replaced(rt, path, &held, taken.reserved)?,
             None => made(rt, path, taken.reserved)?,
@@ -292,28 +291,6 @@ fn remove_left(rt: &HostRuntime, part: &str, held: Option<&File>) -> Result<(), 
     check_own(&left, &fs::symlink_metadata(rt, part)?)?;
     fs::remove_file(rt, part)?;
     Ok(())
-}
-
-/// The microseconds since 1970, where a number of so many octets holds them and all behind that may
-/// be reserved; else 0.
-fn clock_number(rt: &HostRuntime, width: u64) -> u64 {
-    let micros = microseconds(rt);
-    if width >= 8 || micros >> (8 * width) == 0 {
-        micros
-    } else {
-        0
-    }
-}
-
-/// The microseconds since 1970; 0 where the clock can't be read.
-pub fn microseconds(rt: &HostRuntime) -> u64 {
-    match SystemTime::now(rt) {
-        Ok(now) => match now.duration_since(UNIX_EPOCH) {
-            Ok(since) => u64::try_from(since.as_micros()).unwrap_or(0),
-            Err(_) => 0,
-        },
-        Err(_) => 0,
-    }
 }
 
 /// Sees that the folder of a path keeps what names were given in it.

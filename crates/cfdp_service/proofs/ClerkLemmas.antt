@@ -1,6 +1,6 @@
 -- What a clerk knows of the files of its spool, call by call.
-use Rattle.std.proofs.Common.{◌≡◌, ◌⊎◌, ◌∙◌, ℕ, ◌<◌, List, [], ◌∷◌, ◌++◌, arith, cond, drop, length, take, Option, Some, None, Result, Ok, IsTrue, inl, inr, refl, ap, subst, sym, ⊎_elim}
-use Rattle.std.specs.Prelude.{◌+◌, Bool, true, false}
+use Rattle.std.proofs.Common.{◌≡◌, ◌⊎◌, ◌∙◌, ℕ, ◌<◌, List, [], ◌∷◌, ◌++◌, arith, cond, drop, length, take, Option, Some, None, Result, Ok, Err, IsTrue, inl, inr, refl, ap, subst, sym, ⊎_elim}
+use Rattle.std.specs.Prelude.{◌+◌, Bool, true, false, not}
 use Rattle.std.specs.List.{Contains}
 use Rattle.std.proofs.lemmas.List.{append-nil, append_assoc, take-append-drop}
 use Rattle.std.proofs.lemmas.List.Elements.{Contains-append_cases, Contains-append_left, Contains-append_right, Contains-push, Contains-push_cases}
@@ -15,7 +15,7 @@ use Rattle.cfdp_directives.specs.User.Completions.{IsToldComplete}
 use Rattle.cfdp_service.specs.Calls.{UserCall, Asks, Answered, Hears, Intends, Ends, Chain, heard_by, heard_in}
 use Rattle.cfdp_entity.specs.Table.{TableState}
 use Rattle.cfdp_entity.specs.declared.error.PutError.{PutError}
-use Rattle.cfdp_service.specs.Clerk.{ClerkState, ClerkSteps, IsAccepted, IsDelivered, IsSentFile, Completes, LeavesSent, WishesAsked, WishesFile, asked_file}
+use Rattle.cfdp_service.specs.Clerk.{ClerkState, ClerkSteps, EndsBy, FailsBy, KeepsFiles, Leaves, LeavesOpen, OpensNone, IsAccepted, IsDelivered, IsSentFile, Completes, LeavesSent, WishesAsked, WishesFile, asked_file}
 use Rattle.cfdp_service.specs.Serving.{HearsGone}
 use Rattle.cfdp_service.specs.declared.clerk.AskedPut.{AskedPut}
 use Rattle.cfdp_service.specs.declared.clerk.OpenFile.{OpenFile}
@@ -55,7 +55,7 @@ record EndsWishing (calls : List UserCall) (name : List ℕ) : Type 0 where
   pub is : calls ≡ front ++ Asks wish ∷ []
   pub wishes : WishesFile name wish
 
-module _ {S : Type 0} (sent : S → List (List ℕ)) where
+module _ {S : Type 0} (sent failed : S → List (List ℕ)) where
   record Knows (old : ClerkState S) (calls : List UserCall) (c : ClerkState S) : Type 0 where
     pub own : c.own ≡ old.own
     pub asked : (name : List ℕ) → c.asked ≡ Some name → EndsWishing calls name
@@ -98,7 +98,7 @@ module _ {S : Type 0} (sent : S → List (List ℕ)) where
       (Contains-push_cases (sent c.spool) leaves.file.name.items name (subst (λ l. Contains l name) leaves.left has))
 
   -- ---- one call more
-  knows-more : (old : ClerkState S) (calls : List UserCall) (call : UserCall) (c d : ClerkState S) → Knows old calls c → ClerkSteps sent c call d → Knows old (calls ++ call ∷ []) d
+  knows-more : (old : ClerkState S) (calls : List UserCall) (call : UserCall) (c d : ClerkState S) → Knows old calls c → ClerkSteps sent failed c call d → Knows old (calls ++ call ∷ []) d
   knows-more old calls (Asks wish) c d k s = record {
     own = s.own ∙ k.own;
     asked = λ name is. record { front = calls; wish = wish; is = refl; wishes = s.does.2 name is };
@@ -131,7 +131,7 @@ module _ {S : Type 0} (sent : S → List (List ℕ)) where
   }
 
   -- ---- all of them
-  knows-chain : (old : ClerkState S) (before calls : List UserCall) (c d : ClerkState S) → Knows old before c → Chain (ClerkSteps sent) calls c d → Knows old (before ++ calls) d
+  knows-chain : (old : ClerkState S) (before calls : List UserCall) (c d : ClerkState S) → Knows old before c → Chain (ClerkSteps sent failed) calls c d → Knows old (before ++ calls) d
   unfolding Chain
   knows-chain old before [] c d k same = subst (λ l. Knows old l d) (sym (append-nil before)) (subst (λ e. Knows old before e) (sym same) k)
   knows-chain old before (call ∷ calls) c d k (mid, (step, rest)) =
@@ -140,7 +140,7 @@ module _ {S : Type 0} (sent : S → List (List ℕ)) where
   none-held : (xs : List OpenFile) → xs ≡ [] → (file : OpenFile) → Contains xs file → IsAccepted [] file.name.items file.id
   none-held xs none file (k, few, is) = absurd (let many : k < length xs = few in let no : length xs ≡ 0 = ap length none in omega (arith, many, no))
 
-  pub what-left : (calls : List UserCall) (old new : ClerkState S) → Chain (ClerkSteps sent) calls old new → old.asked ≡ None → old.files ≡ []
+  pub what-left : (calls : List UserCall) (old new : ClerkState S) → Chain (ClerkSteps sent failed) calls old new → old.asked ≡ None → old.files ≡ []
       → (name : List ℕ) → Contains (sent new.spool) name → Contains (sent old.spool) name ⊎ IsDelivered old.own calls name
   what-left calls old new chain asked files =
       let first : Knows old [] old = record {
@@ -159,25 +159,27 @@ told-gone own calls table id hears told = (
       (Contains-append_left (take table.gone table.told) (drop table.gone table.told) (Finished id no_error Complete Retained) (subst (λ l. Contains l (Finished id no_error Complete Retained)) hears.heard told.1)),
 )
 
-pub sent-told : {S : Type 0} (sent : S → List (List ℕ)) (calls : List UserCall) (old new : ClerkState S) (table : TableState) → HearsGone calls table
-    → Chain (ClerkSteps sent) calls old new → old.asked ≡ None → old.files ≡ []
+pub sent-told : {S : Type 0} (sent failed : S → List (List ℕ)) (calls : List UserCall) (old new : ClerkState S) (table : TableState) → HearsGone calls table
+    → Chain (ClerkSteps sent failed) calls old new → old.asked ≡ None → old.files ≡ []
     → (name : List ℕ) → Contains (sent new.spool) name → Contains (sent old.spool) name ⊎ IsSentFile old.own calls table.told name
-sent-told sent calls old new table hears chain asked files name has =
+sent-told sent failed calls old new table hears chain asked files name has =
     ⊎_elim (λ before. inl before) (λ (d : IsDelivered old.own calls name). inr (record { id = d.id; accepted = d.accepted; complete = told-gone old.own calls table d.id hears d.told }))
-    (what-left sent calls old new chain asked files name has)
+    (what-left sent failed calls old new chain asked files name has)
 
 -- ---- steps
 -- nothing is done with files
-pub rests-steps : {S : Type 0} (sent : S → List (List ℕ)) (old new : ClerkState S) (intent : Intent) → new ≡ record old { asked = None }
-    → ClerkSteps sent old (Intends intent) new
-rests-steps sent old new intent same = record {
+pub rests-steps : {S : Type 0} (sent failed : S → List (List ℕ)) (old new : ClerkState S) (intent : Intent) → new ≡ record old { asked = None }
+    → ClerkSteps sent failed old (Intends intent) new
+rests-steps sent failed old new intent same = record {
   does = (ap (λ (c : ClerkState _). sent c.spool) same, (λ file has. subst (λ (c : ClerkState _). Contains c.files file) same has), ap (λ (c : ClerkState _). c.asked) same);
+  fails = ap (λ (c : ClerkState _). failed c.spool) same;
   own = ap (λ (c : ClerkState _). c.own) same;
 }
 
-pub ends-steps : {S : Type 0} (sent : S → List (List ℕ)) (old new : ClerkState S) → new ≡ record old { asked = None } → ClerkSteps sent old Ends new
-ends-steps sent old new same = record {
+pub ends-steps : {S : Type 0} (sent failed : S → List (List ℕ)) (old new : ClerkState S) → new ≡ record old { asked = None } → ClerkSteps sent failed old Ends new
+ends-steps sent failed old new same = record {
   does = (ap (λ (c : ClerkState _). sent c.spool) same, (λ file has. subst (λ (c : ClerkState _). Contains c.files file) same has), ap (λ (c : ClerkState _). c.asked) same);
+  fails = ap (λ (c : ClerkState _). failed c.spool) same;
   own = ap (λ (c : ClerkState _). c.own) same;
 }
 
@@ -196,83 +198,120 @@ left-was xs ys i file is has =
     (Contains-append_cases (take i xs) (drop (i + 1) xs) file (subst (λ l. Contains l file) is has))
 
 -- ---- calls of a clerk, from what its own functions do
-module _ {S : Type 0} (sent : S → List (List ℕ)) where
+file-asked : (asked : Option AskedPut) (put : AskedPut) (name : List ℕ) → asked ≡ Some put → put.is_file ≡ true → put.names.source.items ≡ name → asked_file asked ≡ Some name
+file-asked asked put name is file source =
+    ap asked_file is ∙ ap (λ (b : Bool). cond b (Some put.names.source.items) None) file ∙ ap (λ l. Some l) source
+
+not-both : (b : Bool) → IsTrue b → IsTrue (not b) → ⊥
+not-both true is isnt = cc
+not-both false is isnt = cc
+
+module _ {S : Type 0} (sent failed : S → List (List ℕ)) where
   -- what was there before it forgot its last wish
-  was-sent : (old mid : ClerkState S) → mid ≡ record old { asked = None } → sent mid.spool ≡ sent old.spool
-  was-sent old mid same = ap (λ (c : ClerkState S). sent c.spool) same
+  was-gone : (gone : S → List (List ℕ)) (old mid : ClerkState S) → mid ≡ record old { asked = None } → gone mid.spool ≡ gone old.spool
+  was-gone gone old mid same = ap (λ (c : ClerkState S). gone c.spool) same
 
   was-open : (old mid : ClerkState S) (file : OpenFile) → mid ≡ record old { asked = None } → Contains mid.files file → Contains old.files file
   was-open old mid file same has = subst (λ (c : ClerkState S). Contains c.files file) same has
 
-  pub asks-steps : (old mid new : ClerkState S) (wish : Option Wish) → mid ≡ record old { asked = None } → new.own ≡ mid.own → new.files ≡ mid.files → sent new.spool ≡ sent mid.spool
-      → WishesAsked new.asked wish → ClerkSteps sent old (Asks wish) new
-  asks-steps old mid new wish same own files left asked = record {
-    does = (left ∙ was-sent old mid same, (λ file has. was-open old mid file same (subst (λ l. Contains l file) files has)), asked);
+  pub asks-steps : (old mid new : ClerkState S) (wish : Option Wish) → mid ≡ record old { asked = None } → new.own ≡ mid.own → new.files ≡ mid.files
+      → KeepsFiles sent mid new → KeepsFiles failed mid new → WishesAsked new.asked wish → ClerkSteps sent failed old (Asks wish) new
+  asks-steps old mid new wish same own files left kept asked = record {
+    does = (left ∙ was-gone sent old mid same, (λ file has. was-open old mid file same (subst (λ l. Contains l file) files has)), asked);
+    fails = kept ∙ was-gone failed old mid same;
     own = own ∙ ap (λ (c : ClerkState S). c.own) same;
   }
 
   -- another wish, or none
-  pub asks-none : (old new : ClerkState S) (wish : Option Wish) → new ≡ record old { asked = None } → ClerkSteps sent old (Asks wish) new
-  asks-none old new wish same = asks-steps old new new wish same refl refl refl (λ name is. let none : new.asked ≡ None = ap (λ (c : ClerkState S). c.asked) same in cc)
+  pub asks-none : (old new : ClerkState S) (wish : Option Wish) → new ≡ record old { asked = None } → ClerkSteps sent failed old (Asks wish) new
+  asks-none old new wish same = asks-steps old new new wish same refl refl refl refl (λ name is. let none : new.asked ≡ None = ap (λ (c : ClerkState S). c.asked) same in cc)
 
-  -- an answer that is of no file
-  pub answered-none : (old mid new : ClerkState S) (reply : Reply) → mid ≡ record old { asked = None } → new.own ≡ mid.own → new.asked ≡ mid.asked → new.files ≡ mid.files → sent new.spool ≡ sent mid.spool
-      → ClerkSteps sent old (Answered reply) new
-  answered-none old mid new reply same own asked files left = record {
-    does = (left ∙ was-sent old mid same, asked ∙ ap (λ (c : ClerkState S). c.asked) same, (λ file has. inl (was-open old mid file same (subst (λ l. Contains l file) files has))));
+  -- an answer by which no put of a file is opened
+  pub answered-none : (old mid new : ClerkState S) (reply : Reply) → mid ≡ record old { asked = None } → new.own ≡ mid.own → new.asked ≡ mid.asked → new.files ≡ mid.files
+      → KeepsFiles sent mid new → FailsBy failed old (Answered reply) new → ClerkSteps sent failed old (Answered reply) new
+  answered-none old mid new reply same own asked files left fails = record {
+    does = (left ∙ was-gone sent old mid same, asked ∙ ap (λ (c : ClerkState S). c.asked) same, (λ file has. inl (was-open old mid file same (subst (λ l. Contains l file) files has))));
+    fails = fails;
     own = own ∙ ap (λ (c : ClerkState S). c.own) same;
   }
+
+  -- nothing left
+  pub fails-none : (old mid new : ClerkState S) (reply : Reply) → mid ≡ record old { asked = None } → KeepsFiles failed mid new → FailsBy failed old (Answered reply) new
+  fails-none old mid new reply same kept = inl (kept ∙ was-gone failed old mid same)
+
+  -- the file whose put was refused left, if there was one
+  pub fails-refused : (old mid new : ClerkState S) (asked : Option AskedPut) (put : AskedPut) (answer : Result TransactionId PutError) (reply : Reply) (by : PutError)
+      → mid ≡ record old { asked = None } → old.asked ≡ asked_file asked → asked ≡ Some put → reply ≡ replies.Put answer → answer ≡ Err by
+      → KeepsFiles failed mid new ⊎ (IsTrue put.is_file × Leaves failed put.names.source.items mid new) → FailsBy failed old (Answered reply) new
+  fails-refused old mid new asked put answer reply by same was is said refused left =
+      let name = put.names.source.items in
+      ⊎_elim (λ kept. inl (kept ∙ was-gone failed old mid same))
+      (λ gone. inr (record {
+        name = name;
+        by = by;
+        asked = was ∙ file-asked asked put name is gone.0 refl;
+        refused = said ∙ ap (λ a. replies.Put a) refused;
+        leaves = gone.1 ∙ ap (λ l. l ++ (name ∷ [])) (was-gone failed old mid same);
+      })) left
 
   -- a put was accepted
   pub answered-file : (old mid new : ClerkState S) (asked : Option AskedPut) (put : AskedPut) (answer : Result TransactionId PutError) (reply : Reply) (id : TransactionId)
       → mid ≡ record old { asked = None } → old.asked ≡ asked_file asked → asked ≡ Some put → reply ≡ replies.Put answer → answer ≡ Ok id
-      → new.own ≡ mid.own → new.asked ≡ mid.asked → sent new.spool ≡ sent mid.spool
+      → new.own ≡ mid.own → new.asked ≡ mid.asked → KeepsFiles sent mid new → KeepsFiles failed mid new
       → ((file : OpenFile) → Contains new.files file → Contains mid.files file ⊎ (IsTrue put.is_file × (put.names.source.items ≡ file.name.items) × (file.id ≡ id)))
-      → ClerkSteps sent old (Answered reply) new
-  answered-file old mid new asked put answer reply id same was is said ok own none left files = record {
+      → ClerkSteps sent failed old (Answered reply) new
+  answered-file old mid new asked put answer reply id same was is said ok own none left kept files = record {
     does = (
-      left ∙ was-sent old mid same,
+      left ∙ was-gone sent old mid same,
       none ∙ ap (λ (c : ClerkState S). c.asked) same,
       λ file has. ⊎_elim (λ before. inl (was-open old mid file same before))
           (λ now. inr (was ∙ file-asked asked put file.name.items is now.0 now.1, said ∙ ap (λ a. replies.Put a) ok ∙ ap (λ i. replies.Put (Ok i)) (sym now.2)))
           (files file has),
     );
+    fails = inl (kept ∙ was-gone failed old mid same);
     own = own ∙ ap (λ (c : ClerkState S). c.own) same;
   }
-    where
-      file-asked : (asked : Option AskedPut) (put : AskedPut) (name : List ℕ) → asked ≡ Some put → put.is_file ≡ true → put.names.source.items ≡ name → asked_file asked ≡ Some name
-      file-asked asked put name is file source =
-          ap asked_file is ∙ ap (λ (b : Bool). cond b (Some put.names.source.items) None) file ∙ ap (λ l. Some l) source
 
   -- an indication that ends nothing
-  pub hears-none : (old new : ClerkState S) (indication : Indication) → new ≡ record old { asked = None } → ClerkSteps sent old (Hears indication) new
+  pub hears-none : (old new : ClerkState S) (indication : Indication) → new ≡ record old { asked = None } → ClerkSteps sent failed old (Hears indication) new
   hears-none old new indication same = record {
-    does = ((λ file has. was-open old new file same has), ap (λ (c : ClerkState S). c.asked) same, inl (was-sent old new same));
+    does = ((λ file has. was-open old new file same has), ap (λ (c : ClerkState S). c.asked) same, inl (was-gone sent old new same));
+    fails = inl (was-gone failed old new same);
     own = ap (λ (c : ClerkState S). c.own) same;
   }
 
   -- one by which a transaction is over
-  pub hears-over : (old mid new : ClerkState S) (indication : Indication) (id : TransactionId) (complete : Bool) → mid ≡ record old { asked = None } → new.own ≡ mid.own → new.asked ≡ mid.asked
-      → ((file : OpenFile) → Contains new.files file → Contains mid.files file)
-      → (sent new.spool ≡ sent mid.spool) ⊎ (IsTrue complete × ((file : OpenFile) × Contains mid.files file × (file.id ≡ id) × (sent new.spool ≡ sent mid.spool ++ (file.name.items ∷ []))))
-      → (IsTrue complete → Completes mid.own id indication) → ClerkSteps sent old (Hears indication) new
-  hears-over old mid new indication id complete same own asked opens left completes = record {
+  pub hears-over : (old mid new : ClerkState S) (indication : Indication) (id : TransactionId) (complete : Bool) → EndsBy id indication
+      → mid ≡ record old { asked = None } → new.own ≡ mid.own → new.asked ≡ mid.asked → OpensNone sent mid new
+      → KeepsFiles sent mid new ⊎ (IsTrue complete × LeavesOpen sent id mid new)
+      → KeepsFiles failed mid new ⊎ (IsTrue (not complete) × LeavesOpen failed id mid new)
+      → (IsTrue complete → Completes mid.own id indication) → (Completes mid.own id indication → IsTrue complete)
+      → ClerkSteps sent failed old (Hears indication) new
+  hears-over old mid new indication id complete ends same own asked opens left failing completes all = record {
     does = (
       (λ file has. was-open old mid file same (opens file has)),
       asked ∙ ap (λ (c : ClerkState S). c.asked) same,
-      ⊎_elim (λ keeps. inl (keeps ∙ was-sent old mid same))
+      ⊎_elim (λ keeps. inl (keeps ∙ was-gone sent old mid same))
           (λ over. inr (leaves over.1.0 over.0 over.1.1 over.1.2 over.1.3)) left,
     );
-    own = own ∙ ap (λ (c : ClerkState S). c.own) same;
+    fails = ⊎_elim (λ keeps. inl (keeps ∙ was-gone failed old mid same)) (λ over. inr (record {
+      id = id;
+      over = ends;
+      fails = λ told. not-both complete (all (told.0 ∙ sym mine, told.1)) over.0;
+      leaves = (over.1.0, was-open old mid over.1.0 same over.1.1, over.1.2, over.1.3 ∙ ap (λ l. l ++ (over.1.0.name.items ∷ [])) (was-gone failed old mid same));
+    })) failing;
+    own = own ∙ mine;
   }
     where
+      mine : mid.own ≡ old.own
+      mine = ap (λ (c : ClerkState S). c.own) same
+
       leaves : (file : OpenFile) → IsTrue complete → Contains mid.files file → file.id ≡ id → sent new.spool ≡ sent mid.spool ++ (file.name.items ∷ []) → LeavesSent sent indication old new
       leaves file so has is gone =
           let told = completes so in
-          let mine : mid.own ≡ old.own = ap (λ (c : ClerkState S). c.own) same in
           record {
             file = file;
             was_open = was-open old mid file same has;
             told = (ap (λ (i : TransactionId). i.source) is ∙ told.0 ∙ mine, told.1 ∙ ap (λ (i : TransactionId). Finished i no_error Complete Retained) (sym is));
-            left = gone ∙ ap (λ l. l ++ (file.name.items ∷ [])) (was-sent old mid same);
+            left = gone ∙ ap (λ l. l ++ (file.name.items ∷ [])) (was-gone sent old mid same);
           }

@@ -1,17 +1,19 @@
 -- What a clerk does with the files of its spool: one leaves it as sent once its put was told
--- complete.
-use Rattle.std.specs.Prelude.{◌≡◌, ◌⊎◌, ℕ, List, [], ◌∷◌, ◌++◌, Contains, Option, Some, None, Ok, option_and_then, if◌then◌else◌}
+-- complete, and as failed only if its put was refused or its transaction is over.
+use Rattle.std.specs.Prelude.{◌≡◌, ◌⊎◌, ℕ, List, [], ◌∷◌, ◌++◌, Contains, Option, Some, None, Ok, Err, option_and_then, if◌then◌else◌}
 use Rattle.cfdp_header.specs.declared.value.TransactionId.{TransactionId}
 use Rattle.cfdp_directives.specs.declared.pdu.codes.Delivery.TheVariants.{Complete}
 use Rattle.cfdp_directives.specs.declared.pdu.codes.FileStatus.TheVariants.{Retained}
 use Rattle.cfdp_directives.specs.declared.user.indication.Indication.{Indication}
-use Rattle.cfdp_directives.specs.declared.user.indication.Indication.TheVariants.{Finished}
+use Rattle.cfdp_directives.specs.declared.user.indication.Indication.TheVariants.{Abandoned, Finished}
 use Rattle.cfdp_directives.specs.Pdu.Codes.{no_error}
 use Rattle.cfdp_directives.specs.User.Completions.{IsToldComplete}
+use Rattle.cfdp_entity.specs.declared.error.PutError.{PutError}
 use Rattle.cfdp_service.specs.Calls.{UserCall, Asks, Answered, Hears, heard_by}
 use Rattle.cfdp_service.specs.declared.clerk.AskedPut.{AskedPut}
 use Rattle.cfdp_service.specs.declared.clerk.OpenFile.{OpenFile}
 use Rattle.cfdp_service.specs.declared.wish.PutNames.{PutNames}
+use Rattle.cfdp_service.specs.declared.wish.Reply.{Reply}
 use Rattle.cfdp_service.specs.declared.wish.Reply.TheVariants as replies
 use Rattle.cfdp_service.specs.declared.wish.Wish.{Wish}
 use Rattle.cfdp_service.specs.declared.wish.Wish.TheVariants as wishes
@@ -45,10 +47,26 @@ abbrev pub Completes : ℕ → TransactionId → Indication → Type 0
 Completes own id indication = (id.source ≡ own)
     × (indication ≡ Finished id no_error Complete Retained)
 
-module _ {S : Type 0} (sent : S → List (List ℕ)) where
-  -- No file left the spool as sent.
+-- The transaction is over by this, whatever became of its file.
+abbrev pub EndsBy : TransactionId → Indication → Type 0
+EndsBy id (Finished over condition delivery status) = over ≡ id
+EndsBy id (Abandoned over condition) = over ≡ id
+EndsBy id _ = ⊥
+
+-- ---- files that leave the spool in one way: `gone` are those that did
+module _ {S : Type 0} (gone : S → List (List ℕ)) where
+  -- No file left.
   abbrev pub KeepsFiles : (old new : ClerkState S) → Type 0
-  KeepsFiles old new = sent new.spool ≡ sent old.spool
+  KeepsFiles old new = gone new.spool ≡ gone old.spool
+
+  -- The file of this name left.
+  abbrev pub Leaves : (name : List ℕ) → (old new : ClerkState S) → Type 0
+  Leaves name old new = gone new.spool ≡ gone old.spool ++ (name ∷ [])
+
+  -- A file left whose put was open as this transaction.
+  abbrev pub LeavesOpen : TransactionId → (old new : ClerkState S) → Type 0
+  LeavesOpen id old new =
+      (file : OpenFile) × Contains old.files file × (file.id ≡ id) × Leaves file.name.items old new
 
   -- No put of a file was opened.
   abbrev pub OpensNone : (old new : ClerkState S) → Type 0
@@ -59,22 +77,46 @@ module _ {S : Type 0} (sent : S → List (List ℕ)) where
     pub file : OpenFile
     pub was_open : Contains old.files file
     pub told : Completes old.own file.id indication
-    pub left : sent new.spool ≡ sent old.spool ++ (file.name.items ∷ [])
+    pub left : Leaves file.name.items old new
 
+  -- The file left whose put was wished, since that was refused.
+  pub record LeavesRefused (reply : Reply) (old new : ClerkState S) : Type 0 where
+    pub name : List ℕ
+    pub by : PutError
+    pub asked : old.asked ≡ Some name
+    pub refused : reply ≡ replies.Put (Err by)
+    pub leaves : Leaves name old new
+
+  -- A file left whose transaction is over, and wasn't told complete.
+  pub record LeavesOver (indication : Indication) (old new : ClerkState S) : Type 0 where
+    pub id : TransactionId
+    pub over : EndsBy id indication
+    pub fails : Completes old.own id indication → ⊥
+    pub leaves : LeavesOpen id old new
+
+  -- which files leave as failed by a call
+  abbrev pub FailsBy : (old : ClerkState S) → UserCall → (new : ClerkState S) → Type 0
+  FailsBy old (Answered reply) new = KeepsFiles old new ⊎ LeavesRefused reply old new
+  FailsBy old (Hears indication) new = KeepsFiles old new ⊎ LeavesOver indication old new
+  FailsBy old _ new = KeepsFiles old new
+
+-- ---- what a clerk does
+module _ {S : Type 0} (sent failed : S → List (List ℕ)) where
   -- what a call of the clerk does
   abbrev pub DoesCall : (old : ClerkState S) → UserCall → (new : ClerkState S) → Type 0
-  DoesCall old (Asks wish) new = KeepsFiles old new × OpensNone old new
+  DoesCall old (Asks wish) new = KeepsFiles sent old new × OpensNone sent old new
       × WishesAsked new.asked wish
-  DoesCall old (Answered reply) new = KeepsFiles old new × (new.asked ≡ None)
+  DoesCall old (Answered reply) new = KeepsFiles sent old new × (new.asked ≡ None)
       × ((file : OpenFile) → Contains new.files file → Contains old.files file
       ⊎ ((old.asked ≡ Some file.name.items) × (reply ≡ replies.Put (Ok file.id))))
-  DoesCall old (Hears indication) new = OpensNone old new × (new.asked ≡ None)
-      × (KeepsFiles old new ⊎ LeavesSent indication old new)
-  DoesCall old _ new = KeepsFiles old new × OpensNone old new × (new.asked ≡ None)
+  DoesCall old (Hears indication) new = OpensNone sent old new × (new.asked ≡ None)
+      × (KeepsFiles sent old new ⊎ LeavesSent sent indication old new)
+  DoesCall old _ new = KeepsFiles sent old new × OpensNone sent old new × (new.asked ≡ None)
 
   -- A clerk does a call, and stays that of its entity.
   pub record ClerkSteps (old : ClerkState S) (call : UserCall) (new : ClerkState S) : Type 0 where
     pub does : DoesCall old call new
+    pub fails : FailsBy failed old call new
     pub own : new.own ≡ old.own
 
 -- ---- what follows

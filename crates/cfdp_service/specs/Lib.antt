@@ -1,3 +1,4 @@
 pub mod Calls
 pub mod Serving
 pub mod Clerk
+pub mod Limits

@@ -1,16 +1,17 @@
 //! A user that sends files in their order, so many at a time.
 ghost use Rattle.std.specs.Prelude.{◌≡◌, ◌⊎◌, ◌++◌, ◌∷◌, ℕ, List, [], None, Some, Contains};
-ghost use Rattle.std.specs.Prelude.{IfOk, IfSome, IsTrue};
+ghost use Rattle.std.specs.Prelude.{IfOk, IfSome, IsTrue, not};
 ghost use Rattle.cfdp_service.specs.Clerk.{ClerkState, ClerkSteps, Completes, KeepsFiles};
-ghost use Rattle.cfdp_service.specs.Clerk.{OpensNone};
+ghost use Rattle.cfdp_service.specs.Clerk.{Leaves, LeavesOpen, OpensNone};
 ghost use Rattle.cfdp_service.specs.Clerk.{WishesAsked, WishesFile, asked_file};
+ghost use Rattle.cfdp_service.specs.Limits.{has_too_many, is_too_long, limits_files};
 
 use crate::console::{Command, Console, Outcome};
 use crate::spool::Spool;
 use crate::tries::Tries;
 use crate::user::{Intent, User};
 use crate::wish::{PutNames, Reply, Wish};
-use cfdp_directives::{Condition, Delivery, FileStatus, Indication};
+use cfdp_directives::{Condition, Delivery, FileStatus, Indication, Phase};
 use cfdp_header::TransactionId;
 use cfdp_station::{PutError, Request, Station};
 use cfdp_store::{Inbox, Outbox};
@@ -40,6 +41,29 @@ pub struct ClerkLimits {
     pub most_size: u64,
     /// The most files that are received at a time; 0 for any number.
     pub most_open: usize,
+}
+
+impl ClerkLimits {
+    /// Returns whether they limit what the peer sends.
+    fn limit_files(&self) -> bool
+        ensures { result ≡ limits_files self.now }
+    {
+        self.most_size > 0 || self.most_open > 0
+    }
+
+    /// Returns whether a file with octets up to this offset is longer than they allow.
+    fn is_too_long(&self, end: u64) -> bool
+        ensures { result ≡ is_too_long self.now end }
+    {
+        self.most_size > 0 && end > self.most_size
+    }
+
+    /// Returns whether they allow no further file beside so many that are received.
+    fn has_too_many(&self, beside: usize) -> bool
+        ensures { result ≡ has_too_many self.now beside }
+    {
+        self.most_open > 0 && beside >= self.most_open
+    }
 }
 
 /// A file of the spool whose put is open.
@@ -74,8 +98,9 @@ enum Stage {
 /// A user that sends files: those that were asked for before it began, those that are commanded at
 /// its console, and those that lie in its spool, in this order, and no more at a time than its
 /// limits say. A file leaves the spool as sent only once the station indicated that its put is
-/// complete. A file that comes and is beyond the limits is cancelled as soon as its Metadata are
-/// indicated.
+/// complete. Before each turn it cancels each file that comes and is beyond the limits, with or
+/// without Metadata: one that is longer by its Metadata or by what came of it, and all but the
+/// first of those that come, in order of opening.
 #[derive(Drop)]
 pub struct Clerk<S: Spool, C: Console> {
     alloc: Global,
@@ -86,11 +111,11 @@ pub struct Clerk<S: Spool, C: Console> {
     waiting: VecDeque<PutNames>,
     asked: Option<AskedPut>,
     files: Vec<OpenFile>,
-    // the open puts of other files, and the files that are received
+    // the open puts of other files
     puts: Vec<TransactionId>,
-    receptions: Vec<TransactionId>,
-    // receptions that are to be cancelled
+    // files that come and must be cancelled, and whether it has looked for more before this turn
     refused: Vec<TransactionId>,
+    has_looked: bool,
     tries: Tries,
     stage: Stage,
     // whether nothing waits in the station for its link
@@ -125,8 +150,8 @@ impl<S: Spool, C: Console> Clerk<S, C> {
             asked: None,
             files: Vec::new(alloc),
             puts: Vec::new(alloc),
-            receptions: Vec::new(alloc),
             refused: Vec::new(alloc),
+            has_looked: false,
             tries: Tries::new(alloc),
             stage: Stage::Serving,
             is_drained: false,
@@ -192,6 +217,7 @@ impl<S: Spool, C: Console> Clerk<S, C> {
         ensures files { self.new.files ≡ self.old.files }
         ensures own { self.new.own ≡ self.old.own }
         ensures sent { KeepsFiles S.sent self.old self.new }
+        ensures failed { KeepsFiles S.failed self.old self.new }
         ensures asked { WishesAsked self.new.asked result }
     {
         if self.stage == Stage::Halted
@@ -214,6 +240,7 @@ impl<S: Spool, C: Console> Clerk<S, C> {
         ensures asked { self.new.asked ≡ self.old.asked }
         ensures files { self.new.files ≡ self.old.files }
         ensures sent { KeepsFiles S.sent self.old self.new }
+        ensures failed { KeepsFiles S.failed self.old self.new }
     {
         !self.waiting.is_empty() || self.stage == Stage::Serving && self.spool.has_next()
     }
@@ -224,6 +251,7 @@ impl<S: Spool, C: Console> Clerk<S, C> {
         ensures files { self.new.files ≡ self.old.files }
         ensures own { self.new.own ≡ self.old.own }
         ensures sent { KeepsFiles S.sent self.old self.new }
+        ensures failed { KeepsFiles S.failed self.old self.new }
         ensures asked { WishesAsked self.new.asked result }
     {
         if self.stage != Stage::Serving {
@@ -253,6 +281,7 @@ impl<S: Spool, C: Console> Clerk<S, C> {
         ensures files { self.new.files ≡ self.old.files }
         ensures own { self.new.own ≡ self.old.own }
         ensures sent { KeepsFiles S.sent self.old self.new }
+        ensures failed { KeepsFiles S.failed self.old self.new }
         ensures asked { self.new.asked ≡ None }
     {
         match names.copy(self.alloc) {
@@ -289,6 +318,7 @@ impl<S: Spool, C: Console> Clerk<S, C> {
         ensures own { self.new.own ≡ self.old.own }
         ensures asked { self.new.asked ≡ self.old.asked }
         ensures sent { KeepsFiles S.sent self.old self.new }
+        ensures failed { KeepsFiles S.failed self.old self.new }
         ensures files { (file : OpenFile) → Contains self.new.files file →
             Contains self.old.files file
             ⊎ (IsTrue is_file × (names.source.items ≡ file.name.items) × (file.id ≡ id)) }
@@ -307,6 +337,9 @@ impl<S: Spool, C: Console> Clerk<S, C> {
         ensures own { self.new.own ≡ self.old.own }
         ensures asked { self.new.asked ≡ self.old.asked }
         ensures sent { KeepsFiles S.sent self.old self.new }
+        ensures failed { KeepsFiles S.failed self.old self.new
+            ⊎ (IsTrue put.now.is_file
+            × Leaves S.failed put.now.names.source.items self.old self.new) }
         ensures files { self.new.files ≡ self.old.files }
     {
         if put.is_file {
@@ -320,6 +353,8 @@ impl<S: Spool, C: Console> Clerk<S, C> {
         ensures own { self.new.own ≡ self.old.own }
         ensures asked { self.new.asked ≡ self.old.asked }
         ensures sent { KeepsFiles S.sent self.old self.new }
+        ensures failed { KeepsFiles S.failed self.old self.new
+            ⊎ Leaves S.failed name.now self.old self.new }
         ensures files { self.new.files ≡ self.old.files }
     {
         if may_pass && self.tries.count(name) < self.limits.retries {
@@ -337,7 +372,8 @@ impl<S: Spool, C: Console> Clerk<S, C> {
     fn completes(&mut self, name: &[u8])
         ensures own { self.new.own ≡ self.old.own }
         ensures asked { self.new.asked ≡ self.old.asked }
-        ensures sent { S.sent self.new.spool ≡ S.sent self.old.spool ++ (name.now ∷ []) }
+        ensures sent { Leaves S.sent name.now self.old self.new }
+        ensures failed { KeepsFiles S.failed self.old self.new }
         ensures files { self.new.files ≡ self.old.files }
     {
         self.tries.forget(name);
@@ -364,12 +400,11 @@ impl<S: Spool, C: Console> Clerk<S, C> {
         ensures asked { self.new.asked ≡ self.old.asked }
         ensures none { OpensNone S.sent self.old self.new }
         ensures sent { KeepsFiles S.sent self.old self.new
-            ⊎ (IsTrue is_complete × ((file : OpenFile) × Contains self.old.files file
-            × (file.id ≡ id)
-            × (S.sent self.new.spool ≡ S.sent self.old.spool ++ (file.name.items ∷ [])))) }
+            ⊎ (IsTrue is_complete × LeavesOpen S.sent id self.old self.new) }
+        ensures failed { KeepsFiles S.failed self.old self.new
+            ⊎ (IsTrue (not is_complete) × LeavesOpen S.failed id self.old self.new) }
     {
         forget_id(&mut self.puts, id);
-        forget_id(&mut self.receptions, id);
         if let Some(file) = self.take_file(id) {
             self.leaves(&file, is_complete, may_pass);
         }
@@ -380,9 +415,11 @@ impl<S: Spool, C: Console> Clerk<S, C> {
         ensures own { self.new.own ≡ self.old.own }
         ensures asked { self.new.asked ≡ self.old.asked }
         ensures files { self.new.files ≡ self.old.files }
-        ensures sent { KeepsFiles S.sent self.old self.new ⊎ (IsTrue is_complete
-            × (S.sent self.new.spool
-            ≡ S.sent self.old.spool ++ (file.now.name.items ∷ []))) }
+        ensures sent { KeepsFiles S.sent self.old self.new
+            ⊎ (IsTrue is_complete × Leaves S.sent file.now.name.items self.old self.new) }
+        ensures failed { KeepsFiles S.failed self.old self.new
+            ⊎ (IsTrue (not is_complete)
+            × Leaves S.failed file.now.name.items self.old self.new) }
     {
         if is_complete {
             self.completes(file.name.as_slice());
@@ -391,20 +428,42 @@ impl<S: Spool, C: Console> Clerk<S, C> {
         }
     }
 
-    /// Metadata came: where the file is beyond the limits, it is to be cancelled.
+    /// Metadata of a file came: if it is too long, it must be cancelled.
     fn comes(&mut self, id: TransactionId, size: u64)
         ensures { self.new ≡ self.old }
     {
-        if id.source == self.own || self.receptions.contains(&id) {
-            return;
-        }
-        let is_great = self.limits.most_size > 0 && size > self.limits.most_size;
-        let is_one_more = self.limits.most_open > 0
-            && self.receptions.len() >= self.limits.most_open;
-        if is_great || is_one_more {
+        if id.source != self.own && self.limits.is_too_long(size) {
             let _ = self.refused.push(id);
-        } else if self.limits.most_open > 0 {
-            let _ = self.receptions.push(id);
+        }
+    }
+
+    /// Refuses, once before each turn, the files that are received and beyond the limits.
+    fn looks<O: Outbox, I: Inbox>(&mut self, station: &Station<O, I>)
+        ensures { self.new ≡ self.old }
+    {
+        if !self.has_looked && self.limits.limit_files() {
+            refuse_beyond(&self.limits, station, &mut self.refused);
+        }
+        self.has_looked = true;
+    }
+}
+
+/// Adds to those that must be cancelled the files that are received and beyond the limits.
+fn refuse_beyond<O: Outbox, I: Inbox>(
+    limits: &ClerkLimits,
+    station: &Station<O, I>,
+    refused: &mut Vec<TransactionId>,
+) {
+    let mut received = 0usize;
+    for (id, phase) in station.transactions() {
+        if phase != Phase::Receiving || refused.contains(&id) {
+            continue;
+        }
+        let end = station.progress(id).unwrap_or(0);
+        if limits.is_too_long(end) || limits.has_too_many(received) {
+            let _ = refused.push(id);
+        } else {
+            received = received.saturating_add(1);
         }
     }
 }
@@ -442,7 +501,8 @@ const MAY_PASS: [Condition; 9] = [
 
 /// Whether the entity `own` is told by this that this transaction, which it sends, is complete.
 fn is_completion(own: u64, id: TransactionId, indication: &Indication) -> bool
-    ensures { IsTrue result → Completes own id indication.now }
+    ensures complete { IsTrue result → Completes own id indication.now }
+    ensures all { Completes own id indication.now → IsTrue result }
 {
     match indication {
         Indication::Finished {
@@ -466,9 +526,10 @@ impl Stage {
 }
 
 impl<S: Spool, C: Console> User for Clerk<S, C> {
-    ghost steps = { λ old call new. ClerkSteps S.sent old call new };
+    ghost steps = { λ old call new. ClerkSteps S.sent S.failed old call new };
 
     fn asks<O: Outbox, I: Inbox>(&mut self, station: &Station<O, I>) -> Option<Wish> {
+        self.looks(station);
         self.asked = None;
         self.is_drained = station.next_lane().is_none();
         if let Some(id) = self.refused.pop() {
@@ -514,6 +575,7 @@ impl<S: Spool, C: Console> User for Clerk<S, C> {
 
     fn intends(&mut self) -> Intent {
         self.asked = None;
+        self.has_looked = false;
         if self.stage == Stage::Halted || self.console.has_failed() {
             return Intent::Halt;
         }

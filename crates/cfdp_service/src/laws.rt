@@ -12,7 +12,7 @@ use cfdp_port::Wire;
 /// sent was put, the put was accepted, and the clerk heard that it is complete.
 pub fn what_is_sent_was_heard_complete<S: Spool>()
     ensures { (calls : List UserCall) (old new : ClerkState S)
-        → Chain (ClerkSteps S.sent) calls old new → old.asked ≡ None → old.files ≡ []
+        → Chain (ClerkSteps S.sent S.failed) calls old new → old.asked ≡ None → old.files ≡ []
         → (name : List ℕ) → Contains (S.sent new.spool) name
         → Contains (S.sent old.spool) name ⊎ IsDelivered old.own calls name }
 {}
@@ -23,7 +23,7 @@ pub fn what_is_sent_was_heard_complete<S: Spool>()
 pub fn what_is_sent_was_told_complete<S: Spool, W: Wire>()
     ensures { (short : Bool) (calls : List UserCall) (first last : PortState W)
         (old new : ClerkState S) → Serves W.steps short calls first last
-        → Chain (ClerkSteps S.sent) calls old new → old.asked ≡ None → old.files ≡ []
+        → Chain (ClerkSteps S.sent S.failed) calls old new → old.asked ≡ None → old.files ≡ []
         → (name : List ℕ) → Contains (S.sent new.spool) name
         → Contains (S.sent old.spool) name
         ⊎ IsSentFile old.own calls (table_of last.station).told name }

@@ -9,46 +9,61 @@ pub trait Spool: Drop {
     /// The names of the files that have left it as sent, in that order.
     ghost sent: { Self → List (List ℕ) };
 
+    /// The names of the files that have left it as failed, in that order.
+    ghost failed: { Self → List (List ℕ) };
+
     /// Whether a file waits: `next` gives its name then.
     fn has_next(&mut self) -> bool
-        ensures { sent self.new ≡ sent self.old };
+        ensures sent { sent self.new ≡ sent self.old }
+        ensures failed { failed self.new ≡ failed self.old };
 
     /// The name of the next file that is to be sent; `None` where none waits. Each file that lies
     /// there is given once, and once more after it was put back.
     fn next(&mut self) -> Option<Vec<u8>>
-        ensures { sent self.new ≡ sent self.old };
+        ensures sent { sent self.new ≡ sent self.old }
+        ensures failed { failed self.new ≡ failed self.old };
 
     /// The file of this name, which was given, lies at the peer: it leaves the spool as sent.
     fn sent(&mut self, name: &[u8])
-        ensures { sent self.new ≡ sent self.old ++ (name.now ∷ []) };
+        ensures sent { sent self.new ≡ sent self.old ++ (name.now ∷ []) }
+        ensures failed { failed self.new ≡ failed self.old };
 
     /// The file of this name, which was given, couldn't be sent: it leaves the spool as failed.
     fn failed(&mut self, name: &[u8])
-        ensures { sent self.new ≡ sent self.old };
+        ensures sent { sent self.new ≡ sent self.old }
+        ensures failed { failed self.new ≡ failed self.old ++ (name.now ∷ []) };
 
     /// The file of this name, which was given, is to be given once more: its sending failed for a
     /// cause that may pass.
     fn put_back(&mut self, name: &[u8])
-        ensures { sent self.new ≡ sent self.old };
+        ensures sent { sent self.new ≡ sent self.old }
+        ensures failed { failed self.new ≡ failed self.old };
 }
 
 /// A spool in which no file ever waits.
 #[derive(Drop)]
 pub struct NoSpool {
-    gone: Past<Past<u8>>,
+    sent: Past<Past<u8>>,
+    failed: Past<Past<u8>>,
 }
 
 impl NoSpool {
     /// Nothing has left it.
     pub fn new() -> NoSpool
-        ensures { result.gone ≡ [] }
+        ensures sent { result.sent ≡ [] }
+        ensures failed { result.failed ≡ [] }
     {
-        NoSpool { gone: Past::new() }
+        NoSpool {
+            sent: Past::new(),
+            failed: Past::new(),
+        }
     }
 }
 
 impl Spool for NoSpool {
-    ghost sent = { λ s. s.gone };
+    ghost sent = { λ s. s.sent };
+
+    ghost failed = { λ s. s.failed };
 
     fn has_next(&mut self) -> bool {
         false
@@ -59,10 +74,12 @@ impl Spool for NoSpool {
     }
 
     fn sent(&mut self, name: &[u8]) {
-        self.gone.put(&Past::of(name));
+        self.sent.put(&Past::of(name));
     }
 
-    fn failed(&mut self, _name: &[u8]) {}
+    fn failed(&mut self, name: &[u8]) {
+        self.failed.put(&Past::of(name));
+    }
 
     fn put_back(&mut self, _name: &[u8]) {}
 }

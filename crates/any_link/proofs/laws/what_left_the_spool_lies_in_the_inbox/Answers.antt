@@ -35,8 +35,8 @@ returns g c =
     λ config files mid now more joined served went s old new chain asked none name has.
     let begun = served_so g.W.Wire.steps config files mid served in
     let then = went_so g.W.Wire.steps config more mid now went begun.1 in
-    let calls : Chain (ClerkSteps g.S.Spool.sent) (served_at s (shade_all g.W.Wire.steps config mid)).calls old new =
-    subst (λ (l : List UserCall). Chain (ClerkSteps g.S.Spool.sent) l old new) (sym (calls_so g.W.Wire.steps config s mid)) chain in
+    let calls : Chain (ClerkSteps g.S.Spool.sent g.S.Spool.failed) (served_at s (shade_all g.W.Wire.steps config mid)).calls old new =
+    subst (λ (l : List UserCall). Chain (ClerkSteps g.S.Spool.sent g.S.Spool.failed) l old new) (sym (calls_so g.W.Wire.steps config s mid)) chain in
     ⊎_elim (λ before. inl before) (λ (d : IsDelivered s name (shade_all g.W.Wire.steps config now)). inr (delivered_so g.W.Wire.steps config s name now d))
-    (spooled g.W.Wire.steps all config files joined g.S.Spool.sent c.what_is_sent_was_heard_complete.ensures (shade_all g.W.Wire.steps config mid) (shade_all g.W.Wire.steps config now) more begun.0 then.0
+    (spooled g.W.Wire.steps all config files joined g.S.Spool.sent g.S.Spool.failed c.what_is_sent_was_heard_complete.ensures (shade_all g.W.Wire.steps config mid) (shade_all g.W.Wire.steps config now) more begun.0 then.0
     s old new calls asked none name has)

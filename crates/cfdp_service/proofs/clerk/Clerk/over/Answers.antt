@@ -23,6 +23,22 @@ returns-in-Some-clause-sent g c =
       ),
     )) c.leaves.ensures.sent
 
+pub returns-in-Some-clause-failed : goal.returns-in-Some-clause-failed
+returns-in-Some-clause-failed g c =
+    let failed = g.S.Spool.failed in
+    let found = c.in-Some.ensures.found in
+    let before = ap failed c.take_file.ensures.spool ∙ ap (λ (s : ClerkState _). failed s.spool) c.self.view_is in
+    ⊎_elim (λ keeps. inl (keeps ∙ before))
+    (λ over. inr (
+      over.0,
+      (
+        c.in-Some.file,
+        subst (λ (s : ClerkState _). Contains s.files c.in-Some.file) c.self.view_is found.0,
+        found.1,
+        over.1 ∙ ap (λ l. l ++ (c.in-Some.file.name.items ∷ [])) before,
+      ),
+    )) c.leaves.ensures.failed
+
 pub returns-in_default-clause-none : goal.returns-in_default-clause-none
 returns-in_default-clause-none g c = λ file has.
     subst (λ (s : ClerkState _). Contains s.files file) c.self.view_is (c.take_file.ensures.none file has)

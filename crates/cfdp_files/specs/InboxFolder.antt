@@ -1,0 +1,11 @@
+-- The files of a folder that is received into.
+use Rattle.std.specs.Prelude.{◌≡◌, ◌⊎◌, ◌≤◌, ℕ, List, ◌++◌, codes}
+
+-- The name of a part file begins so; no file that was received whole has such a name.
+abbrev pub IsPartName : List ℕ → Type 0
+IsPartName name = (rest : List ℕ) × (name ≡ codes ".part-" ++ rest)
+
+-- A file of this size may get a name where files of more than so many octets may not; 0 is no
+-- limit.
+abbrev pub MayBeNamed : (most size : ℕ) → Type 0
+MayBeNamed most size = (most ≡ 0) ⊎ (size ≤ most)

@@ -1,0 +1,5 @@
+mod Parts
+mod Faults
+mod Ignored
+pub mod RoundTrip
+pub mod Taken

@@ -1,0 +1,4 @@
+pub mod Frames
+pub mod Sealing
+pub mod Opening
+pub mod Lives

@@ -1,0 +1,2 @@
+mod Octets
+pub mod Lengths

@@ -1,0 +1,3 @@
+pub mod Secured
+pub mod Direction
+pub mod Passing
