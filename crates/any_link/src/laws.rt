@@ -110,7 +110,8 @@ pub fn stations_keep_the_promise_in_any_order<W: PeerWire>()
 pub fn what_left_the_spool_lies_in_the_inbox<S: Spool, W: PeerWire>()
     ensures { (c : Setup) (files : Side → FileMap) (mid now : Stations) (more : ℕ) → AreJoined c
         → HaveServed W.steps c files mid → Times (Goes W.steps c) more mid now → (s : Side)
-        (old new : ClerkState S) → Chain (ClerkSteps S.sent S.failed) (served_at s mid).calls old new
+        (old new : ClerkState S)
+        → Chain (ClerkSteps S.sent S.failed) (served_at s mid).calls old new
         → old.asked ≡ None → old.files ≡ [] → (name : List ℕ) → Contains (S.sent new.spool) name
         → Contains (S.sent old.spool) name ⊎ IsDelivered s name now }
 {
