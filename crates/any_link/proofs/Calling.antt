@@ -27,8 +27,9 @@ use Rattle.cfdp_service.specs.declared.wish.Reply.TheVariants as replies
 use Rattle.cfdp_service.specs.declared.wish.Wish.{Wish}
 use Rattle.cfdp_service.specs.declared.wish.Wish.TheVariants as wishes
 use Rattle.cfdp_service.specs.Serving.{said_by}
-use Rattle.any_link.specs.Serving.{Fulfils, IsSaid, PutsFile}
+use Rattle.any_link.specs.Serving.{IsSaid}
 use Rattle.any_link.proofs.Holding.{Held}
+use Rattle.any_link.proofs.Standing.{Fulfils, PutsFile}
 use Rattle.any_link.proofs.Sounds.{looked_like}
 
 -- ---- two calls in a row

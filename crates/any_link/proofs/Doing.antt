@@ -30,9 +30,10 @@ use Rattle.cfdp_service.specs.declared.wish.Reply.TheVariants as replies
 use Rattle.cfdp_service.specs.declared.wish.Wish.{Wish}
 use Rattle.cfdp_service.specs.declared.wish.Wish.TheVariants as wishes
 use Rattle.cfdp_service.specs.Serving.{once_said, once_told}
-use Rattle.any_link.specs.Serving.{Deed, DoesDeed, Fulfils, IsBegun, KeepsSent, LetsGo, PutsFile, Says, Served, Starts, StartsAnew, Stops, Tells, Turns, Wishes, accepted_by, life_from}
+use Rattle.any_link.specs.Serving.{Deed, IsBegun, LetsGo, Says, Served, Starts, Stops, Tells, Turns, Wishes, accepted_by, life_from}
 use Rattle.any_link.proofs.Holding.{Held, at_count, held_like, held_makes}
 use Rattle.any_link.proofs.Sounds.{looked_like, some_like, sound_else, sound_looked}
+use Rattle.any_link.proofs.Standing.{DoesDeed, Fulfils, KeepsSent, PutsFile, StartsAnew}
 use Rattle.any_link.proofs.Telling.{TellsMore, makes_told, tells_both, tells_same, told_of}
 use Rattle.any_link.proofs.Turning.{MakesSome, at, stopped, turned}
 

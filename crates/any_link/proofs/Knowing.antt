@@ -23,7 +23,8 @@ use Rattle.cfdp_port.specs.Port.{table_of}
 use Rattle.cfdp_service.specs.Calls.{UserCall, Hears}
 use Rattle.cfdp_service.specs.Serving.{said_by}
 use Rattle.any_link.specs.Promise.{IsSent, own_of, told_by}
-use Rattle.any_link.specs.Serving.{AreFirst, Deed, DoesDeed, Goes, HaveServed, LetsGo, Says, Served, Starts, Stations, Stops, Tells, Turns, Wishes, served_at}
+use Rattle.any_link.specs.Serving.{Deed, LetsGo, Says, Served, Starts, Stations, Stops, Tells, Turns, Wishes, served_at}
+use Rattle.any_link.proofs.Standing.{AreFirst, DoesDeed, Goes, HaveServed}
 use Rattle.any_link.proofs.Calling.{ArePut, AreTold, all_more, heard_grown, hears_known, none_known, said_heard, said_known, tells_heard, wish_heard, wish_known}
 use Rattle.any_link.proofs.Doing.{AllLaws, deed_told}
 use Rattle.any_link.proofs.Holding.{Held}

@@ -1,3 +1,4 @@
+mod Standing
 mod Sounds
 mod Holding
 mod Telling
@@ -9,3 +10,6 @@ mod Knowing
 mod Lying
 mod Wishing
 mod Readying
+mod Shading
+mod Reaching
+mod Ending

@@ -26,8 +26,9 @@ use Rattle.any_order.proofs.Puts.{finds_by_id}
 use Rattle.cfdp_port.specs.Calls.{WireCall}
 use Rattle.cfdp_service.specs.Calls.{Asks, Chain, UserCall}
 use Rattle.cfdp_service.specs.Clerk.{ClerkState, ClerkSteps, IsDelivered as IsHeardComplete}
-use Rattle.any_link.specs.Promise.{IsDelivered, IsSent, KeepPromise, Lies, completed_by, told_by}
-use Rattle.any_link.specs.Serving.{Goes, HaveServed, Stations, served_at}
+use Rattle.any_link.specs.Promise.{IsDelivered, IsSent, Lies, completed_by, told_by}
+use Rattle.any_link.specs.Serving.{Stations, served_at}
+use Rattle.any_link.proofs.Standing.{Goes, HaveServed, KeepPromise}
 use Rattle.any_link.proofs.Calling.{IsPut, accepts_put}
 use Rattle.any_link.proofs.Doing.{AllLaws}
 use Rattle.any_link.proofs.Knowing.{AreKnown, Known, delivered, own_so, served_known, went_known, went_sent}
@@ -157,11 +158,11 @@ module _ {W : Type 0} (Steps : W → WireCall → W → Type 0) (all : AllLaws) 
         },
       )
 
-  pub spooled : {S : Type 0} (sent : S → List (List ℕ)) → ((calls : List UserCall) (old new : ClerkState S) → Chain (ClerkSteps sent) calls old new → old.asked ≡ None → old.files ≡ [] → (name : List ℕ) →
+  pub spooled : {S : Type 0} (sent failed : S → List (List ℕ)) → ((calls : List UserCall) (old new : ClerkState S) → Chain (ClerkSteps sent failed) calls old new → old.asked ≡ None → old.files ≡ [] → (name : List ℕ) →
       Contains (sent new.spool) name → Contains (sent old.spool) name ⊎ IsHeardComplete old.own calls name) → (mid now : Stations) (more : ℕ) → HaveServed Steps c files mid →
-      Times (Goes Steps c) more mid now → (s : Side) (old new : ClerkState S) → Chain (ClerkSteps sent) (served_at s mid).calls old new → old.asked ≡ None → old.files ≡ [] → (name : List ℕ) →
+      Times (Goes Steps c) more mid now → (s : Side) (old new : ClerkState S) → Chain (ClerkSteps sent failed) (served_at s mid).calls old new → old.asked ≡ None → old.files ≡ [] → (name : List ℕ) →
       Contains (sent new.spool) name → Contains (sent old.spool) name ⊎ IsDelivered s name now
-  spooled sent left mid now more served went s old new chain asked none name has =
+  spooled sent failed left mid now more served went s old new chain asked none name has =
       let k : AreKnown c files mid = served_known Steps all c files joined mid served in
       let then : AreKnown c files now = went_known Steps all c files joined more mid now went k in
       ⊎_elim (λ before. inl before)

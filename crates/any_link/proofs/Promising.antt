@@ -16,8 +16,8 @@ use Rattle.any_order.specs.Kept.{EndKept, HasTaken, IsOf, last_at}
 use Rattle.any_order.specs.Promise.{HoldsAt, found}
 use Rattle.any_order.proofs.Promise.{AreKept, all_hold, joined_to, new_kept}
 use Rattle.cfdp_port.specs.Calls.{WireCall}
-use Rattle.any_link.specs.Promise.{KeepPromise}
-use Rattle.any_link.specs.Serving.{AreFirst, Deed, DoesDeed, Goes, HaveServed, IsFirst, Served, Stations, served_at}
+use Rattle.any_link.specs.Serving.{Deed, Served, Stations, served_at}
+use Rattle.any_link.proofs.Standing.{AreFirst, DoesDeed, Goes, HaveServed, IsFirst, KeepPromise}
 use Rattle.any_link.proofs.Doing.{AllLaws, deed_held}
 use Rattle.any_link.proofs.Holding.{Held, at_count, held_other}
 

@@ -18,7 +18,7 @@ use Rattle.cfdp_entity.specs.Seen.{Seen, Sends, Receives}
 use Rattle.cfdp_entity.specs.Sending.{SendsItsPut}
 use Rattle.cfdp_entity.specs.Sound.{IsSound}
 use Rattle.cfdp_entity.specs.Table.{TableState}
-use Rattle.any_link.specs.Serving.{KeepsSent}
+use Rattle.any_link.proofs.Standing.{KeepsSent}
 
 -- What of an entity doesn't change.
 pub record IsLike (old new : EntityState) : Type 0 where

@@ -18,8 +18,8 @@ use Rattle.cfdp_station.specs.Transmitting.{FillsUp, MovesMore, PollsOnce, Times
 use Rattle.cfdp_station.proofs.Lent.{polls-stood}
 use Rattle.cfdp_port.specs.Calls.{WireCall}
 use Rattle.cfdp_port.specs.Passing.{frames_came, what_came}
-use Rattle.cfdp_port.specs.PeerTurn.{EndsPolls, Pulls, SendsNext, SendsSome, SendsSomeInPart, TakesInPart}
-use Rattle.cfdp_port.specs.Port.{PortState, port_state}
+use Rattle.cfdp_port.specs.PeerTurn.{EndsPolls, Pulls, SendsNext, SendsSome, SendsSomeInPart}
+use Rattle.cfdp_port.specs.Port.{PortState}
 use Rattle.cfdp_port.specs.Turn.{AsksOn, HearsAll, TakesWhat, TellsTime}
 use Rattle.cfdp_port.specs.declared.wire.WireFault.{WireFault}
 use Rattle.cfdp_port.proofs.GainLemmas.{GoesOnLaws, poll-gains}
@@ -29,7 +29,8 @@ use Rattle.any_order.specs.Refusing.{IsNearLast, number_in}
 use Rattle.any_order.proofs.Coming.{makes_copy, makes_noise}
 use Rattle.any_order.proofs.Keeping.{makes_both, makes_gives, makes_none}
 use Rattle.any_order.proofs.Leading.{makes_fill, makes_poll, makes_tick}
-use Rattle.any_link.specs.Passing.{Comes, ComesOne, EndsEarly, SendsThen, Stand, TakesTurn, with_sent}
+use Rattle.any_link.specs.Passing.{Comes, ComesOne, with_sent}
+use Rattle.any_link.proofs.Standing.{EndsEarly, SendsThen, Stand, TakesTurn}
 
 -- Some calls were made.
 abbrev pub MakesSome : StationConfig → (old theirs new : EndKept) → List Put → Type 0
@@ -42,41 +43,13 @@ at s k = record k { station = s }
 same_stand : (a b : StationState) → b.entity ≡ a.entity → Stand b → Stand a
 same_stand a b same stand = sym (ap (λ (e : Counted). e.state.table.stands) same) ∙ stand
 
--- ---- a turn in part
+-- ---- what came
 module _ {W : Type 0} (Steps : W → WireCall → W → Type 0) where
-  heard_end : (old new : PortState W) (h : HearsAll Steps old new) → new.station ≡ h.last.station
+  pub heard_end : (old new : PortState W) (h : HearsAll Steps old new) → new.station ≡ h.last.station
   heard_end old new h = elim (h.ends) [
     | inl asked ↦ asked.1.takes
     | inr all ↦ ap (λ (x : PortState W). x.station) all.1
   ]
-
-  -- A turn that found no memory is one that ended early.
-  pub ends_early : (link : LinkConfig) (theirs old heard : EndKept) (wire : W) (last : PortState W) (t : TakesInPart Steps (port_state old.station wire) last) →
-      Comes link (frames_came Steps t.hears.count _ _ t.hears.heard) theirs old heard → Stand last.station → (new : EndKept) × EndsEarly Steps link theirs old new × (new.station ≡ last.station)
-  ends_early link theirs old heard wire last t came stand =
-      let h = t.hears in
-      let end : t.heard.station ≡ h.last.station = heard_end _ t.heard h in
-      elim (t.ends) [
-        | inl same ↦ (
-          at h.last.station heard,
-          record { wire = wire; count = h.count; mid = h.last; hears = h.heard; heard = heard; came = came; ends = inl refl },
-          sym (ap (λ (x : PortState W). x.station) same ∙ end),
-        )
-        | inr more ↦
-            let some : SendsSomeInPart Steps (port_state more.0 t.timed) last = more.2 in
-            let new : EndKept = record heard { station = last.station; latest = with_sent Steps some.count _ _ some.sent heard.latest } in
-            let sends : SendsThen Steps h.last heard new = record {
-              now = t.now;
-              timed = t.timed;
-              told = more.0;
-              last = last;
-              tells = subst (λ (s : StationState). TellsTime t.now s more.0) end more.1;
-              some = some;
-              stand = stand;
-              kept = refl;
-            } in
-            (new, record { wire = wire; count = h.count; mid = h.last; hears = h.heard; heard = heard; came = came; ends = inr sends }, refl)
-      ]
 
 module _ (laws : GoesOnLaws) (c : StationConfig) (theirs : EndKept) (puts : List Put) where
   none_made : (old new : EndKept) → new ≡ old → MakesSome c old theirs new puts

@@ -1,13 +1,16 @@
 -- What passes in a turn of a port over a link that delivers frames in any order, any number of
 -- times, or not at all, and among them octets of which no packet can come; and what is kept of it.
-use Rattle.std.specs.Prelude.{◌≡◌, ◌⊎◌, ℕ, zero, suc, List, [], ◌∷◌, slice_index_or, IsTrue}
+use Rattle.std.specs.Prelude.{◌≡◌, ◌⊎◌, ◌<◌, ℕ, zero, suc, List, [], ◌∷◌, slice_index_or, ⊤}
+use Rattle.std.proofs.Common.{inl, inr}
 use Rattle.aos_frame.specs.declared.config.LinkConfig.{LinkConfig}
+use Rattle.cfdp_header.specs.Files.{FileMap}
 use Rattle.cfdp_station.specs.Station.{StationState}
-use Rattle.cfdp_station.specs.Transmitting.{Times}
+use Rattle.cfdp_station.specs.Transmitting.{MovesMore, Times}
+use Rattle.shown_sources.specs.Shown.{ReadsAs}
 use Rattle.cfdp_port.specs.Calls.{WireCall}
 use Rattle.cfdp_port.specs.Passing.{frames_came}
-use Rattle.cfdp_port.specs.PeerTurn.{SendsNext, SendsSomeInPart, TakesOne}
-use Rattle.cfdp_port.specs.Port.{PortState, port_state, table_of}
+use Rattle.cfdp_port.specs.PeerTurn.{SendsNext, SendsNone, SendsSome, SendsSomeInPart, TakesOne}
+use Rattle.cfdp_port.specs.Port.{PortState, port_state}
 use Rattle.cfdp_port.specs.Turn.{AsksOn, TellsTime}
 use Rattle.any_order.specs.declared.answers.SentFrame.{SentFrame}
 use Rattle.any_order.specs.Kept.{EndKept, LifeKept, frames_in, last_at, with_frame, with_last}
@@ -35,12 +38,54 @@ Comes link [] from old new = new ≡ old
 Comes link (octets ∷ came) from old new =
     (mid : EndKept) × ComesOne link octets from old mid × Comes link came from mid new
 
--- ---- turns
--- The files that a station sends stand: every read showed what was there before.
-abbrev pub Stand : StationState → Type 0
-Stand s = IsTrue (table_of s).stands
+-- ---- what is read
+-- These polls read no octets of a file but those that these files have there.
+abbrev pub PollsRead : FileMap → (count : ℕ) → (old new : StationState)
+    → Times MovesMore count old new → Type 0
+PollsRead files zero old new same = ⊤
+PollsRead files (suc count) old new (mid, before, step) =
+    PollsRead files count old mid before
+    × ReadsAs step.1.0 files mid.entity.state new.entity.state
 
 module _ {W : Type 0} (Steps : W → WireCall → W → Type 0) where
+  -- Nor did those that brought these frames.
+  abbrev pub FramesRead : FileMap → (count : ℕ) → (old new : PortState W)
+      → Times (SendsNext Steps) count old new → Type 0
+  FramesRead files zero old new same = ⊤
+  FramesRead files (suc count) old new (mid, before, step) =
+      FramesRead files count old mid before
+      × PollsRead files step.pulls.polls.count mid.station step.pulls.polls.last
+      step.pulls.polls.moved
+
+  -- Nor did those that brought none, if there were some.
+  abbrev pub LastRead : FileMap → (count : ℕ) → (last new : PortState W)
+      → ((count < 64) × SendsNone Steps last new) ⊎ ((count ≡ 64) × (new ≡ last)) → Type 0
+  LastRead files count last new (inl none) = PollsRead files none.1.pulls.polls.count last.station
+      none.1.pulls.polls.last none.1.pulls.polls.moved
+  LastRead files count last new (inr all) = ⊤
+
+  -- Nor did any that sent what is to leave in a turn.
+  pub record TurnReads (files : FileMap) (old new : PortState W) (some : SendsSome Steps old new)
+      : Type 0 where
+    pub frames : FramesRead files some.count old some.last some.sent
+    pub ends : LastRead files some.count some.last new some.ends
+
+  -- Nor did any that sent some frames, until memory was wanting.
+  pub record PartReads (files : FileMap) (old new : PortState W)
+      (some : SendsSomeInPart Steps old new) : Type 0 where
+    pub frames : FramesRead files some.count old some.last some.sent
+    pub ends : PollsRead files some.part.count some.last.station new.station some.part.moved
+
+  -- Nor did any of a turn for which memory was wanting, if it came so far.
+  abbrev pub EndRead : FileMap → (now : ℕ) → (heard : PortState W) → (timed : W)
+      → (new : PortState W) → (new ≡ record heard { wire = timed })
+      ⊎ ((told : StationState) × TellsTime now heard.station told
+      × SendsSomeInPart Steps (port_state told timed) new) → Type 0
+  EndRead files now heard timed new (inl none) = ⊤
+  EndRead files now heard timed new (inr (told, tells, some)) =
+      PartReads files (port_state told timed) new some
+
+  -- ---- turns
   -- the frames of a life, once these left the station
   abbrev pub with_sent : (count : ℕ) → (old new : PortState W)
       → Times (SendsNext Steps) count old new → LifeKept → LifeKept
@@ -49,29 +94,31 @@ module _ {W : Type 0} (Steps : W → WireCall → W → Type 0) where
       with_frame step.sends.lane step.sends.frame (with_sent count old mid before life)
 
   -- A whole turn was taken. Of the datagrams that came each is a frame of the other station, or no
-  -- packet can come of it; the frames that left are kept; and the files stand.
-  pub record TakesTurn (link : LinkConfig) (theirs old new : EndKept) : Type 0 where
+  -- packet can come of it; the frames that left are kept; and what was read of the files to send is
+  -- what these files have.
+  pub record TakesTurn (link : LinkConfig) (files : FileMap) (theirs old new : EndKept)
+      : Type 0 where
     pub wire : W
     pub last : PortState W
     pub turn : TakesOne Steps (port_state old.station wire) last
     pub heard : EndKept
     pub came : Comes link (frames_came Steps turn.hears.count _ _ turn.hears.heard) theirs old heard
-    pub stand : Stand last.station
+    pub reads : TurnReads files _ _ turn.sends
     pub kept : new ≡ record heard {
       station = last.station;
       latest = with_sent turn.sends.count _ _ turn.sends.sent heard.latest;
     }
 
   -- Behind what it heard, a station was told the time, and sent some frames; then it was polled at
-  -- most, and the turn ended. The frames that left are kept.
-  pub record SendsThen (mid : PortState W) (heard new : EndKept) : Type 0 where
+  -- most, and the turn ended. The frames that left are kept, and what was read is as above.
+  pub record SendsThen (files : FileMap) (mid : PortState W) (heard new : EndKept) : Type 0 where
     pub now : ℕ
     pub timed : W
     pub told : StationState
     pub last : PortState W
     pub tells : TellsTime now mid.station told
     pub some : SendsSomeInPart Steps (port_state told timed) last
-    pub stand : Stand last.station
+    pub reads : PartReads files _ _ some
     pub kept : new ≡ record heard {
       station = last.station;
       latest = with_sent some.count _ _ some.sent heard.latest;
@@ -79,11 +126,12 @@ module _ {W : Type 0} (Steps : W → WireCall → W → Type 0) where
 
   -- A turn ended early, for want of memory, or since the station was cut off. Some of what came was
   -- taken, and that was all; or some frames left then.
-  pub record EndsEarly (link : LinkConfig) (theirs old new : EndKept) : Type 0 where
+  pub record EndsEarly (link : LinkConfig) (files : FileMap) (theirs old new : EndKept)
+      : Type 0 where
     pub wire : W
     pub count : ℕ
     pub mid : PortState W
     pub hears : Times (AsksOn Steps) count (port_state old.station wire) mid
     pub heard : EndKept
     pub came : Comes link (frames_came Steps count _ _ hears) theirs old heard
-    pub ends : (new ≡ record heard { station = mid.station }) ⊎ SendsThen mid heard new
+    pub ends : (new ≡ record heard { station = mid.station }) ⊎ SendsThen files mid heard new

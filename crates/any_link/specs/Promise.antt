@@ -10,7 +10,7 @@ use Rattle.any_order.specs.Calls.{Pair, Side, at, other}
 use Rattle.any_order.specs.Kept.{IsOf}
 use Rattle.any_order.specs.Promise.{HoldsAt, found}
 use Rattle.cfdp_port.specs.Port.{table_of}
-use Rattle.any_link.specs.Serving.{Served, Stations, served_at}
+use Rattle.any_link.specs.Serving.{Served, Stations, kept_sending, served_at}
 
 -- its entity
 abbrev pub own_of : Served → ℕ
@@ -27,12 +27,13 @@ completed_by s = completions (own_of s) (told_by s)
 abbrev pub inbox_of : Served → FileMap
 inbox_of s = (table_of s.kept.station).files
 
--- The promise holds of both stations and of all that was done with them: of both, by histories of
--- which this is kept; and so each inbox is the first one, overwritten by the files of the puts that
--- its station completed, over all its lives, in that order.
+-- The promise holds of both stations and of all that was done with them: of both, with what their
+-- files to send have, by histories of which this is kept; and so each inbox is the first one,
+-- overwritten by the files of the puts that its station completed, over all its lives, in that
+-- order.
 pub record KeepPromise (files : Side → FileMap) (w : Stations) : Type 0 where
   pub now : Pair
-  pub is : (s : Side) → IsOf (served_at s w).kept (at s now)
+  pub is : (s : Side) → IsOf (kept_sending (served_at s w).has (served_at s w).kept) (at s now)
   pub puts : now.puts ≡ w.puts
   pub holds : (s : Side) → HoldsAt s (files s) now
   pub inbox : (s : Side) → inbox_of (served_at s w)

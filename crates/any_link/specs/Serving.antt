@@ -1,6 +1,8 @@
 -- Two stations in service over such a link, each of which may start anew: what is done at either,
 -- one thing after another.
+use Rattle.std.specs.FinMap.{get}
 use Rattle.std.specs.Prelude.{◌≡◌, ◌≢◌, ◌⊎◌, ◌<◌, ◌≤◌, ◌+◌, ◌%◌, ℕ, List, [], ◌∷◌, ◌++◌, length, map, slice_get, Some, None, Result, Ok, Err, true, ⊤}
+use Rattle.std.proofs.Common.{inl, inr}
 use Rattle.aos_frame.specs.Counts.{frame_counts}
 use Rattle.aos_frame.specs.declared.config.Lane.{Lane}
 use Rattle.cfdp_header.specs.declared.value.TransactionId.{TransactionId}
@@ -21,6 +23,7 @@ use Rattle.cfdp_station.specs.Requests.{StationAnswers}
 use Rattle.cfdp_station.specs.Station.{StationState}
 use Rattle.cfdp_station.specs.Transmitting.{Times}
 use Rattle.cfdp_station.specs.New.{IsNewAt}
+use Rattle.shown_sources.specs.Shown.{AreAsLong, entity_sending, station_sending}
 use Rattle.any_order.specs.Calls.{Setup, Side, One, Two, numbered_from, other, setup_of}
 use Rattle.any_order.specs.Kept.{EndKept, LifeKept, all_kept, frames_in}
 use Rattle.cfdp_port.specs.Asking.{CountsFrom, FailsToLook, LooksAt, Puts}
@@ -37,17 +40,27 @@ use Rattle.cfdp_service.specs.Serving.{Does, Prepares, once_told, said_by, wish_
 use Rattle.any_link.specs.Passing as passing
 
 -- ---- a station in service
--- what is kept of it, and the calls of its user in this life
+-- What is kept of it; the calls of its user in this life; and what the files have that it can send,
+-- since each was looked for: as others made them, of which no code sees more than it reads.
 pub record Served : Type 0 where
   pub kept : EndKept
   pub calls : List UserCall
+  pub has : FileMap
+
+-- what is kept of a station, with these files to send in the place of those of its outbox
+abbrev pub kept_sending : FileMap → EndKept → EndKept
+kept_sending files k = record k { station = station_sending files k.station }
 
 -- the same, where the station became this one, and these calls of its user were made
 abbrev pub served_on : StationState → List UserCall → Served → Served
-served_on station calls s = record {
+served_on station calls s = record s {
   kept = record s.kept { station = station };
   calls = s.calls ++ calls;
 }
+
+-- the same, where the files to send have this
+abbrev pub with_has : FileMap → Served → Served
+with_has has s = record s { has = has }
 
 -- Both stations, and the accepted puts of both, in order.
 pub record Stations : Type 0 where
@@ -66,37 +79,58 @@ abbrev pub accepted_by : (source destination : List ℕ) → Result TransactionI
 accepted_by source destination (Ok id) e = next_put source destination e ∷ []
 accepted_by source destination (Err by) e = []
 
--- Of each record that sends or sent a file of this name, the file is what it was.
-abbrev pub KeepsSent : List ℕ → (old new : TableState) → Type 0
-KeepsSent name old new = (place : ℕ) (id : TransactionId) (x : SenderState)
-    → slice_get old.records place ≡ Some (id, Sends x) → x.source ≡ name
-    → octets_in new.sources name ≡ octets_in old.sources name
+-- A file was looked for, and the files to send have this now. Each is as long as the outbox found
+-- it. Only the one that was looked for may have something else: not if a record is sending it, nor
+-- if a record is left that has sent it.
+pub record Finds (name : List ℕ) (has now : FileMap) (old looked : TableState) : Type 0 where
+  pub long : AreAsLong looked.sources now
+  pub others : (other : List ℕ) → other ≢ name → get now other ≡ get has other
+  pub sent : IsSent name old → now ≡ has
+  pub keeps : (place : ℕ) (id : TransactionId) (x : SenderState)
+      → slice_get old.records place ≡ Some (id, Sends x) → x.source ≡ name
+      → octets_in now name ≡ octets_in has name
 
--- A file was looked for, and its put was answered so.
+-- A file was looked for, and its put was answered so: the put is of what the file has.
 pub record PutsFile (source destination : List ℕ) (answer : Result TransactionId PutError)
-    (old new : StationState) (accepted : List Put) : Type 0 where
+    (has now : FileMap) (old new : StationState) (accepted : List Put) : Type 0 where
   pub looked : StationState
   pub looks : LooksAt source old looked
-  pub keeps : KeepsSent source (table_of old) (table_of looked)
+  pub finds : Finds source has now (table_of old) (table_of looked)
   pub puts : Puts source destination answer looked new
-  pub added : accepted ≡ accepted_by source destination answer looked.entity.state
+  pub added : accepted
+      ≡ accepted_by source destination answer (entity_sending now looked.entity.state)
 
--- The station did what its user wished, answered so, and these puts were accepted by that.
-abbrev pub Fulfils : Wish → Reply → (old new : StationState) → (added : List Put) → Type 0
-Fulfils (wishes.Put names) (replies.Put answer) old new added =
-    PutsFile names.source.items names.destination.items answer old new added
-    ⊎ ((answer ≡ Err SourceFault) × FailsToLook old new × (added ≡ []))
-Fulfils (wishes.Change id request) (replies.Change answer) old new added =
-    StationAnswers request id answer old new × (added ≡ [])
-Fulfils _ _ old new added = ⊥
+-- The station did what its user wished, answered so, and these puts were accepted by that; what the
+-- files to send had before, and have now.
+abbrev pub Fulfils : Wish → Reply → (has now : FileMap) → (old new : StationState)
+    → (added : List Put) → Type 0
+Fulfils (wishes.Put names) (replies.Put answer) has now old new added =
+    PutsFile names.source.items names.destination.items answer has now old new added
+    ⊎ ((answer ≡ Err SourceFault) × FailsToLook old new × (now ≡ has) × (added ≡ []))
+Fulfils (wishes.Change id request) (replies.Change answer) has now old new added =
+    StationAnswers request id answer old new × (now ≡ has) × (added ≡ [])
+Fulfils _ _ has now old new added = ⊥
 
--- A record is sending the file that is wished, or none has its name. So no look for it can change
--- what a record sent.
+-- A record is sending the file that is wished, or none is left that has its name. So no look for it
+-- can change what a record sent.
 abbrev pub IsFree : Wish → TableState → Type 0
 IsFree (wishes.Put names) t = IsSent names.source.items t
     ⊎ ((place : ℕ) (id : TransactionId) (x : SenderState)
     → slice_get t.records place ≡ Some (id, Sends x) → x.source ≢ names.source.items)
 IsFree (wishes.Change id request) t = ⊤
+
+-- What the files to send may have once a wish was done: anything that is as long, of the file that
+-- was looked for, if none was being sent under its name; and else what they had.
+abbrev pub MayFind : (wish : Wish) → (reply : Reply) → (old new : StationState)
+    → Does wish reply old new → (has now : FileMap) → Type 0
+MayFind (wishes.Put names) (replies.Put answer) old new (inl (looked, looks, puts)) has now =
+    AreAsLong (table_of looked).sources now
+    × ((other : List ℕ) → other ≢ names.source.items → get now other ≡ get has other)
+    × (IsSent names.source.items (table_of old) → now ≡ has)
+MayFind (wishes.Put names) (replies.Put answer) old new (inr failed) has now = now ≡ has
+MayFind (wishes.Change id request) (replies.Change answer) old new does has now = now ≡ has
+MayFind (wishes.Put names) (replies.Change answer) old new does has now = ⊤
+MayFind (wishes.Change id request) (replies.Put answer) old new does has now = ⊤
 
 -- By this call the user wishes nothing more before the next turn, says what it intends, or hears
 -- that the station ended.
@@ -121,10 +155,11 @@ pub record IsBegun (c : StationConfig) (first : ℕ) (sources files : FileMap) (
 abbrev pub life_from : ℕ → LifeKept
 life_from first = record { first = first; directives = []; file_data = [] }
 
--- Nothing was done yet at a station.
+-- Nothing was done yet at a station. What its files to send have is as long.
 pub record IsFirst (c : StationConfig) (first : ℕ) (sources files : FileMap) (s : Served)
     : Type 0 where
   pub begun : IsBegun c first sources files s.kept.station
+  pub long : AreAsLong sources s.has
   pub kept : s.kept ≡ record {
     station = s.kept.station;
     before = [];
@@ -135,9 +170,9 @@ pub record IsFirst (c : StationConfig) (first : ℕ) (sources files : FileMap) (
   }
   pub calls : s.calls ≡ []
 
--- A station starts anew: with the files of its inbox, and with any files to send. Its frames are
--- counted from a number behind those of its frames before, of which at least one is left out, and
--- its puts are numbered from a number on that no put of it had.
+-- A station starts anew: with the files of its inbox, and with any files to send, which have
+-- anything. Its frames are counted from a number behind those of its frames before, of which at
+-- least one is left out, and its puts are numbered from a number on that no put of it had.
 pub record StartsAnew (first number : ℕ) (c : StationConfig) (old new : Served) : Type 0 where
   pub valid : IsConfig (numbered_from number c.entity)
   pub sources : FileMap
@@ -155,6 +190,7 @@ pub record StartsAnew (first number : ℕ) (c : StationConfig) (old new : Served
     last_data = None;
   }
   pub calls : new.calls ≡ []
+  pub long : AreAsLong sources new.has
 
 -- ---- what is done
 -- What is done at a station: a wish of its user, and how it was answered; a call by which the user
@@ -174,9 +210,10 @@ abbrev pub DoesDeed : {W : Type 0} → (Steps : W → WireCall → W → Type 0)
     → (c : StationConfig) → (theirs : EndKept) → (old new : Served) → (puts puts_then : List Put)
     → Type 0
 DoesDeed Steps (Wishes wish reply) c theirs old new puts puts_then =
-    (station : StationState) × (added : List Put)
-    × Fulfils wish reply old.kept.station station added
-    × (new ≡ served_on station (wish_calls (wish, reply)) old) × (puts_then ≡ puts ++ added)
+    (station : StationState) × (now : FileMap) × (added : List Put)
+    × Fulfils wish reply old.has now old.kept.station station added
+    × (new ≡ with_has now (served_on station (wish_calls (wish, reply)) old))
+    × (puts_then ≡ puts ++ added)
 DoesDeed Steps (Says call) c theirs old new puts puts_then =
     IsSaid call × (new ≡ served_on old.kept.station (call ∷ []) old) × (puts_then ≡ puts)
 DoesDeed Steps Tells c theirs old new puts puts_then =
@@ -186,11 +223,11 @@ DoesDeed Steps LetsGo c theirs old new puts puts_then =
     (station : StationState) × asking.LetsGo old.kept.station station
     × (new ≡ served_on station [] old) × (puts_then ≡ puts)
 DoesDeed Steps Turns c theirs old new puts puts_then =
-    passing.TakesTurn Steps c.receives theirs old.kept new.kept × (new.calls ≡ old.calls)
-    × (puts_then ≡ puts)
+    passing.TakesTurn Steps c.receives old.has theirs old.kept new.kept
+    × (new.calls ≡ old.calls) × (new.has ≡ old.has) × (puts_then ≡ puts)
 DoesDeed Steps Stops c theirs old new puts puts_then =
-    passing.EndsEarly Steps c.receives theirs old.kept new.kept × (new.calls ≡ old.calls)
-    × (puts_then ≡ puts)
+    passing.EndsEarly Steps c.receives old.has theirs old.kept new.kept
+    × (new.calls ≡ old.calls) × (new.has ≡ old.has) × (puts_then ≡ puts)
 DoesDeed Steps (Starts first number) c theirs old new puts puts_then =
     StartsAnew first number c old new × (puts_then ≡ puts)
 
@@ -221,19 +258,21 @@ pub record HaveServed {W : Type 0} (Steps : W → WireCall → W → Type 0) (c 
   pub went : Times (Goes Steps c) count first now
 
 -- ---- what a service does
--- These wishes were done and answered, in this order, and each was free.
-abbrev pub DoesFree : List (Wish × Reply) → (old new : StationState) → Type 0
-DoesFree [] old new = new ≡ old
-DoesFree (one ∷ more) old new =
-    (mid : StationState) × IsFree one.0 (table_of old) × Does one.0 one.1 old mid
-    × DoesFree more mid new
+-- These wishes were done and answered, in this order; each was free, and the files to send have
+-- this now.
+abbrev pub DoesFree : List (Wish × Reply) → (has now : FileMap) → (old new : StationState) → Type 0
+DoesFree [] has now old new = (now ≡ has) × (new ≡ old)
+DoesFree (one ∷ more) has now old new =
+    (then : FileMap) × (mid : StationState) × (added : List Put)
+    × Fulfils one.0 one.1 has then old mid added × DoesFree more then now mid new
 
--- All was done that is between two turns in service, by these calls of the user, and each wish was
--- free.
-pub record IsPrepared (calls : List UserCall) (old new : StationState) : Type 0 where
+-- All was done that is between two turns in service, by these calls of the user. What the files to
+-- send have is changed by looks alone.
+pub record IsPrepared (calls : List UserCall) (has now : FileMap) (old new : StationState)
+    : Type 0 where
   pub prepared : List UserCall
   pub prepares : Prepares prepared old new
-  pub free : DoesFree prepares.obeys.done old prepares.done
+  pub free : DoesFree prepares.obeys.done has now old prepares.done
   pub intent : Intent
   pub is : calls ≡ prepared ++ Intends intent ∷ []
 

@@ -16,10 +16,12 @@ ghost use Rattle.cfdp_service.specs.Serving.{Does};
 ghost use Rattle.cfdp_service.specs.declared.wish.Reply.{Reply};
 ghost use Rattle.cfdp_service.specs.declared.wish.Wish.{Wish};
 ghost use Rattle.cfdp_service.specs.Clerk.{ClerkState, ClerkSteps};
-ghost use Rattle.any_link.specs.Passing.{Comes, EndsEarly, Stand, TakesTurn};
+ghost use Rattle.shown_sources.specs.Shown.{AreAsLong};
+ghost use Rattle.any_link.specs.Passing.{Comes, EndRead, EndsEarly, TakesTurn};
 ghost use Rattle.any_link.specs.Promise.{IsDelivered, KeepPromise};
 ghost use Rattle.any_link.specs.Serving.{Fulfils, Goes, HaveServed, IsFree, IsPrepared, Leads};
-ghost use Rattle.any_link.specs.Serving.{Stations, served_at, served_on};
+ghost use Rattle.any_link.specs.Serving.{MayFind, Stations, kept_sending, served_at, served_on};
+ghost use Rattle.any_link.specs.Serving.{with_has};
 
 use cfdp_entity::{
     an_entity_goes_on, an_entity_keeps_the_truth, an_entity_may_forget, an_entity_sends_the_truth,
@@ -30,33 +32,41 @@ use link_stack::what_comes_up_was_put_in_once;
 
 /// What a port does in a turn is calls of its station, as [`any_order`] has them: whole, or ended
 /// early. Each datagram that comes is a frame that the other station made in one of its lives, and
-/// near the one of its lane before it, or octets of which no packet can come; and the files that
-/// are sent stand.
+/// near the one of its lane before it, or octets of which no packet can come; and what is read of
+/// the files that are sent is what these files have. They are calls of the station with what its
+/// files have in the place of what its outbox has.
 pub fn a_turn_is_calls<W: PeerWire>()
-    ensures whole { (c : StationConfig) (theirs old new : EndKept) (puts : List Put) →
-        TakesTurn W.steps c.receives theirs old new → (calls : List Call)
-        × Makes calls c old theirs new puts puts }
-    ensures early { (c : StationConfig) (theirs old new : EndKept) (puts : List Put) →
-        EndsEarly W.steps c.receives theirs old new → (calls : List Call)
-        × Makes calls c old theirs new puts puts }
+    ensures whole { (c : StationConfig) (files : FileMap) (theirs old new : EndKept)
+        (puts : List Put) → TakesTurn W.steps c.receives files theirs old new
+        → AreAsLong (table_of old.station).sources files → (calls : List Call)
+        × Makes calls c (kept_sending files old) theirs (kept_sending files new) puts puts }
+    ensures early { (c : StationConfig) (files : FileMap) (theirs old new : EndKept)
+        (puts : List Put) → EndsEarly W.steps c.receives files theirs old new
+        → AreAsLong (table_of old.station).sources files → (calls : List Call)
+        × Makes calls c (kept_sending files old) theirs (kept_sending files new) puts puts }
 {
     an_entity_goes_on();
 }
 
 /// A turn for which memory was wanting is one that ended early.
 pub fn a_turn_in_part_ends_early<W: PeerWire>()
-    ensures { (link : LinkConfig) (theirs old heard : EndKept) (wire : W) (last : PortState W)
-        (turn : TakesInPart W.steps (port_state old.station wire) last)
+    ensures { (link : LinkConfig) (files : FileMap) (theirs old heard : EndKept) (wire : W)
+        (last : PortState W) (turn : TakesInPart W.steps (port_state old.station wire) last)
         → Comes link (frames_came W.steps turn.hears.count (port_state old.station wire)
-        turn.hears.last turn.hears.heard) theirs old heard → Stand last.station
-        → (new : EndKept) × EndsEarly W.steps link theirs old new × (new.station ≡ last.station) }
+        turn.hears.last turn.hears.heard) theirs old heard
+        → EndRead W.steps files turn.now turn.heard turn.timed last turn.ends
+        → (new : EndKept) × EndsEarly W.steps link files theirs old new
+        × (new.station ≡ last.station) }
 {}
 
 /// What a station does for a wish in service is what this crate says of it, where a record is
-/// sending the file that is wished, or none has its name.
+/// sending the file that is wished, or none is left that has its name: whatever the file has then
+/// that was looked for, if it is as long as the outbox found it.
 pub fn what_is_wished_is_fulfilled()
-    ensures { (wish : Wish) (reply : Reply) (old new : StationState) → Does wish reply old new
-        → IsFree wish (table_of old) → (added : List Put) × Fulfils wish reply old new added }
+    ensures { (wish : Wish) (reply : Reply) (has now : FileMap) (old new : StationState)
+        (does : Does wish reply old new) → IsFree wish (table_of old)
+        → MayFind wish reply old new does has now
+        → (added : List Put) × Fulfils wish reply has now old new added }
 {}
 
 /// All that a station in service does between two turns is deeds of it, with the very calls of its
@@ -64,9 +74,10 @@ pub fn what_is_wished_is_fulfilled()
 /// are over, and the user says what it intends.
 pub fn what_is_done_between_turns_is_deeds<W: PeerWire>()
     ensures { (c : Setup) (s : Side) (old : Stations) (calls : List UserCall)
-        (station : StationState) → IsPrepared calls (served_at s old).kept.station station
+        (now : FileMap) (station : StationState) →
+        IsPrepared calls (served_at s old).has now (served_at s old).kept.station station
         → (puts : List Put)
-        × Leads W.steps c s old (served_on station calls (served_at s old)) puts }
+        × Leads W.steps c s old (with_has now (served_on station calls (served_at s old))) puts }
 {}
 
 /// Two stations in service keep the promise of delivery in whatever order and however often their
@@ -77,8 +88,9 @@ pub fn what_is_done_between_turns_is_deeds<W: PeerWire>()
 /// and so are transactions that are over; and turns are taken, of which any may end early. A
 /// station may start anew at any time, with the files of its inbox; it counts its frames so that at
 /// least one number is left out, and numbers its puts behind all before. Asked of the link is what
-/// [`any_order::the_promise_holds_in_any_order`] asks; and of the files to send, that they stand
-/// while they are sent, and that none becomes another one as long as a record is left that sent it.
+/// [`any_order::the_promise_holds_in_any_order`] asks; and of the files to send, whatever they
+/// have, that no read showed a change: what is read of a file is what it had when it was looked
+/// for, and none becomes another one as long as a record is left that sent it.
 pub fn stations_keep_the_promise_in_any_order<W: PeerWire>()
     ensures { (c : Setup) (files : Side → FileMap) (now : Stations) → AreJoined c
         → HaveServed W.steps c files now → KeepPromise files now }
@@ -98,7 +110,8 @@ pub fn stations_keep_the_promise_in_any_order<W: PeerWire>()
 pub fn what_left_the_spool_lies_in_the_inbox<S: Spool, W: PeerWire>()
     ensures { (c : Setup) (files : Side → FileMap) (mid now : Stations) (more : ℕ) → AreJoined c
         → HaveServed W.steps c files mid → Times (Goes W.steps c) more mid now → (s : Side)
-        (old new : ClerkState S) → Chain (ClerkSteps S.sent) (served_at s mid).calls old new
+        (old new : ClerkState S)
+        → Chain (ClerkSteps S.sent S.failed) (served_at s mid).calls old new
         → old.asked ≡ None → old.files ≡ [] → (name : List ℕ) → Contains (S.sent new.spool) name
         → Contains (S.sent old.spool) name ⊎ IsDelivered s name now }
 {

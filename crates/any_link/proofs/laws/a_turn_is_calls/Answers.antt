@@ -1,5 +1,8 @@
+use Rattle.std.proofs.Common.{refl}
 use Rattle.cfdp_port.proofs.GainLemmas.{GoesOnLaws}
+use Rattle.any_link.proofs.Shading.{early_so, turn_so}
 use Rattle.any_link.proofs.Turning.{stopped, turned}
+use Rattle.any_link.specs.Serving.{kept_sending}
 use Rattle.any_link.proofs.laws.a_turn_is_calls.Goals as goal
 
 pub returns : goal.returns
@@ -7,6 +10,10 @@ returns g c =
     let on = c.an_entity_goes_on.ensures in
     let laws : GoesOnLaws = record { ticked = on.ticked; heard = on.heard; dropped = on.dropped; served = on.served } in
     record {
-      whole = λ config theirs old new puts turn. turned laws config theirs puts g.W.Wire.steps old new turn;
-      early = λ config theirs old new puts turn. stopped laws config theirs puts g.W.Wire.steps old new turn;
+      whole = λ config files theirs old new puts turn long.
+          turned laws config theirs puts g.W.Wire.steps (kept_sending files old) (kept_sending files new)
+          (turn_so files g.W.Wire.steps config.receives theirs theirs refl old new turn long).0;
+      early = λ config files theirs old new puts turn long.
+          stopped laws config theirs puts g.W.Wire.steps (kept_sending files old) (kept_sending files new)
+          (early_so files g.W.Wire.steps config.receives theirs theirs refl old new turn long).0;
     }

@@ -2,6 +2,7 @@ use Rattle.cfdp_port.proofs.GainLemmas.{GoesOnLaws}
 use Rattle.any_order.proofs.Promise.{Laws}
 use Rattle.any_link.proofs.Doing.{AllLaws}
 use Rattle.any_link.proofs.Promising.{promise}
+use Rattle.any_link.proofs.Reaching.{keeps_so, served_so, shade_all}
 use Rattle.any_link.proofs.laws.stations_keep_the_promise_in_any_order.Goals as goal
 
 pub returns : goal.returns
@@ -26,4 +27,6 @@ returns g c =
     } in
     let gains : GoesOnLaws = record { ticked = on.ticked; heard = on.heard; dropped = on.dropped; served = on.served } in
     let all : AllLaws = record { laws = laws; gains = gains; forgets = c.an_entity_may_forget.ensures.some } in
-    λ config files now joined served. promise g.W.Wire.steps all config files now joined served
+    λ config files now joined served.
+    let standing = served_so g.W.Wire.steps config files now served in
+    keeps_so g.W.Wire.steps config files now (promise g.W.Wire.steps all config files (shade_all g.W.Wire.steps config now) joined standing.0)

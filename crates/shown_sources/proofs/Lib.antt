@@ -1,0 +1,5 @@
+mod Reading
+mod Worked
+pub mod Tables
+pub mod Hearing
+pub mod Polling

@@ -1,0 +1,9 @@
+//! What a station does with the files that it sends: it asks how long each is, and reads octets of
+//! them. So with other files, as long, of which the same octets are read, it does the same.
+//!
+//! Tested by nothing: what it promises is proved.
+#![tactic(auto)]
+
+mod laws;
+
+pub use laws::only_what_is_read_of_files_counts;
