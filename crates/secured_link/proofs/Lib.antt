@@ -1,2 +1,3 @@
 mod Lanes
 mod Turns
+mod Copies

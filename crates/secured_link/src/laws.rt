@@ -1,15 +1,24 @@
 //! The laws, each the contract of a function without a body.
-ghost use Rattle.std.specs.Prelude.{◌≡◌, ℕ, List, Ok, IsTrue};
+ghost use Rattle.std.specs.Prelude.{◌≡◌, ℕ, ◌≤◌, List, Ok, IsTrue};
+ghost use Rattle.aos_frame.specs.declared.config.LinkConfig.{LinkConfig};
+ghost use Rattle.any_link.specs.Passing.{Comes};
+ghost use Rattle.any_order.specs.Kept.{EndKept};
 ghost use Rattle.cfdp_header.specs.Files.{FileMap};
 ghost use Rattle.cfdp_header.specs.declared.value.TransactionId.{TransactionId};
 ghost use Rattle.cfdp_port.specs.Asking.{Puts};
 ghost use Rattle.cfdp_port.specs.Pair.{PairState, Turns};
+ghost use Rattle.cfdp_port.specs.Passing.{frames_came};
 ghost use Rattle.cfdp_port.specs.Port.{AtStation, PortState};
+ghost use Rattle.cfdp_port.specs.Turn.{AsksOn};
 ghost use Rattle.cfdp_station.specs.New.{IsFirstAt};
+ghost use Rattle.cfdp_station.specs.Transmitting.{Times};
 ghost use Rattle.ports_in_order.specs.InOrder.{AreOfWorld, PassInOrder, Passage};
 ghost use Rattle.station_pair.specs.Stations.{IsWorldConfig};
 ghost use Rattle.station_pair.specs.declared.world_config.WorldConfig.{WorldConfig};
+ghost use Rattle.secured_link.specs.Copies.{AreKept, AreNear, TookLast};
 ghost use Rattle.secured_link.specs.Turns.{BothBegin, FewLost, NoneForgedIn};
+ghost use Rattle.secured_wire.specs.Direction.{NoneForgedOf, SealedIn};
+ghost use Rattle.secured_wire.specs.Passing.{arrivals};
 ghost use Rattle.secured_wire.specs.Secured.{SecuredState, Secures};
 
 use cfdp_port::Wire;
@@ -57,3 +66,21 @@ pub fn secured_turns_are_of_a_world<W: Wire>()
     secured_wires_keep_the_order::<W>();
     turns_are_of_a_world::<SecuredWire<W>>();
 }
+
+/// What a station in service receives over a secured wire are copies of frames that the other
+/// station made in any of its lives, each near the one of its lane before it, whatever the network
+/// does and whoever else sends. It is the premise of [`any_link`] on what arrives (`Comes`). It is
+/// asked that no octets that arrived were forged (`NoneForgedOf`), that what was sealed are frames
+/// of the other station in their order (`AreKept`), and that in no lane 2^28 of them were lost in a
+/// row (`AreNear`). `TookLast` holds if nothing was received yet, and goes on.
+pub fn secured_wires_bring_copies<W: Wire>()
+    ensures { (link : LinkConfig) (theirs old : EndKept) (all : List SealedIn)
+        (number : SealedIn → ℕ) (count : ℕ) (before after : PortState (SecuredState W))
+        (heard : Times (AsksOn (Secures W.steps)) count before after) → AreKept all number theirs
+        → before.wire.opener.security.mac_len ≤ 32
+        → NoneForgedOf before.wire.opener all (arrivals W.steps count before after heard)
+        → TookLast all number before.wire.opener.last old
+        → AreNear all number before.wire.opener.last old → (new : EndKept)
+        × Comes link (frames_came (Secures W.steps) count before after heard) theirs old new
+        × TookLast all number after.wire.opener.last new }
+{}

@@ -24,8 +24,9 @@ arrival_of (Err fault) came old new is = []
 
 module _ {W : Type 0} (Steps : W → WireCall → W → Type 0) where
   -- how a frame of this lane was sealed, unless it was lost before
-  abbrev pub sealed_by_call : (lane : Lane) → (frame : List ℕ) → (answer : Result (Unit {0}) WireFault)
-      → (old new : SecuredState W) → Secures Steps old (Sent frame answer) new → List SealedIn
+  abbrev pub sealed_by_call : (lane : Lane) → (frame : List ℕ)
+      → (answer : Result (Unit {0}) WireFault) → (old new : SecuredState W)
+      → Secures Steps old (Sent frame answer) new → List SealedIn
   sealed_by_call lane frame answer old new (inl sends) =
       record {
         lane = lane;
