@@ -53,6 +53,7 @@ STRUCTS |= {"cfdp_frame_drops": ("CfdpFrameDrops", "FrameDrops")}
 STRUCTS |= {"cfdp_pdu_drops": ("CfdpPduDrops", "PduDrops")}
 STRUCTS |= {"cfdp_sent_pdus": ("CfdpSentPdus", "SentPdus")}
 STRUCTS |= {"cfdp_counts": ("CfdpCounters", "Counters")}
+STRUCTS |= {"cfdp_security": ("CfdpSecurity", "Security")}
 
 
 def plain(text):
@@ -76,6 +77,12 @@ def c_type(text, place):
     return f"{'&' if is_const else '&mut '}{name}" if is_pointer else name
 
 
+def c_field(word, kind):
+    """A field of this type, or an array of it."""
+    found = re.fullmatch(r"(\w+)\[(\d+)\]", word)
+    return (found[1], f"[{kind}; {found[2]}]") if found else (word, kind)
+
+
 def in_header(place):
     """The functions and the structs of the header, in the crate's words, or in those of ffi.rs."""
     text = plain(text_of(f"{C}/cfdp.h"))
@@ -88,7 +95,7 @@ def in_header(place):
         fields = []
         for it in filter(str.strip, body.split(";")):
             kind, names = re.fullmatch(r" ?((?:const )?\w+ \*?) ?(.*)", it).groups()
-            fields += [(word.strip(), c_type(kind, place)) for word in names.split(",")]
+            fields += [c_field(word.strip(), c_type(kind, place)) for word in names.split(",")]
         structs[STRUCTS[name][place]] = fields
     return functions, structs
 
@@ -110,7 +117,7 @@ def rust_structs(text):
     structs = {}
     for name, body in re.findall(r"#\[repr\(C\)\].*?pub struct (\w+) \{(.*?)\n\}", text, re.S):
         body = re.sub(r"ghost \w+: \{[^\n]*\n", "", body)
-        structs[name] = re.findall(r"(\w+): ([\w:*& ]+)", plain(body))
+        structs[name] = re.findall(r"(\w+): (\[\w+; \d+\]|[\w:*& ]+)", plain(body))
     return structs
 
 
@@ -215,6 +222,7 @@ def name_mistakes(archive):
 def uncalled_mistakes():
     """Exports that none of these programs calls."""
     files = (f"{HERE}/calls.c", f"{C}/tests/forgetting.c", f"{C}/tests/folders.c")
+    files = (*files, f"{C}/tests/securing.c")
     text = "".join(map(text_of, files))
     for name in in_header(0)[0]:
         if not re.search(rf"\b{name}\(", text):
@@ -310,6 +318,7 @@ class Bindings:
         forgetting = [f"{C}/tests/forgetting.c"]
         pool = [f"{C}/tests/in_a_pool.c", f"{C}/pool.c"]
         folders = [f"{C}/tests/folders.c", f"{C}/heap.c"]
+        securing = [f"{C}/tests/securing.c", f"{C}/heap.c"]
         for name, flags, front in checkers(self.room):
             for octets in ("0", "1", "100000"):
                 what = f"transfer.c, {octets} octets{name}"
@@ -321,6 +330,7 @@ class Bindings:
             yield f"in_a_pool.c{name}", self.c_mistakes(C99, pool, flags, front, puts)
             words = [self.empty_folder()]
             yield f"folders.c{name}", self.c_mistakes(C99, folders, flags, front, words)
+            yield f"securing.c{name}", self.c_mistakes(C99, securing, flags, front, [])
         yield "the example folders.c", self.folders_mistakes()
         yield "folders.c in a pool", self.pool_mistakes()
         stack = [f"{C}/tests/stack.c", f"{C}/heap.c"]
@@ -330,6 +340,7 @@ class Bindings:
             yield "transfer.c as C++", self.c_mistakes(CPP, example, [], [], [])
             words = [self.empty_folder()]
             yield "folders.c as C++", self.c_mistakes(CPP, folders, [], [], words)
+            yield "securing.c as C++", self.c_mistakes(CPP, securing, [], [], [])
             yield "forgetting.c as C++", self.c_mistakes(CPP, forgetting, [], [], [])
             yield "in_a_pool.c as C++", self.c_mistakes(CPP, pool, [], [], ["200"])
         else:
@@ -360,7 +371,7 @@ class Bindings:
         if not shutil.which("rustc"):
             print("no rustc: the wrapper, its tests and its example aren't compiled")
             return
-        for name in ("fields", "folders", "forgetting", "lists", "threads"):
+        for name in ("fields", "folders", "forgetting", "lists", "securing", "threads"):
             builds, made = self.rust_program(f"tests/{name}.rs", f"{name}_rs", "--test")
             yield f"{name}.rs", run_mistakes(*builds, [made])
             if name == "threads" and shutil.which("valgrind"):

@@ -20,6 +20,7 @@ SOURCES = (
     "crates/*/specs/**/*.antt",
     "crates/*/proofs/**/*.antt",
     "crates/*/edits/*.edit",
+    "tests/bench/*.rs",
     "bindings/*/*.h",
     "bindings/rust/src/*.rs",
     "tests/*.py",
@@ -68,6 +69,22 @@ def shown_mistakes(program):
     for what, lines in (("the drawing", drawing()), ("the report", report)):
         if "".join(f"    {it.rstrip()}\n" for it in lines) not in readme:
             yield f"README.md doesn't show {what} of {SCRIPT}: {lines}"
+
+
+def plain_code(text):
+    """The lines of code without what borrows, what may change, and indents."""
+    return [re.sub(r"&?\bmut |&", "", it).strip() for it in text.split("\n")]
+
+
+def caller_mistakes():
+    """Code of README.md and of the head of `cfdp_station` that no proved caller has."""
+    proved = "\n".join(plain_code(text_of("crates/callers/src/own_link.rt")))
+    turn = re.search(r"(?ms)^ +station\.tick.*?^$", text_of("README.md"))[0]
+    head = text_of("crates/cfdp_station/src/lib.rt").replace("//! ", "")
+    made = re.search(r"(?ms)^let sends.*?^let mut station[^\n]*", head)[0]
+    for what, code in (("README.md", turn), ("cfdp_station", made)):
+        if "\n".join(plain_code(code)).strip() not in proved:
+            yield f"crates/callers/src/own_link.rt doesn't have what {what} shows: {code}"
 
 
 def headings_of(text):
@@ -191,6 +208,7 @@ def all_mistakes(program):
     """Titles with what is wrong."""
     yield "the documents: what README.md shows", shown_mistakes(program)
     yield "the documents: what they name", named_mistakes()
+    yield "the documents: code of a caller", caller_mistakes()
     yield "the documents: names of the code", code_mistakes()
     yield "the documents: options of the program", option_mistakes(program)
     yield "the help of the program: its length", length_mistakes(program)

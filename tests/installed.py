@@ -26,10 +26,10 @@ WANTED = """
 bin/cfdp_node include/cfdp.h lib/libcfdp_c.a lib/libcfdp_heap.a lib/pkgconfig/cfdp.pc
 lib/systemd/system/cfdp-station-watch.service lib/systemd/system/cfdp-station-watch.timer
 lib/systemd/system/cfdp-station.service share/cfdp/errno.c share/cfdp/folders.c
-share/cfdp/heap.c share/cfdp/pool.c share/cfdp/pool.h share/cfdp/transfer.c
+share/cfdp/control.nft share/cfdp/heap.c share/cfdp/pool.c share/cfdp/pool.h share/cfdp/transfer.c
 share/doc/cfdp/CONSOLE.md share/doc/cfdp/EMBEDDING.md share/doc/cfdp/FORMATS.md
 share/doc/cfdp/LICENSE share/doc/cfdp/OPERATING.md share/doc/cfdp/PLAY.md
-share/doc/cfdp/README.md share/doc/cfdp/THIRD-PARTY
+share/doc/cfdp/README.md share/doc/cfdp/SECURITY.md share/doc/cfdp/THIRD-PARTY
 share/doc/cfdp/station.toml
 share/man/man1/cfdp_node.1.gz share/man/man1/cfdp_node-ask.1.gz share/man/man1/cfdp_node-dump.1.gz
 share/man/man1/cfdp_node-loop.1.gz share/man/man1/cfdp_node-play.1.gz

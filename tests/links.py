@@ -163,8 +163,9 @@ class Watched(stations.Station):
                 self.news.wait(min(left, 0.2))
 
     def text(self, output):
-        """All that it told on this output."""
-        return "".join(line for _, it, line in list(self.lines) if it == output)
+        """All that it told on this output, but that it has no keys."""
+        told = "".join(line for _, it, line in list(self.lines) if it == output)
+        return stations.without_keys(told)
 
     def ended(self, seconds=SECONDS):
         """Its exit status, and both outputs, once it has ended; it is killed after a time."""
@@ -235,21 +236,22 @@ def idle_frame(count):
     return frame_of(ONLY_IDLE, count, bytes(ZONE))
 
 
-def zones_of(pdus, apid=100):
-    """Packet zones with these PDUs of at most 200 octets, in packets of which none is cut."""
+def zones_of(pdus, apid=100, length=ZONE):
+    """Packet zones of this length with these PDUs of at most 200 octets, in packets of which none
+    is cut."""
     zone = b""
     for number, pdu in enumerate(pdus):
         packet = struct.pack(">HHH", apid, 0xC000 | number % 16384, len(pdu) - 1) + pdu
-        if len(zone) + len(packet) + 7 > ZONE:
-            yield filled(zone)
+        if len(zone) + len(packet) + 7 > length:
+            yield filled(zone, length)
             zone = b""
         zone += packet
-    yield filled(zone)
+    yield filled(zone, length)
 
 
-def filled(zone):
+def filled(zone, length=ZONE):
     """A packet zone filled up with an idle packet."""
-    spare = ZONE - len(zone)
+    spare = length - len(zone)
     return zone + struct.pack(">HHH", 2047, 0xC000, spare - 7) + bytes(spare - 6)
 
 
@@ -790,10 +792,11 @@ def full_mistakes(program):
             yield f"it told {count} times that its table is full: {receiver.text('stderr')!r}"
 
 
-def answered(relay):
-    """The transactions of whose Finisheds station 1 sent an ACK."""
+def answered(relay, width=4):
+    """The transactions of whose Finisheds station 1 sent an ACK, whose numbers have this width."""
     octets = b"".join(frame[8:] for _, own, frame in list(relay.came) if own == 1)
-    found = re.findall(rb"(?s)\x13\x00\x01(....)\x00\x02\x06\x51", octets)
+    ids = b"%c\x00\x01(%b)\x00\x02\x06\x51" % (0x0F + width, b"." * width)
+    found = re.findall(b"(?s)" + ids, octets)
     return {int.from_bytes(it, "big") for it in found}
 
 

@@ -23,6 +23,7 @@ import time
 import types
 
 sys.dont_write_bytecode = True
+import forging
 import links
 import stations
 import turns
@@ -50,6 +51,9 @@ ROWS = (
     ("the same, each 100th frame lost", 2040, 4096, ("--drop", "100"), LOSSY),
     ("zone 256, segment 1,024", 256, 1024, (), {}),
 )
+
+# The rows of the table of keys: what is set, the octets of a zone and of a segment.
+KEYED_ROWS = (("zone 2,040, segment 4,096", 2040, 4096), ("zone 256, segment 1,024", 256, 1024))
 
 # How often each program of a row is run for the page: the best counts. And its file's octets.
 PAGE_RUNS, PAGE_SIZE = 9, 100_000_000
@@ -98,14 +102,22 @@ def processor_seconds(station):
         return int(it.read().split()[0]) / 1e9
 
 
-def by_stations(program, octets, zone, segment, more=(), keys=None, seconds=stations.SECONDS):
-    """How two stations send these octets, with more words for the sender and more keys; None where
-    they don't in time."""
+def secured(link, own):
+    """The words by which a station of a link has keys."""
+    path = f"{link.folder}/{own}.keys"
+    forging.write_keys(path, own, forging.KEYS)
+    return ["--keys", path]
+
+
+def by_stations(program, octets, zone, segment, more=(), keys=None, seconds=stations.SECONDS,
+                words_of=lambda link, own: []):
+    """How two stations send these octets, with more words for the sender, more keys of `--set`, and
+    words for each; None where they don't in time."""
     settings = {**stations.PATIENT, **UNCHECKED, **(keys or {}), "zone": zone, "segment": segment}
     both = ["--rate", "0", *(("--unit", "ms") if keys else ())]
     with links.Link(program) as link:
-        words = link.puts(1, {"a": octets})
-        receiver = link.starts(2, ["--inbox", "to", *both], settings)
+        words = [*link.puts(1, {"a": octets}), *words_of(link, 1)]
+        receiver = link.starts(2, ["--inbox", "to", *both, *words_of(link, 2)], settings)
         start = time.time()
         sender = link.starts(1, [*words, *both, *more], settings, waits=False)
         ended = receiver.comes_to("finished .* 0 complete retained", seconds)
@@ -238,6 +250,20 @@ def tell_rows(program):
     table(["Setting", "Processor", "plain", "Ratio", "Speed", "plain", "Ratio"], rows)
 
 
+def tell_keyed(program):
+    """The table of stations with keys, beside the same without."""
+    octets, rows = stations.chance_of(44).randbytes(PAGE_SIZE), []
+    for title, zone, segment in KEYED_ROWS:
+        plain, keyed = [], []
+        for _ in range(PAGE_RUNS):
+            plain.append(by_stations(program, octets, zone, segment))
+            keyed.append(by_stations(program, octets, zone, segment, words_of=secured))
+        (speed, spent), (plain_speed, plain_spent) = best(keyed), best(plain)
+        row = [title, f"{1000 * spent:,.0f} ms", f"{1000 * plain_spent:,.0f} ms"]
+        rows.append([*row, f"{speed:.0f} MB/s", f"{plain_speed:.0f} MB/s"])
+    table(["Setting", "Processor", "without keys", "Speed", "without keys"], rows)
+
+
 def counted(path):
     """The instructions of a run by function, which stand in a file of callgrind."""
     words = ["callgrind_annotate", "--threshold=100", path]
@@ -330,6 +356,7 @@ def tell_turns(program):
 def tell_page(program):
     """Prints the tables of docs/SPEED.md."""
     tell_rows(program)
+    tell_keyed(program)
     tell_instructions(program)
     tell_turns(program)
 

@@ -137,7 +137,12 @@ class Station:
         except subprocess.TimeoutExpired:
             self.process.kill()
             rest, err = self.process.communicate()
-        return self.process.returncode, (self.told + rest).decode(), err.decode()
+        return self.process.returncode, (self.told + rest).decode(), without_keys(err.decode())
+
+
+def without_keys(text):
+    """What a station without keys told, but that it has none, as each of them does at its start."""
+    return re.sub(r"note: (frames|datagrams) are not authenticated: [^\r\n]*\r?\n", "", text)
 
 
 def many_words():
@@ -153,8 +158,10 @@ def put(folder, own, name, octets):
 
 
 def unheard(text):
-    """What a station told on standard error, but that its peer wasn't there yet, or any more."""
-    return re.sub(r"note: nothing listens at \S+\n", "", text)
+    """What a station told on standard error, but that its peer wasn't there yet, or any more, and
+    whether frames are authenticated."""
+    notes = r"note: (nothing listens at \S+|(frames|datagrams) are (not )?authenticated: .*)\n"
+    return re.sub(notes, "", text)
 
 
 def files_at(folder, own):
@@ -305,7 +312,7 @@ def terminal_mistakes(program):
         sender.process.wait()
         receiver.ended()
     line = r"\r *\d+ octets received, *\d+ gaps, *\d+ PDUs sent"
-    report = re.sub(rf"(({line})*\r\x1b\[K)+", "", told)
+    report = re.sub(rf"(({line})*\r\x1b\[K)+", "", without_keys(told))
     answers = ("transaction 1:7", "eof-sent 1:7", "finished 1:7 0 complete retained")
     lines = "".join(rf"1 {it}\r\n" for it in answers)
     wanted = rf"{lines}({line})+\r\ncomplete 1 of 1\r\n"

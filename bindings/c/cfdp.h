@@ -36,7 +36,7 @@ extern "C" {
 #endif
 
 /* The number of this interface. It grows by one wherever a call, a struct or a number changes. */
-#define CFDP_VERSION 5
+#define CFDP_VERSION 6
 
 /* That of the library that the program was linked with. */
 uint32_t cfdp_version(void);
@@ -48,7 +48,8 @@ enum {
     CFDP_OK = 0,
     CFDP_CLOSED = 1,       /* the handle is closed */
     CFDP_ALREADY_OPEN = 2, /* cfdp_open, cfdp_open_folders: the handle is open */
-    CFDP_BAD_ARGUMENT = 3, /* cfdp_read_file: the file ends before */
+    CFDP_BAD_ARGUMENT = 3, /* cfdp_read_file: the file ends before; cfdp_seal_frame,
+                              cfdp_open_frame: a field of cfdp_security isn't in its range */
     CFDP_NO_MEMORY = 4,    /* out of memory */
     CFDP_NO_ROOM = 5,      /* the lent room has too few octets, or the wrong number */
     CFDP_NOTHING = 6,      /* there is nothing of the kind */
@@ -65,7 +66,8 @@ enum {
     CFDP_BAD_NAME = 22,      /* a name hasn't 1 to 255 octets, or no file of a folder may have it */
     CFDP_TOO_LARGE = 23,     /* the file has more than 2^48 octets */
     CFDP_TABLE_FULL = 24,    /* the station has 4,096 records; some have to be forgotten */
-    CFDP_NUMBERS_SPENT = 25, /* the next number doesn't fit number_width */
+    CFDP_NUMBERS_SPENT = 25, /* the next number doesn't fit number_width; cfdp_seal_frame: none
+                                is left */
     CFDP_SOURCE_FAULT = 26,  /* the outbox failed, as a folder may; one in memory never does */
 
     /* cfdp_cancel, cfdp_suspend, cfdp_resume, cfdp_prompt */
@@ -111,6 +113,13 @@ enum {
     CFDP_BAD_RECEIVES_INSERT_ZONE = 97,
     CFDP_BAD_RECEIVES_CONTROL_FIELD = 98,
     CFDP_BAD_RECEIVES_ERROR_CONTROL = 99,
+
+    /* cfdp_open_frame: why a frame is refused, the first that holds */
+    CFDP_SHORT_FRAME = 101,   /* it has fewer octets than any frame of the link */
+    CFDP_DAMAGED_FRAME = 102, /* its frame error control field differs from its check */
+    CFDP_UNKNOWN_SPI = 103,   /* its security parameter index is another one */
+    CFDP_NOT_AUTHENTIC = 104, /* its MAC isn't right under the key */
+    CFDP_REPLAYED = 105,      /* its sequence number isn't greater than the last one */
 
     /* cfdp_decode: 50 and the number of the refusal (docs/FORMATS.md), 51 to 61 but 56 */
     CFDP_BAD_PDU = 50
@@ -196,7 +205,7 @@ cfdp_answer cfdp_open(cfdp_station *station, const cfdp_config *config);
  * of it is in memory. A file is looked for as it is put, read as it is sent, and written as it
  * comes, under a name that begins with .part-, until all of it is there; it is flushed to the
  * device before it gets its name, in the place of a file that has it. Names of files have 1 to 64
- * of A-Z a-z 0-9 . _ - and don't begin with a point. A file mustn't change while it is sent: that
+ * of A-Z a-z 0-9 . _ - and don't begin with a dot. A file mustn't change while it is sent: that
  * is noticed where its length does. No other station, of whichever process, can receive into the
  * inbox as long as the handle is open. CFDP_OK, CFDP_ALREADY_OPEN, 70 to 99 as cfdp_open,
  * CFDP_NO_OUTBOX, CFDP_NO_INBOX, CFDP_INBOX_IN_USE or CFDP_NO_MEMORY. */
@@ -536,6 +545,40 @@ typedef struct cfdp_pdu {
 /* Reads a PDU. CFDP_OK, or CFDP_BAD_PDU and the number of the first thing that is wrong. */
 cfdp_answer cfdp_decode(const uint8_t *pdu, size_t len, cfdp_pdu *out);
 
+/* ---- Frames that only the holder of a key can have sent (CCSDS 355.0-B-2; FORMATS.md).
+ *
+ * A layer between the frames of a station, whose links must then have no fields, and those of the
+ * link: seal each frame that cfdp_next_frame or cfdp_transmit gives, and give cfdp_receive those
+ * that cfdp_open_frame accepts. A frame of the link has 10 octets more, the MAC, and the fields
+ * below. The keys of the two directions must differ, and so must those of two links. Numbers must
+ * never come back under a key, so a program keeps them over restarts: it notes a number before it
+ * uses it. */
+
+/* One direction with one key. All zero octets are none that can be used. */
+typedef struct cfdp_security {
+    uint64_t number;       /* to seal: that of the next frame, from 1 on; to open: that of the
+                              frame that was accepted last, or 0. The calls count it on */
+    uint16_t spi;          /* security parameter index, by which frames name the key, 1 to 65534 */
+    uint8_t mac_len;       /* octets of the MAC that are sent, 16 to 32 */
+    uint8_t insert_zone;   /* octets of the insert zone, 0 to 64 */
+    uint8_t control_field; /* 1: with an operational control field, of 4 octets; else 0 */
+    uint8_t error_control; /* 1: with a frame error control field, of 2 octets; else 0 */
+    uint8_t key[32];       /* octets drawn at random */
+} cfdp_security;
+
+/* Seals a frame of len octets into out, which has as many as a frame of the link. Its operational
+ * control field says control, if it has one. CFDP_OK, CFDP_BAD_ARGUMENT, CFDP_NO_ROOM where the
+ * frame has fewer than 6 octets or out another length, or CFDP_NUMBERS_SPENT. */
+cfdp_answer cfdp_seal_frame(cfdp_security *security, const uint8_t *frame, size_t len,
+                            uint32_t control, uint8_t *out, size_t room);
+
+/* Verifies a frame that came, whatever its octets are, and writes the station's frame over the
+ * front of out. CFDP_OK, CFDP_BAD_ARGUMENT, CFDP_SHORT_FRAME to CFDP_REPLAYED, or CFDP_NO_ROOM
+ * where out has fewer octets. While the peer changes its key, keep a struct for either key: where
+ * one answers CFDP_UNKNOWN_SPI, copy its number into the other one and ask that. */
+cfdp_answer cfdp_open_frame(cfdp_security *security, const uint8_t *frame, size_t len,
+                            uint8_t *out, size_t room);
+
 /* ---- Answers in words. */
 
 /* What an answer says, as a text that stays. */
@@ -545,7 +588,7 @@ static inline const char *cfdp_answer_text(cfdp_answer answer)
     case CFDP_OK: return "success";
     case CFDP_CLOSED: return "the handle is closed";
     case CFDP_ALREADY_OPEN: return "the handle is already open";
-    case CFDP_BAD_ARGUMENT: return "the file ends before offset + room";
+    case CFDP_BAD_ARGUMENT: return "a value is out of range";
     case CFDP_NO_MEMORY: return "out of memory";
     case CFDP_NO_ROOM: return "the buffer is too small, or has the wrong size";
     case CFDP_NOTHING: return "nothing available";
@@ -599,6 +642,11 @@ static inline const char *cfdp_answer_text(cfdp_answer answer)
     case CFDP_BAD_RECEIVES_INSERT_ZONE: return "receives.insert_zone must be 0 to 64";
     case CFDP_BAD_RECEIVES_CONTROL_FIELD: return "receives.control_field must be 0 or 1";
     case CFDP_BAD_RECEIVES_ERROR_CONTROL: return "receives.error_control must be 0 or 1";
+    case CFDP_SHORT_FRAME: return "the frame is too short";
+    case CFDP_DAMAGED_FRAME: return "the frame was damaged on the way";
+    case CFDP_UNKNOWN_SPI: return "no key has the frame's security parameter index";
+    case CFDP_NOT_AUTHENTIC: return "the frame's MAC is wrong";
+    case CFDP_REPLAYED: return "the frame's sequence number is not greater than the last one";
     default: break;
     }
     return answer > CFDP_BAD_PDU && answer < 70 ? "invalid PDU" : "unknown answer";

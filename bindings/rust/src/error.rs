@@ -46,6 +46,16 @@ pub enum Error {
     AnswerDue,
     /// The octets are no PDU: the number of the refusal, 1 to 11.
     BadPdu(u8),
+    /// A frame is too short for a frame of the link.
+    ShortFrame,
+    /// A frame's error control field differs from its check.
+    DamagedFrame,
+    /// A frame's security parameter index is that of another key.
+    UnknownSpi,
+    /// A frame's MAC isn't right under the key.
+    NotAuthentic,
+    /// A frame's sequence number isn't greater than the last one.
+    Replayed,
     /// An answer that isn't known.
     Other(u32),
 }
@@ -109,6 +119,11 @@ impl Error {
             36 => Error::AnswerDue,
             51..=61 => Error::BadPdu((answer - 50) as u8),
             70..=99 => Error::BadField(FIELDS[(answer - 70) as usize]),
+            101 => Error::ShortFrame,
+            102 => Error::DamagedFrame,
+            103 => Error::UnknownSpi,
+            104 => Error::NotAuthentic,
+            105 => Error::Replayed,
             other => Error::Other(other),
         }
     }
@@ -140,6 +155,11 @@ impl fmt::Display for Error {
             Error::AlreadySo => "already in that state",
             Error::StillOpen => "the transaction is still open",
             Error::AnswerDue => "an acknowledgement must be sent first",
+            Error::ShortFrame => "the frame is too short",
+            Error::DamagedFrame => "the frame was damaged on the way",
+            Error::UnknownSpi => "no key has the frame's security parameter index",
+            Error::NotAuthentic => "the frame's MAC is wrong",
+            Error::Replayed => "the frame's sequence number is not greater than the last one",
             Error::BadField(name) => return write!(f, "{name} is out of range"),
             Error::BadPdu(number) => return write!(f, "invalid PDU: refusal {number}"),
             Error::Other(answer) => return write!(f, "unexpected answer {answer}"),

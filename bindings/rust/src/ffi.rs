@@ -56,6 +56,28 @@ pub struct Config {
     pub on_inactivity: u8,
 }
 
+/// How the frames of one direction are secured, with one key. It has no `Debug`, so that the key is
+/// never printed.
+#[repr(C)]
+#[derive(Clone, Copy, Default, PartialEq, Eq)]
+pub struct Security {
+    /// To seal, the sequence number of the next frame, from 1 on; to open, that of the frame that
+    /// was accepted last, or 0. The calls count it on.
+    pub number: u64,
+    /// The security parameter index, by which frames name the key: 1 to 65,534.
+    pub spi: u16,
+    /// Octets of the MAC that are sent: 16 to 32.
+    pub mac_len: u8,
+    /// Octets of the insert zone: 0 to 64.
+    pub insert_zone: u8,
+    /// 1 where frames have an operational control field, else 0.
+    pub control_field: u8,
+    /// 1 where frames have a frame error control field, else 0.
+    pub error_control: u8,
+    /// Octets drawn at random.
+    pub key: [u8; 32],
+}
+
 /// Names a transaction: the entity that sends the file, and its number there.
 #[repr(C)]
 #[derive(Clone, Copy, Debug, Default, PartialEq, Eq, PartialOrd, Ord, Hash)]
@@ -288,6 +310,21 @@ unsafe extern "C" {
     fn cfdp_read_file(s: &mut Handle, place: usize, at: usize, out: *mut u8, room: usize) -> u32;
     fn cfdp_remove_file(station: &mut Handle, name: *const u8, n: usize) -> u32;
     fn cfdp_decode(pdu: *const u8, len: usize, out: &mut Pdu) -> u32;
+    fn cfdp_seal_frame(
+        security: &mut Security,
+        frame: *const u8,
+        len: usize,
+        control: u32,
+        out: *mut u8,
+        room: usize,
+    ) -> u32;
+    fn cfdp_open_frame(
+        security: &mut Security,
+        frame: *const u8,
+        len: usize,
+        out: *mut u8,
+        room: usize,
+    ) -> u32;
 }
 
 /// The number of the library's interface.
@@ -306,6 +343,20 @@ pub fn defaults() -> Config {
 pub fn decode(pdu: &[u8], out: &mut Pdu) -> u32 {
     // SAFETY: the slice is readable for its length.
     unsafe { cfdp_decode(pdu.as_ptr(), pdu.len(), out) }
+}
+
+/// Seals a frame into all of `out`.
+pub fn seal_frame(security: &mut Security, frame: &[u8], control: u32, out: &mut [u8]) -> u32 {
+    let (n, room) = (frame.len(), out.len());
+    // SAFETY: the slices are readable and writable for their lengths, and don't overlap.
+    unsafe { cfdp_seal_frame(security, frame.as_ptr(), n, control, out.as_mut_ptr(), room) }
+}
+
+/// Verifies a frame, and writes the station's frame over the front of `out`.
+pub fn open_frame(security: &mut Security, frame: &[u8], out: &mut [u8]) -> u32 {
+    let (n, room) = (frame.len(), out.len());
+    // SAFETY: the slices are readable and writable for their lengths, and don't overlap.
+    unsafe { cfdp_open_frame(security, frame.as_ptr(), n, out.as_mut_ptr(), room) }
 }
 
 impl Handle {

@@ -30,11 +30,12 @@ mod error;
 mod ffi;
 mod indication;
 mod lists;
+mod security;
 
 use std::path::Path;
 
 pub use error::Error;
-pub use ffi::{Config, Counters, FrameDrops, Id, Link, Pdu, PduDrops, SentPdus};
+pub use ffi::{Config, Counters, FrameDrops, Id, Link, Pdu, PduDrops, Security, SentPdus};
 pub use indication::{Indication, Indications};
 pub use lists::{Files, Frames, Phase, Transactions};
 

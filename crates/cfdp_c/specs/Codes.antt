@@ -20,6 +20,8 @@ use Rattle.cfdp_station.specs.declared.polled.Polled.{Polled}
 use Rattle.cfdp_station.specs.declared.polled.Polled.TheVariants as polls
 use Rattle.cfdp_store.specs.declared.error.StoreError.{StoreError}
 use Rattle.cfdp_store.specs.declared.error.StoreError.TheVariants as stores
+use Rattle.frame_security.specs.declared.opening.Refusal.{Refusal}
+use Rattle.frame_security.specs.declared.opening.Refusal.TheVariants as refusals
 use Rattle.cfdp_c.specs.declared.held.FoldersError.{FoldersError}
 use Rattle.cfdp_c.specs.declared.held.FoldersError.TheVariants as folders
 use Rattle.cfdp_c.specs.declared.bad_field.BadField.{BadField}
@@ -173,3 +175,11 @@ field_number fields.ReceivesErrorControl = 99
 -- These numbers name one.
 abbrev pub NamesField : ℕ → Type 0
 NamesField number = (70 ≤ number) × (number ≤ 99)
+
+-- why a secured frame is refused
+abbrev pub refusal_code : Refusal → ℕ
+refusal_code refusals.Short = 101
+refusal_code refusals.Damaged = 102
+refusal_code refusals.UnknownSpi = 103
+refusal_code refusals.NotAuthentic = 104
+refusal_code refusals.Replayed = 105

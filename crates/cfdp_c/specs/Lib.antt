@@ -1,3 +1,4 @@
+pub mod Securing
 pub mod Slots
 pub mod Codes
 pub mod Config

@@ -9,6 +9,7 @@ use crate::held::FoldersError;
 use cfdp_header::TransactionId;
 use cfdp_station::{AddError, ForgetError, Lane, Polled, PutError, RequestError};
 use cfdp_store::StoreError;
+use frame_security::Refusal;
 use std::alloc::AllocError;
 
 /// The call did what it says.
@@ -29,6 +30,8 @@ pub(crate) const NOTHING: u32 = 6;
 pub(crate) const IN_FOLDERS: u32 = 7;
 /// A name isn't as it has to be.
 const BAD_NAME: u32 = 22;
+/// No number is left.
+pub(crate) const NUMBERS_SPENT: u32 = 25;
 /// The outbox failed to give octets of a file.
 const SOURCE_FAULT: u32 = 26;
 /// The transaction has no record here.
@@ -88,7 +91,7 @@ pub(crate) fn of_put(answer: Result<TransactionId, PutError>) -> u32
         Err(PutError::Name) => BAD_NAME,
         Err(PutError::TooLarge) => 23,
         Err(PutError::TableFull) => 24,
-        Err(PutError::NumbersSpent) => 25,
+        Err(PutError::NumbersSpent) => NUMBERS_SPENT,
         Err(PutError::SourceFault) => SOURCE_FAULT,
         Err(PutError::NoMemory) => NO_MEMORY,
     }
@@ -152,5 +155,18 @@ pub(crate) fn of_memory(answer: Result<(), AllocError>) -> u32
     match answer {
         Ok(()) => OK,
         Err(_) => NO_MEMORY,
+    }
+}
+
+/// What a caller is told of a secured frame that is refused.
+pub(crate) fn of_refusal(cause: Refusal) -> u32
+    ensures { result ≡ codes.refusal_code cause }
+{
+    match cause {
+        Refusal::Short => 101,
+        Refusal::Damaged => 102,
+        Refusal::UnknownSpi => 103,
+        Refusal::NotAuthentic => 104,
+        Refusal::Replayed => 105,
     }
 }

@@ -228,7 +228,7 @@ impl CfdpConfig {
 }
 
 // Whether something is so: 0 or 1, and no other number.
-fn flag(number: u8) -> Option<bool>
+pub(crate) fn flag(number: u8) -> Option<bool>
     ensures some { IsSome result ↔ (number < 2) }
     ensures same { IfSome result (λ flag. flag ≡ flag_of number) }
 {

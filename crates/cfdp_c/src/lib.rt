@@ -25,6 +25,7 @@ mod looking;
 mod parts;
 mod requests;
 mod room;
+mod securing;
 mod station_slot;
 mod version;
 
@@ -43,4 +44,5 @@ pub use handle::{CfdpStation, cfdp_close, cfdp_open, cfdp_open_folders};
 pub use indications::{CfdpIndication, cfdp_next_indication};
 pub use looking::{CfdpTransaction, cfdp_records_left, cfdp_transactions};
 pub use requests::{cfdp_cancel, cfdp_prompt, cfdp_resume, cfdp_suspend};
+pub use securing::{CfdpSecurity, cfdp_open_frame, cfdp_seal_frame};
 pub use version::cfdp_version;

@@ -65,12 +65,12 @@ fields_of_frames = (refl, refl)
 
 plain_loop : (refusals (line (codes "loop" ∷ codes "a" ∷ codes "b" ∷ codes "x" ∷ codes "y" ∷ [])) ≡ [])
     × (asked_of (line (codes "loop" ∷ codes "a" ∷ codes "b" ∷ codes "x" ∷ codes "y" ∷ []))
-    ≡ Some (loop (record { from = codes "a"; to = codes "b"; source = codes "x"; destination = codes "y"; turns = 10000; losses = no_losses; sets = []; shown = nothing })))
+    ≡ Some (loop (record { from = codes "a"; to = codes "b"; source = codes "x"; destination = codes "y"; turns = 10000; losses = no_losses; keys = None; sets = []; shown = nothing })))
 unfolding clap_on_literals
 plain_loop = (refl, refl)
 
-full_loop : (refusals (line (codes "loop" ∷ codes "a" ∷ codes "--set" ∷ codes "zone" ∷ codes "64" ∷ codes "b" ∷ codes "x" ∷ codes "--set" ∷ codes "crc" ∷ codes "1" ∷ codes "y" ∷ codes "--loss" ∷ codes "100" ∷ codes "--seed" ∷ codes "18446744073709551615" ∷ codes "--drop" ∷ codes "3" ∷ codes "--turns" ∷ codes "1000000" ∷ codes "--trace" ∷ codes "--pcap" ∷ codes "c" ∷ codes "--chart" ∷ codes "d" ∷ [])) ≡ [])
-    × (asked_of (line (codes "loop" ∷ codes "a" ∷ codes "--set" ∷ codes "zone" ∷ codes "64" ∷ codes "b" ∷ codes "x" ∷ codes "--set" ∷ codes "crc" ∷ codes "1" ∷ codes "y" ∷ codes "--loss" ∷ codes "100" ∷ codes "--seed" ∷ codes "18446744073709551615" ∷ codes "--drop" ∷ codes "3" ∷ codes "--turns" ∷ codes "1000000" ∷ codes "--trace" ∷ codes "--pcap" ∷ codes "c" ∷ codes "--chart" ∷ codes "d" ∷ []))
+full_loop : (refusals (line (codes "loop" ∷ codes "a" ∷ codes "--set" ∷ codes "zone" ∷ codes "64" ∷ codes "b" ∷ codes "x" ∷ codes "--set" ∷ codes "crc" ∷ codes "1" ∷ codes "y" ∷ codes "--loss" ∷ codes "100" ∷ codes "--seed" ∷ codes "18446744073709551615" ∷ codes "--drop" ∷ codes "3" ∷ codes "--turns" ∷ codes "1000000" ∷ codes "--trace" ∷ codes "--keys" ∷ codes "k" ∷ codes "--pcap" ∷ codes "c" ∷ codes "--chart" ∷ codes "d" ∷ [])) ≡ [])
+    × (asked_of (line (codes "loop" ∷ codes "a" ∷ codes "--set" ∷ codes "zone" ∷ codes "64" ∷ codes "b" ∷ codes "x" ∷ codes "--set" ∷ codes "crc" ∷ codes "1" ∷ codes "y" ∷ codes "--loss" ∷ codes "100" ∷ codes "--seed" ∷ codes "18446744073709551615" ∷ codes "--drop" ∷ codes "3" ∷ codes "--turns" ∷ codes "1000000" ∷ codes "--trace" ∷ codes "--keys" ∷ codes "k" ∷ codes "--pcap" ∷ codes "c" ∷ codes "--chart" ∷ codes "d" ∷ []))
     ≡ Some (loop (record {
       from = codes "a";
       to = codes "b";
@@ -78,6 +78,7 @@ full_loop : (refusals (line (codes "loop" ∷ codes "a" ∷ codes "--set" ∷ co
       destination = codes "y";
       turns = 1000000;
       losses = record { every = 3; percent = 100; seed = 18446744073709551615 };
+      keys = Some (codes "k");
       sets = codes "zone" ∷ codes "64" ∷ codes "crc" ∷ codes "1" ∷ [];
       shown = record { explain = false; trace = true; pcap = Some (codes "c"); chart = Some (codes "d") };
     })))
@@ -118,6 +119,7 @@ plain = record {
   outbox = None;
   spool = None;
   state = None;
+  keys = None;
   control = None;
   console = None;
   console_token = None;
@@ -156,7 +158,7 @@ sending_station = (refl, refl)
 
 abbrev operating : List Text
 operating = codes "--spool" ∷ codes "s" ∷ codes "--remove-sent" ∷ codes "--retries" ∷ codes "0" ∷ codes "--at-once" ∷ codes "3072" ∷ codes "--most-size" ∷ codes "281474976710656" ∷ codes "--most-open" ∷
-    codes "4096" ∷ codes "--no-overwrite" ∷ codes "--commands" ∷ codes "--control" ∷ codes "c" ∷ codes "--no-time" ∷ codes "--json" ∷ codes "--carrier" ∷ codes "pdus" ∷ codes "--unit" ∷ codes "ms" ∷ []
+    codes "4096" ∷ codes "--no-overwrite" ∷ codes "--commands" ∷ codes "--control" ∷ codes "c" ∷ codes "--no-time" ∷ codes "--json" ∷ codes "--carrier" ∷ codes "pdus" ∷ codes "--unit" ∷ codes "ms" ∷ codes "--keys" ∷ codes "k" ∷ []
 
 operated_station : (refusals (named operating) ≡ [])
     × (asked_of (named operating)
@@ -166,6 +168,7 @@ operated_station : (refusals (named operating) ≡ [])
       carrier = PdusCarried;
       unit = Milliseconds;
       spool = Some (codes "s");
+      keys = Some (codes "k");
       control = Some (codes "c");
     })))
 unfolding clap_on_literals

@@ -9,7 +9,7 @@ use Rattle.clap.specs.declared.builder.value_parser.ValueParser.TheVariants.{Uns
 use Rattle.cfdp_command_line.specs.declared.looping.LoopRequest.{LoopRequest}
 use Rattle.cfdp_command_line.specs.declared.looping.LoopWords.{LoopWords}
 use Rattle.cfdp_command_line.specs.declared.losses.LossRequest.{LossRequest}
-use Rattle.cfdp_command_line.specs.Shown.{ShownAsked, asked_shown, shown_of, with_shown}
+use Rattle.cfdp_command_line.specs.Shown.{ShownAsked, asked_shown, file_rule, shown_of, with_shown}
 
 -- ---- the grammar
 
@@ -76,8 +76,11 @@ files_app =
 abbrev pub numbers_app : App
 numbers_app = with_losses (with_rule files_app turns_rule)
 
+abbrev pub keys_app : App
+keys_app = with_rule numbers_app (file_rule (codes "keys"))
+
 abbrev pub set_app : App
-set_app = with_rule numbers_app (pairs_rule (codes "set"))
+set_app = with_rule keys_app (pairs_rule (codes "set"))
 
 abbrev pub loop_app : App
 loop_app = with_shown set_app
@@ -85,8 +88,8 @@ loop_app = with_shown set_app
 -- ---- what is asked for
 
 -- To send a file of one folder into another, both by their paths, under a name of its own there;
--- the most turns; which frames are lost; the keys of settings, each with its value behind it; and
--- what is shown of it.
+-- the most turns; which frames are lost; the file of the keys, if frames are authenticated; the keys
+-- of settings, each with its value behind it; and what is shown of it.
 pub record LoopAsked : Type 0 where
   pub from : Text
   pub to : Text
@@ -94,6 +97,7 @@ pub record LoopAsked : Type 0 where
   pub destination : Text
   pub turns : ℕ
   pub losses : LossRequest
+  pub keys : Option Text
   pub sets : List Text
   pub shown : ShownAsked
 
@@ -129,6 +133,7 @@ loop_of rows =
       destination = destination;
       turns = turns;
       losses = losses;
+      keys = first_of (codes "keys") rows;
       sets = words_for (codes "set") rows;
       shown = shown_of rows;
     }) (losses_of rows)) (number_in (codes "turns") 1 1000000 rows))
@@ -145,6 +150,7 @@ loop_asked request = record {
   destination = request.destination.bytes.items;
   turns = request.turns;
   losses = request.losses;
+  keys = option_map (λ file. file.bytes.items) request.keys;
   sets = map (λ word. word.bytes.items) request.sets.items;
   shown = asked_shown request.shown;
 }
@@ -158,6 +164,7 @@ words_asked rows words = record {
   destination = words.destination.now;
   turns = words.turns;
   losses = words.losses;
+  keys = first_of (codes "keys") rows;
   sets = words_for (codes "set") rows;
   shown = shown_of rows;
 }

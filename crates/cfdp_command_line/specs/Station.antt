@@ -67,8 +67,11 @@ abbrev pub stores_app : App
 stores_app = with_rule (with_rule (with_rule carried_app (file_rule (codes "inbox")))
     (file_rule (codes "outbox"))) (file_rule (codes "state"))
 
+abbrev pub keyed_app : App
+keyed_app = with_rule stores_app (file_rule (codes "keys"))
+
 abbrev pub lists_app : App
-lists_app = with_rule (with_rule stores_app (pairs_rule (codes "put"))) (pairs_rule (codes "set"))
+lists_app = with_rule (with_rule keyed_app (pairs_rule (codes "put"))) (pairs_rule (codes "set"))
 
 abbrev pub spooled_app : App
 spooled_app = with_rule (with_rule lists_app (file_rule (codes "spool")))
@@ -111,7 +114,7 @@ station_app = with_shown file_app
 -- To run a station: who it is, and how it runs; how much it does at a time, and what it takes; its
 -- flags; what a datagram carries, and the unit of times; its address and its peer's; the folders
 -- that files come to and lie in, and that whose files are sent as they come there; the file that
--- keeps which numbers are reserved; the addresses on which commands are taken and a browser is
+-- keeps which numbers are reserved, and the one of the keys; the addresses on which commands are taken and a browser is
 -- shown it, and the file with what that has to show; the names of files to
 -- send, each with its name at the peer behind it; the keys of settings, each with its value behind
 -- it; and what is shown.
@@ -127,6 +130,7 @@ pub record StationAsked : Type 0 where
   pub outbox : Option Text
   pub spool : Option Text
   pub state : Option Text
+  pub keys : Option Text
   pub control : Option Text
   pub console : Option Text
   pub console_token : Option Text
@@ -218,6 +222,7 @@ asked_with rows needed = record {
   outbox = first_of (codes "outbox") rows;
   spool = first_of (codes "spool") rows;
   state = first_of (codes "state") rows;
+  keys = first_of (codes "keys") rows;
   control = first_of (codes "control") rows;
   console = first_of (codes "console") rows;
   console_token = first_of (codes "console-token") rows;
@@ -244,6 +249,7 @@ station_asked request = record {
   outbox = option_map (λ folder. folder.bytes.items) request.outbox;
   spool = option_map (λ folder. folder.bytes.items) request.spool;
   state = option_map (λ file. file.bytes.items) request.state;
+  keys = option_map (λ file. file.bytes.items) request.keys;
   control = option_map (λ address. address.bytes.items) request.control;
   console = option_map (λ address. address.bytes.items) request.console;
   console_token = option_map (λ file. file.bytes.items) request.console_token;

@@ -207,6 +207,7 @@ Commands of a station:
   thaw                   end the planned outage
   list                   list open transactions
   counters               print the counters
+  rekey                  read the file of --keys again, and change to its keys
   stop [now]             finish the open puts, then exit; now: exit at once
   help                   list all commands
 

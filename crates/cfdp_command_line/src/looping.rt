@@ -2,7 +2,7 @@
 ghost use Rattle.std.specs.Prelude.{◌≡◌, ◌≤◌, false, map, IfOk, IfSome, OnErr, option_map};
 ghost use Rattle.clap.specs.Matches.{found_of};
 ghost use Rattle.clap.specs.Walk.{rows_of, rule_of};
-ghost use Rattle.cfdp_command_line.specs.Looping.{files_app, folders_app, loop_app};
+ghost use Rattle.cfdp_command_line.specs.Looping.{files_app, folders_app, keys_app, loop_app};
 ghost use Rattle.cfdp_command_line.specs.Looping.{loop_asked, loop_of, number_of_word, numbers_app};
 ghost use Rattle.cfdp_command_line.specs.Looping.{place_rule, tuned_rule, turns_rule, words_asked};
 ghost use Rattle.cfdp_command_line.specs.Looping.{set_app};
@@ -10,7 +10,7 @@ ghost use Rattle.cfdp_command_line.specs.Looping as requests;
 ghost use Rattle.cfdp_command_line.specs.Request.{IsCommand};
 ghost use Rattle.cfdp_command_line.specs.Sets.{CannotBeSet, IsSetBy};
 
-use crate::arguments::word_of;
+use crate::arguments::{file_for, owned_word, word_of};
 use crate::losses::{LossRequest, losses_command, losses_of};
 use crate::sets::{SetError, configuration};
 use crate::shown::{shown_by, shown_command};
@@ -36,6 +36,8 @@ pub struct LoopRequest {
     pub turns: u64,
     /// Which frames of both stations together are lost.
     pub losses: LossRequest,
+    /// The path of the file of the keys by which frames are authenticated, if they are.
+    pub keys: Option<String>,
     /// What is set of both stations: the key of each setting, and behind it the value.
     pub sets: Vec<String>,
     /// What is to be shown of it.
@@ -72,7 +74,7 @@ struct LoopWords<'a> {
 const LOOP_HELP: &str = "\
 Two stations of this process, with UDP sockets of 127.0.0.1: the first sends SRC
 of FROM, the second publishes it as DST in TO, whole or not at all, and replaces
-a file of that name. Names are 1 to 64 of A-Z a-z 0-9 . _ - with no point first.
+a file of that name. Names are 1 to 64 of A-Z a-z 0-9 . _ - with no leading dot.
 In each turn both stations get the number of the turn as their time, send up to
 16 PDUs, and receive. The run ends when the transfer is over at both stations,
 or after --turns.
@@ -80,7 +82,9 @@ or after --turns.
 Keys of --set and their defaults are in 'sim --help'. Times are in turns.
 If on_ack_limit, on_nak_limit or on_inactivity is 1 or 2, a transfer may stay
 open until the last turn. The report is that of 'sim', without the files; a
-trace shows the number of the turn where 'sim' shows the line.
+trace shows the number of the turn where 'sim' shows the line. With --keys (see
+'station --help') the first station sends with the key 'send', the second with
+the first 'receive'.
 
 Exit status: 0 the file was delivered, 1 it was not, 2 bad arguments,
 3 a folder, a file, a socket or the output failed, or out of memory.
@@ -100,7 +104,7 @@ pub fn loop_command<'a>(alloc: Global) -> Result<Command<'a>, AllocError>
 fn set_command<'a>(alloc: Global) -> Result<Command<'a>, AllocError>
     ensures { IfOk result (IsCommand set_app) }
 {
-    numbers_command(alloc)?.arg(pairs(
+    keys_command(alloc)?.arg(pairs(
         alloc,
         "set",
         &["KEY", "N"],
@@ -109,6 +113,17 @@ fn set_command<'a>(alloc: Global) -> Result<Command<'a>, AllocError>
 }
 
 /// The same without settings.
+fn keys_command<'a>(alloc: Global) -> Result<Command<'a>, AllocError>
+    ensures { IfOk result (IsCommand keys_app) }
+{
+    numbers_command(alloc)?.arg(file_for(
+        alloc,
+        "keys",
+        "Authenticate frames with the keys in FILE",
+    ))
+}
+
+/// The same without keys.
 fn numbers_command<'a>(alloc: Global) -> Result<Command<'a>, AllocError>
     ensures { IfOk result (IsCommand numbers_app) }
 {
@@ -221,6 +236,7 @@ impl LoopWords<'_> {
             destination: String::from_str(alloc, self.destination)?,
             turns: self.turns,
             losses: self.losses,
+            keys: owned_word(alloc, arguments, "keys")?,
             sets: owned_words(alloc, arguments, "set")?,
             shown: shown_by(alloc, arguments)?,
         })

@@ -8,7 +8,8 @@ ghost use Rattle.cfdp_command_line.specs.Shown.{file_rule};
 ghost use Rattle.cfdp_command_line.specs.Station.{addresses_app, carried_app, carrier_of_word};
 ghost use Rattle.cfdp_command_line.specs.Station.{consoled_app};
 ghost use Rattle.cfdp_command_line.specs.Station.{file_app, first_number_rule, flags_of, held_app};
-ghost use Rattle.cfdp_command_line.specs.Station.{incoming_app, limits_of, lists_app, named_rule};
+ghost use Rattle.cfdp_command_line.specs.Station.{incoming_app, keyed_app, limits_of, lists_app};
+ghost use Rattle.cfdp_command_line.specs.Station.{named_rule};
 ghost use Rattle.cfdp_command_line.specs.Station.{names_app, numbered_app, numbers_of};
 ghost use Rattle.cfdp_command_line.specs.Station.{operated_app};
 ghost use Rattle.cfdp_command_line.specs.Station.{own_numbers_app, said_number_rule};
@@ -50,6 +51,8 @@ pub struct StationRequest {
     pub spool: Option<String>,
     /// The path of the file that keeps which numbers are reserved, where it is said.
     pub state: Option<String>,
+    /// The path of the file of the keys by which frames are authenticated, if they are.
+    pub keys: Option<String>,
     /// The TCP address on which commands are taken.
     pub control: Option<String>,
     /// The TCP address at which a browser is shown it.
@@ -145,19 +148,18 @@ struct StationWords<'a> {
 
 const STATION_HELP: &str = "\
 ADDR is HOST:PORT, e.g. 127.0.0.1:5001. Datagrams that do not come from the peer
-are dropped. File names are 1 to 64 of A-Z a-z 0-9 . _ - with no point first.
+are dropped. File names are 1 to 64 of A-Z a-z 0-9 . _ - with no leading dot.
 Both stations must set the same --carrier, zone and spacecraft.
 
---idle: make it longer than every timer of both stations, or a retransmission
-may be missed.
---spool: write a file under a name that begins with a point, and rename it when
-it is whole. A sent file moves to .sent in that folder. After limits, silence, a
-wrong checksum or a failed disk it is retried; otherwise it moves to .failed.
---control, --console: whoever reaches the address commands the station, so it
-must be one of this machine, e.g. 127.0.0.1:5101. With --console-token (16 to
-256 visible ASCII characters) a console may have another address.
+--idle: make it longer than every timer of both stations.
+--spool: write a file under a name that begins with a dot, and rename it when
+it is whole. A sent file moves to .sent there, a failed one to .failed; after
+limits, silence, a wrong checksum or size, or a failed disk it is retried first.
+--control, --console: an address of this machine, e.g. 127.0.0.1:5101; with
+--console-token (16 to 256 visible ASCII characters) a console may have another.
+--keys: FILE has a line for each key: SPI (1 to 65534), send or receive, and 64
+hexadecimal digits. A second receive line is the peer's former key.
 --state: without it FOLDER.state, beside --outbox or --spool, otherwise --inbox.
-No transaction number is used twice as long as this file stays.
 
 Keys of --set, with their defaults, beside those of 'sim --help' (number_width 8
 and pdu_crc 1 here). Keys peer_.. are for frames or packets that the peer sends:
@@ -173,6 +175,7 @@ and pdu_crc 1 here). Keys peer_.. are for frames or packets that the peer sends:
                            1: frames have an operational control field
   error_control 0, peer_error_control 0
                            1: frames have a frame error control field (CRC-16)
+  mac 16                   with --keys: octets of the MAC of a frame, 16 or 32
   packet_type 0            with --carrier packets: 0 telemetry, 1 telecommand
   secondary_header 0, peer_secondary_header 0
                            octets of the packet secondary header, 0 to 63
@@ -186,7 +189,6 @@ Examples: two terminals that transfer two files; a station that keeps running:
     --to 127.0.0.1:5001 --inbox RECEIVED --idle 30
   cfdp_node station --id 1 --peer 2 --listen 127.0.0.1:5001 \\
     --to 127.0.0.1:5002 --outbox FILES --put a.bin b.bin --put x y --idle 30
-  cfdp_node station --print-config > station.toml
   cfdp_node station --config station.toml --id 1 --peer 2 --spool SEND \\
     --listen 127.0.0.1:5001 --to 127.0.0.1:5002 --control 127.0.0.1:5101";
 
@@ -353,7 +355,7 @@ fn spooled_command<'a>(alloc: Global) -> Result<Command<'a>, AllocError>
 fn lists_command<'a>(alloc: Global) -> Result<Command<'a>, AllocError>
     ensures { IfOk result (IsCommand lists_app) }
 {
-    stores_command(alloc)?
+    keyed_command(alloc)?
         .arg(pairs_under(
             alloc,
             "Files",
@@ -371,6 +373,18 @@ fn lists_command<'a>(alloc: Global) -> Result<Command<'a>, AllocError>
 }
 
 /// The same without what may be said more than once.
+fn keyed_command<'a>(alloc: Global) -> Result<Command<'a>, AllocError>
+    ensures { IfOk result (IsCommand keyed_app) }
+{
+    stores_command(alloc)?.arg(file_under(
+        alloc,
+        "Link",
+        "keys",
+        "Authenticate frames with the keys in FILE",
+    ))
+}
+
+/// The same without keys.
 fn stores_command<'a>(alloc: Global) -> Result<Command<'a>, AllocError>
     ensures { IfOk result (IsCommand stores_app) }
 {
@@ -397,7 +411,7 @@ fn stores_command<'a>(alloc: Global) -> Result<Command<'a>, AllocError>
         ))
 }
 
-/// The same without stores.
+/// The same without stores and keys.
 fn carried_command<'a>(alloc: Global) -> Result<Command<'a>, AllocError>
     ensures { IfOk result (IsCommand carried_app) }
 {
@@ -718,6 +732,7 @@ impl StationWords<'_> {
             outbox: owned_word(alloc, arguments, "outbox")?,
             spool: owned_word(alloc, arguments, "spool")?,
             state: owned_word(alloc, arguments, "state")?,
+            keys: owned_word(alloc, arguments, "keys")?,
             control: owned_word(alloc, arguments, "control")?,
             console: owned_word(alloc, arguments, "console")?,
             console_token: owned_word(alloc, arguments, "console-token")?,

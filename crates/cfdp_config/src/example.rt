@@ -21,6 +21,7 @@ loss = 0                        # for tests: lose each frame with a probability 
 seed = 1                        # seed the random numbers of loss
 carrier = \"frames\"              # send frames, packets or pdus over UDP
 unit = \"s\"                      # unit of the times in [set] below: s or ms
+# keys = \"station.keys\"         # authenticate frames with the keys in this file
 
 # Folders, and the file that keeps the used transaction numbers.
 # inbox = \"RECEIVED\"            # receive files into this folder
@@ -62,6 +63,7 @@ error_control = 0               # 1: frames sent have a frame error control fiel
 peer_insert_zone = 0            # the same for frames received
 peer_control_field = 0
 peer_error_control = 0
+# mac = 16                      # with keys: octets of the MAC of a frame, 16 or 32
 segment = 1024                  # most octets of file data in one PDU, 1 to 4096
 id_width = 2                    # octets of an entity id, 1 to 8
 number_width = 8                # octets of a transaction number, 1 to 8

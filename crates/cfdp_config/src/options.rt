@@ -25,7 +25,7 @@ pub struct SettingsOption {
 }
 
 /// All options of a station but those that name a settings file, in the order of its help.
-pub const OPTIONS: [SettingsOption; 34] = [
+pub const OPTIONS: [SettingsOption; 35] = [
     SettingsOption {
         name: "id",
         kind: ValueKind::Number,
@@ -84,6 +84,10 @@ pub const OPTIONS: [SettingsOption; 34] = [
     },
     SettingsOption {
         name: "state",
+        kind: ValueKind::Text,
+    },
+    SettingsOption {
+        name: "keys",
         kind: ValueKind::Text,
     },
     SettingsOption {

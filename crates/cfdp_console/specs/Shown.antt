@@ -40,7 +40,8 @@ open_data it = object (member (codes "destination") (text_or_null it.destination
     (member (codes "way") (string (way_text it.way)) no_members)))))))))
 
 abbrev pub link_data : LinkStatus → Data
-link_data it = object (member (codes "carrier") (string it.carrier.now)
+link_data it = object (member (codes "authenticated") (boolean it.is_authenticated)
+    (member (codes "carrier") (string it.carrier.now)
     (member (codes "control_field") (number_or_null it.control_field)
     (member (codes "missing") (count it.frames.missing)
     (member (codes "received") (count it.frames.received)
@@ -48,7 +49,7 @@ link_data it = object (member (codes "carrier") (string it.carrier.now)
     (member (codes "silent") (number_or_null it.silent)
     (member (codes "state") (string (state_text it.is_frozen))
     (member (codes "thrown_away") (count it.thrown_away)
-    (member (codes "to") (string (string_bytes it.to)) no_members)))))))))
+    (member (codes "to") (string (string_bytes it.to)) no_members))))))))))
 
 abbrev pub counters_data : Counters → Data
 counters_data it = object (member (codes "file_data_sent") (count it.file_data_sent)

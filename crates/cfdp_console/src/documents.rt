@@ -83,6 +83,7 @@ pub fn link_value(alloc: Global, link: &LinkStatus) -> Result<Value, AllocError>
 {
     let state = if link.is_frozen { "frozen" } else { "up" };
     json!(in alloc; {
+        "authenticated": link.is_authenticated,
         "carrier": link.carrier,
         "control_field": number(link.control_field),
         "missing": link.frames.missing,

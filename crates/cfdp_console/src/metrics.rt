@@ -61,7 +61,7 @@ fn write_metric(out: &mut String, it: Metric) -> Result<(), AllocError> {
     writeln!(out, "{name} {value}")
 }
 
-fn link_metrics(status: &Status) -> [Metric; 6] {
+fn link_metrics(status: &Status) -> [Metric; 7] {
     let link = &status.link;
     [
         gauge(
@@ -73,6 +73,11 @@ fn link_metrics(status: &Status) -> [Metric; 6] {
             "cfdp_link_frozen",
             "1 if the link is frozen.",
             u64::from(link.is_frozen),
+        ),
+        gauge(
+            "cfdp_link_authenticated",
+            "1 if frames are authenticated.",
+            u64::from(link.is_authenticated),
         ),
         counter(
             "cfdp_sent_frames_total",

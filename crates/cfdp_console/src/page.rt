@@ -4,7 +4,7 @@
 /// checksums (SHA-256 of what stands between their tags), and it asks nobody but the console.
 pub const POLICY: &str = "default-src 'none'; connect-src 'self'; img-src data:; \
     style-src 'sha256-ciEet665SB6eacwrvNPd1VaughUFKYuos5DUVB1DfVI='; \
-    script-src 'sha256-Iie7Dz4vRHYtcgSM3xnNW4nc6EJHXLf4F1IZu9hx+oY='; \
+    script-src 'sha256-rN65vjt34m+ssfA0Yvn+1GlD1xq8JCj3rGyZkzCrnmw='; \
     base-uri 'none'; form-action 'none'; frame-ancestors 'none'";
 
 /// The page, in HTML.
@@ -351,7 +351,8 @@ function shows_status() {
     ? "link up, peer silent" : "link up");
   writes(at("heard"), link.silent === null ? "" : "last received " + link.silent + " s ago");
   writes(at("clock"), clock(status.time) + " UTC");
-  writes(at("route"), link.carrier + " to " + link.to);
+  writes(at("route"), link.carrier + " to " + link.to
+    + (link.authenticated ? ", authenticated" : ", not authenticated"));
   writes(at("freeze"), state === "frozen" ? "Thaw the link" : "Freeze the link");
   const counters = status.counters;
   const figures = { "f-sent": link.sent, "f-came": link.received, "f-lost": link.missing,

@@ -31,6 +31,8 @@ pub struct LinkStatus {
     pub is_frozen: bool,
     /// What a datagram is.
     pub carrier: &'static str,
+    /// Whether frames are authenticated: only who has the keys can send them.
+    pub is_authenticated: bool,
     /// The peer's address.
     pub to: String,
     /// For how many whole seconds nothing came; `None` where nothing has come yet.
@@ -61,7 +63,7 @@ pub struct Counters {
 /// How often something was dropped by a cause.
 #[derive(Clone, Copy)]
 pub struct Dropped {
-    /// What drops it: `datagram`, `link` or `pdu`.
+    /// What drops it: `datagram`, `security`, `link` or `pdu`.
     pub layer: &'static str,
     pub number: u64,
     pub cause: &'static str,

@@ -3,7 +3,7 @@ use Rattle.std.proofs.Common.{◌≡◌, ℕ, List, [], ◌∷◌, true, false, 
 use Rattle.std.specs.Prelude.{codes}
 use Rattle.cfdp_entity.specs.declared.request.Request.TheVariants as request
 use Rattle.cfdp_report.specs.Words.{onto_first, parts}
-use Rattle.cfdp_control.specs.Asking.{Sends, Changes, Stops, StopsNow, Freezes, Lists, asked_by}
+use Rattle.cfdp_control.specs.Asking.{Sends, Changes, Stops, StopsNow, Freezes, Lists, Rekeys, asked_by}
 
 put : asked_by (codes "put a.txt b.txt") ≡ Some (Sends false (codes "a.txt") (codes "b.txt"))
 unfolding parts onto_first
@@ -61,6 +61,10 @@ too_many = refl
 lists : asked_by (codes "list") ≡ Some Lists
 unfolding parts onto_first
 lists = refl
+
+rekey : asked_by (codes "rekey") ≡ Some Rekeys
+unfolding parts onto_first
+rekey = refl
 
 unknown : asked_by (codes "pause 1:7") ≡ None
 unfolding parts onto_first

@@ -28,6 +28,7 @@ pub data Wanted : Type 0 where
   Thaws : Wanted
   Lists : Wanted
   Counts : Wanted
+  Rekeys : Wanted
   Helps : Wanted
 
 -- what was read, as it is wanted
@@ -41,6 +42,7 @@ wanted asked.Freeze = Freezes
 wanted asked.Thaw = Thaws
 wanted asked.List = Lists
 wanted asked.Counters = Counts
+wanted asked.Rekey = Rekeys
 wanted asked.Help = Helps
 
 -- ---- the first word
@@ -56,6 +58,7 @@ verb_of word =
     else if is word (codes "thaw") then Some verb.Thaw
     else if is word (codes "list") then Some verb.List
     else if is word (codes "counters") then Some verb.Counters
+    else if is word (codes "rekey") then Some verb.Rekey
     else if is word (codes "stop") then Some verb.Stop
     else if is word (codes "help") then Some verb.Help
     else None
@@ -100,6 +103,7 @@ rest_of verb.Freeze words = alone Freezes words
 rest_of verb.Thaw words = alone Thaws words
 rest_of verb.List words = alone Lists words
 rest_of verb.Counters words = alone Counts words
+rest_of verb.Rekey words = alone Rekeys words
 rest_of verb.Stop words = stop_of words
 rest_of verb.Help words = alone Helps words
 

@@ -26,6 +26,8 @@ pub enum Asked {
     List,
     /// What it counted.
     Counters,
+    /// That it reads its file of keys again, and changes to these keys.
+    Rekey,
     /// Which commands there are.
     Help,
 }
@@ -42,13 +44,14 @@ pub enum Verb {
     Thaw,
     List,
     Counters,
+    Rekey,
     Stop,
     Help,
 }
 
 impl Verb {
     /// All of them, in the order in which they are told.
-    pub const ALL: [Verb; 11] = [
+    pub const ALL: [Verb; 12] = [
         Verb::Put,
         Verb::Cancel,
         Verb::Suspend,
@@ -58,6 +61,7 @@ impl Verb {
         Verb::Thaw,
         Verb::List,
         Verb::Counters,
+        Verb::Rekey,
         Verb::Stop,
         Verb::Help,
     ];
@@ -74,6 +78,7 @@ impl Verb {
             Verb::Thaw => "thaw",
             Verb::List => "list",
             Verb::Counters => "counters",
+            Verb::Rekey => "rekey",
             Verb::Stop => "stop",
             Verb::Help => "help",
         }
@@ -88,7 +93,8 @@ impl Verb {
             Verb::Resume => "resume ID",
             Verb::Prompt => "prompt ID nak|keep",
             Verb::Stop => "stop [now]",
-            Verb::Freeze | Verb::Thaw | Verb::List | Verb::Counters | Verb::Help => self.word(),
+            Verb::Freeze | Verb::Thaw | Verb::List | Verb::Counters | Verb::Rekey | Verb::Help =>
+                self.word(),
         }
     }
 
@@ -104,6 +110,7 @@ impl Verb {
             Verb::Thaw => "end the planned outage",
             Verb::List => "list open transactions",
             Verb::Counters => "print the counters",
+            Verb::Rekey => "read the file of --keys again, and change to its keys",
             Verb::Stop => "finish the open puts, then exit; now: exit at once",
             Verb::Help => "list all commands",
         }
@@ -218,6 +225,8 @@ fn parse_verb(word: &[u8]) -> Option<Verb>
         Some(Verb::List)
     } else if word == b"counters".as_slice() {
         Some(Verb::Counters)
+    } else if word == b"rekey".as_slice() {
+        Some(Verb::Rekey)
     } else if word == b"stop".as_slice() {
         Some(Verb::Stop)
     } else if word == b"help".as_slice() {
@@ -240,6 +249,7 @@ fn parse_rest(alloc: Global, verb: Verb, words: Words<'_>) -> Result<Asked, Unre
         Verb::Thaw => Ok(parse_alone(Asked::Thaw, words)?),
         Verb::List => Ok(parse_alone(Asked::List, words)?),
         Verb::Counters => Ok(parse_alone(Asked::Counters, words)?),
+        Verb::Rekey => Ok(parse_alone(Asked::Rekey, words)?),
         Verb::Stop => Ok(parse_stop(words)?),
         Verb::Help => Ok(parse_alone(Asked::Help, words)?),
     }

@@ -35,7 +35,7 @@ const TOO_MANY: &str = "error: too many connections: 8 are open\n\n";
 
 /// What a connection is told that gives way.
 const GIVES_WAY: &str =
-    "error: closed: of 8 connections this one was idle the longest, and another one came\n\n";
+    "error: closed: of 8 connections this one was idle the longest, and a new one arrived\n\n";
 
 /// Why no control address can be had.
 #[derive(Drop)]

@@ -1,16 +1,21 @@
 //! The datagrams between a station and its peer: what one carries, and the UDP socket that they go
-//! over, which keeps the rate, waits where nothing is to be done, and sends and takes beacons.
+//! over, which keeps the rate, waits where nothing is to be done, and sends and takes beacons. The
+//! keeper of a secured wire, which notes accepted numbers in the station's state file.
 //!
 //! Tested by `tests/rows/stations.rows`, `tests/stations.py` and `tests/relay.py`, through the
 //! program above.
 #![tactic(auto)]
 
 mod carrier;
+mod keeper;
 mod link_clock;
 mod pacer;
 mod peer_socket;
 mod reports;
+mod shared_numbers;
 
 pub use carrier::{Carrier, CarrierWire, PacketForm, PduCarrier};
+pub use keeper::StationKeeper;
 pub use pacer::{Pacer, a_rate_is_kept};
 pub use peer_socket::{Pace, PeerSocket, Unit, Unusable, frame_len};
+pub use shared_numbers::SharedNumbers;

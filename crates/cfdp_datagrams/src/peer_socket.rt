@@ -5,8 +5,8 @@ use crate::carrier::Carrier;
 use crate::link_clock::LinkClock;
 use crate::pacer::{Pacer, SECOND};
 use crate::reports::{MOST_REPORTS, Reports, is_report};
-use cfdp_exchange::{BEACON_LEN, Beacon, Exchange, Stop};
-use cfdp_files::{Reservation, StateError};
+use crate::shared_numbers::SharedNumbers;
+use cfdp_exchange::{BEACON_LEN, Beacon, Exchange};
 use cfdp_port::{PeerWire, Wire, WireFault};
 use cfdp_station::{Lane, LinkConfig};
 use libc::net::{self, POLLIN, POLLOUT, SO_RCVBUF, SO_SNDBUF, SOL_SOCKET};
@@ -111,11 +111,11 @@ pub struct Pace {
 /// While the link is down by plan nothing leaves, what comes is thrown away, and the time that the
 /// station is told stands still.
 #[derive(Drop)]
-pub struct PeerSocket<'a> {
+pub struct PeerSocket<'a, 'n> {
     rt: &'a HostRuntime,
     socket: UdpSocket,
     exchange: &'a Exchange,
-    reservation: Reservation<'a>,
+    numbers: &'a SharedNumbers<'n>,
     pace: Pace,
     pacer: Pacer,
     start: Instant,
@@ -150,6 +150,8 @@ pub struct PeerSocket<'a> {
     reports: Reports,
     // When transaction numbers may be reserved again, if they couldn't be.
     numbers_due: u64,
+    // When it is noted exactly which frame was accepted last, if that isn't noted yet.
+    settle_at: Option<u64>,
 }
 
 /// Why a socket can't be used.
@@ -167,7 +169,7 @@ impl From<AllocError> for Unusable {
     }
 }
 
-impl<'a> PeerSocket<'a> {
+impl<'a, 'n> PeerSocket<'a, 'n> {
     /// A socket at the first address, whose peer is at the second one.
     ///
     /// # Errors
@@ -178,9 +180,9 @@ impl<'a> PeerSocket<'a> {
         listen: &str,
         to: &str,
         pace: Pace,
-        reservation: Reservation<'a>,
+        numbers: &'a SharedNumbers<'n>,
         exchange: &'a Exchange,
-    ) -> Result<PeerSocket<'a>, Unusable> {
+    ) -> Result<PeerSocket<'a, 'n>, Unusable> {
         let peer = peer_address(rt, to).map_err(Unusable::Peer)?;
         let socket = UdpSocket::bind(rt, listen).map_err(Unusable::Own)?;
         socket.connect(peer).map_err(Unusable::Peer)?;
@@ -194,7 +196,7 @@ impl<'a> PeerSocket<'a> {
             rt,
             socket,
             exchange,
-            reservation,
+            numbers,
             pace,
             pacer: Pacer::new(pace.rate),
             start,
@@ -216,6 +218,7 @@ impl<'a> PeerSocket<'a> {
             is_held: false,
             reports: Reports::START,
             numbers_due: 0,
+            settle_at: None,
         })
     }
 
@@ -352,7 +355,7 @@ impl<'a> PeerSocket<'a> {
     /// Notes that one frame more leaves. False if that can't be noted: then none leaves for a
     /// second.
     fn covers_next(&mut self, now: u64) -> bool {
-        let stop = stop_of(self.reservation.covers_next().err());
+        let stop = self.numbers.covers_next().err();
         self.exchange.no_counts.set(stop);
         if stop.is_some() {
             self.blocked_until = now.saturating_add(SECOND);
@@ -476,14 +479,25 @@ impl<'a> PeerSocket<'a> {
             return;
         }
         self.exchange.wants_numbers.set(false);
-        let added = self.reservation.adds_numbers();
-        self.exchange
-            .numbers_left
-            .set(added.as_ref().copied().unwrap_or(0));
-        let stop = stop_of(added.err());
+        let added = self.numbers.adds_numbers();
+        self.exchange.numbers_left.set(added.unwrap_or(0));
+        let stop = added.err();
         self.exchange.no_numbers.set(stop);
         if stop.is_some() {
             self.numbers_due = self.since_start().saturating_add(SECOND);
+        }
+    }
+
+    /// Notes exactly which frame was accepted last, a second after one was. If that can't be noted
+    /// it is tried once a second.
+    fn settles(&mut self) {
+        let now = self.since_start();
+        let has_accepted = self.numbers.has_accepted();
+        match self.settle_at {
+            Some(at) if now < at => {}
+            Some(_) if self.numbers.settles().is_ok() => self.settle_at = None,
+            None if !has_accepted => {}
+            _ => self.settle_at = Some(now.saturating_add(SECOND)),
         }
     }
 
@@ -518,15 +532,6 @@ impl<'a> PeerSocket<'a> {
             self.quiet_since = self.link_time_at(now);
         }
         true
-    }
-}
-
-/// Why numbers can't be reserved, if that failed.
-fn stop_of(error: Option<StateError>) -> Option<Stop> {
-    match error? {
-        StateError::Spent => Some(Stop::Spent),
-        StateError::System(error) => Some(Stop::Unwritable(error.kind())),
-        StateError::InUse | StateError::Damaged => Some(Stop::Unwritable(ErrorKind::Other)),
     }
 }
 
@@ -613,7 +618,7 @@ fn peer_address(rt: &HostRuntime, to: &str) -> io::Result<SocketAddr> {
     }
 }
 
-impl Wire for PeerSocket<'_> {
+impl Wire for PeerSocket<'_, '_> {
     fn send(&mut self, frame: &[u8]) -> Result<(), WireFault> {
         self.has_sent = true;
         let (answer, reports) = send_past_reports(&self.socket, frame, self.reports);
@@ -651,7 +656,7 @@ impl Wire for PeerSocket<'_> {
     }
 }
 
-impl PeerWire for PeerSocket<'_> {
+impl PeerWire for PeerSocket<'_, '_> {
     /// The whole seconds since the start, or milliseconds, in which the link wasn't down by plan
     /// and the process ran. While datagrams wait in the socket it is the time at which none did, at
     /// most two seconds late. Where the clock can't be read it stands still.
@@ -660,6 +665,7 @@ impl PeerWire for PeerSocket<'_> {
         self.told = self.told.max(drained / self.pace.unit.nanoseconds());
         self.exchange.told.set(self.told);
         self.adds_numbers();
+        self.settles();
         self.told
     }
 

@@ -2,7 +2,9 @@
 use crate::beacon::Beacon;
 use crate::drops::CarrierTally;
 use crate::lost_frames::FrameGaps;
+use crate::refusals::RefusalTally;
 use crate::watched::Watched;
+use frame_security::LinkKeys;
 use std::cell::Cell;
 use std::io::ErrorKind;
 
@@ -29,6 +31,11 @@ pub struct Exchange {
     pub no_counts: Cell<Option<Stop>>,
     /// Why no more puts are made: their transaction numbers can't be reserved. `None` if they can.
     pub no_numbers: Cell<Option<Stop>>,
+    /// Why accepted frames of a secured link are lost: their sequence numbers can't be kept. `None`
+    /// if they can.
+    pub no_accepting: Cell<Option<Stop>>,
+    /// The keys to which a secured wire changes in its next turn, if it does.
+    pub new_keys: Cell<Option<LinkKeys>>,
     /// Whether the link is down by plan: nothing leaves, what comes is thrown away, and the time
     /// that the station is told stands still.
     pub is_frozen: Cell<bool>,
@@ -46,6 +53,8 @@ pub struct Exchange {
     pub gaps: FrameGaps,
     /// How often datagrams were dropped of which nothing was given to the station.
     pub dropped: CarrierTally,
+    /// How many frames of a secured link were refused.
+    pub refused: RefusalTally,
 }
 
 impl Exchange {
@@ -57,6 +66,8 @@ impl Exchange {
             failed: Cell::new(None),
             no_counts: Cell::new(None),
             no_numbers: Cell::new(None),
+            no_accepting: Cell::new(None),
+            new_keys: Cell::new(None),
             is_frozen: Cell::new(false),
             watched: Cell::new(Watched::nothing()),
             numbers_left: Cell::new(0),
@@ -65,6 +76,7 @@ impl Exchange {
             told: Cell::new(0),
             gaps: FrameGaps::new(),
             dropped: CarrierTally::new(),
+            refused: RefusalTally::new(),
         }
     }
 }

@@ -4,18 +4,12 @@ use Rattle.std.specs.Prelude.{unwrap_or}
 use Rattle.std.proofs.lemmas.Bool.{true≢false}
 use Rattle.std.specs.Cmp.Lexicographic.{pointwise, bytes_decides}
 use Rattle.cfdp_files.specs.declared.reserving.Reserved.{Reserved}
-use Rattle.cfdp_files.specs.StateText.{Says, lines_text}
-
--- the lines, number by number
-pub lines_split : (r : Reserved) (rest : List ℕ) → lines_text r ++ rest
-    ≡ codes "cfdp_node station 1\nnumbers " ++ (decimal r.numbers ++ (10 ∷ (codes "frames " ++ (decimal r.frames ++ (10 ∷ rest)))))
-lines_split r rest =
-    rw (append_assoc (decimal r.numbers) (codes "\nframes " ++ (decimal r.frames ++ codes "\n")) rest, append_assoc (decimal r.frames) (codes "\n") rest) refl
+use Rattle.cfdp_files.specs.StateText.{Says, first_text, lines_text}
 
 -- a file begins with the lines
 pub front_is : (text : List ℕ) (r : Reserved) → Says text r → (rest : List ℕ) × (text ≡ lines_text r ++ rest)
 front_is text r (inl whole) = (_, whole)
-front_is text r (inr older) = ([], older ∙ sym (append-nil (lines_text r)))
+front_is text r (inr older) = ([], older.0 ∙ sym (append-nil (lines_text r)))
 
 -- a comparison that fails is one of two texts
 pub unequal : (text other : List ℕ) (b : Bool) → b ≡ pointwise nat_eq text other → b ≡ false → text ≡ other → ⊥
@@ -23,3 +17,8 @@ unequal text other b is fails same = true≢false (sym ((bytes_decides text othe
 
 pub some_same : (a b : Reserved) → Some a ≡ Some b → a ≡ b
 some_same a b same = ap (λ (o : Option Reserved). unwrap_or o a) same
+
+-- the first line of a station whose peer's frames are secured
+pub secured_first : (n : ℕ) (rest : List ℕ) → first_text (Some n) ++ rest
+    ≡ codes "cfdp_node station 2\naccepted " ++ (decimal n ++ (10 ∷ rest))
+secured_first n rest = rw (append_assoc (decimal n) (codes "\n") rest) refl

@@ -1,17 +1,24 @@
 //! What a station has reserved, and what it reserves before it uses more.
-ghost use Rattle.std.specs.Prelude.{◌≡◌, ◌+◌, ◌^◌, ◌<◌, ◌≤◌, ◌↔◌, ◌⊎◌, IfSome, IsNone};
-ghost use Rattle.cfdp_files.specs.Reserving.{Adds, Begins, Covers, first_number};
+ghost use Rattle.std.specs.Prelude.{◌≡◌, ◌+◌, ◌^◌, ◌<◌, ◌≤◌, ◌↔◌, ◌⊎◌, IfSome, IsNone, max};
+ghost use Rattle.cfdp_files.specs.Reserving.{Accepts, Adds, Begins, Covers, first_number};
 
 /// How many frame counts are reserved at a time.
 pub const FRAMES: u64 = 1 << 20;
 
-/// What is reserved: all numbers below these.
+/// How many sequence numbers of the peer's secured frames are reserved at a time, at most. After a
+/// crash so many of its frames are refused at most that were never received.
+pub const ACCEPTED: u64 = 1 << 10;
+
+/// What is reserved.
 #[derive(Clone, Copy, Debug, PartialEq, Eq)]
 pub struct Reserved {
-    /// Of transactions.
+    /// All transaction numbers below this one.
     pub numbers: u64,
-    /// Of the counts of frames of both lanes, not modulo 2^28.
+    /// All counts of frames of both lanes below this one, not modulo 2^28.
     pub frames: u64,
+    /// All sequence numbers of the peer's secured frames up to this one; `None` if none was ever
+    /// accepted.
+    pub accepted: Option<u64>,
 }
 
 /// With which numbers a station begins.
@@ -39,7 +46,18 @@ impl Reserved {
     pub const NOTHING: Reserved = Reserved {
         numbers: 1,
         frames: 0,
+        accepted: None,
     };
+
+    /// Returns the same with all counts of frames below this one reserved.
+    pub fn from_frame(self, least: u64) -> Reserved
+        ensures { result ≡ record self { frames = max self.frames least } }
+    {
+        Reserved {
+            frames: self.frames.max(least),
+            ..self
+        }
+    }
 
     /// Returns what a start takes that reserves a number for each of so many puts: from the one on
     /// that is said, or else behind all that were reserved before and not below the least.
@@ -59,6 +77,7 @@ impl Reserved {
             reserved: Reserved {
                 numbers: numbers_end.max(self.numbers),
                 frames: frames.saturating_add(FRAMES),
+                ..self
             },
         })
     }
@@ -89,5 +108,19 @@ impl Reserved {
             numbers: end.checked_add(more)?.max(self.numbers),
             ..self
         })
+    }
+
+    /// Returns what must be reserved before the peer's frame with this sequence number is handed
+    /// on: the same as now if the number is reserved, and else so many more ahead of it.
+    pub fn accepting(self, number: u64, ahead: u64) -> Reserved
+        ensures { Accepts self number result }
+    {
+        match self.accepted {
+            Some(reserved) if number <= reserved => self,
+            _ => Reserved {
+                accepted: Some(number.saturating_add(ahead)),
+                ..self
+            },
+        }
     }
 }

@@ -1,11 +1,12 @@
 //! The numbers that a station has reserved, in a small file, so that none comes back when it is
 //! killed and started anew.
-ghost use Rattle.std.specs.Prelude.{◌≡◌, ◌+◌, ◌-◌, ◌^◌, ◌<◌, ◌≤◌, IfOk, IfSome, OnErr, OnOk, min};
+ghost use Rattle.std.specs.Prelude.{◌≡◌, ◌+◌, ◌-◌, ◌^◌, ◌<◌, ◌≤◌, Some, IfOk, IfSome, IsSomeAnd};
+ghost use Rattle.std.specs.Prelude.{OnErr, OnOk, min, unwrap_or};
 
 use crate::least_number::{least_number, microseconds};
 use crate::locks::{LockError, lock};
 use crate::plain_file::{Identity, Use, check_plain, folder_of, open_plain};
-use crate::reserving::{Beginning, Reserved};
+use crate::reserving::{ACCEPTED, Beginning, Reserved};
 use crate::state_text::{parse, text_of};
 use aos_frame::FRAME_COUNTS;
 use cfdp_report::cause_text;
@@ -67,6 +68,20 @@ impl From<AllocError> for StateError {
     }
 }
 
+/// What a station asks for at its start.
+#[derive(Clone, Copy, Debug)]
+pub struct Wanted {
+    /// The number of its first transaction, if one is given.
+    pub said: Option<u64>,
+    /// How many octets a transaction number has: 1 to 8.
+    pub width: u64,
+    /// How many puts it makes at once.
+    pub puts: u64,
+    /// Whether its frames are secured. Their sequence numbers must never come back, so without a
+    /// file they begin at the clock.
+    pub is_secured: bool,
+}
+
 /// The file of a station that runs, which nobody else uses meanwhile.
 #[derive(Drop)]
 pub struct StateFile<'a> {
@@ -81,8 +96,8 @@ pub struct StateFile<'a> {
 
 impl<'a> StateFile<'a> {
     /// Takes the file at this path, which is made where there is none, and reserves a number for
-    /// each of so many puts: from the one on that is said, or else behind all that were reserved
-    /// before and not below [`least_number`].
+    /// each put: from the given one on, or else behind all that were reserved before and not below
+    /// [`least_number`].
     ///
     /// # Errors
     ///
@@ -90,14 +105,18 @@ impl<'a> StateFile<'a> {
     pub fn take(
         rt: &'a HostRuntime,
         path: &str,
-        said: Option<u64>,
-        width: u64,
-        puts: u64,
+        wanted: Wanted,
     ) -> Result<(StateFile<'a>, Beginning), StateError> {
+        let Wanted {
+            said,
+            width,
+            puts,
+            ..
+        } = wanted;
         let held = held(rt, path)?;
         let before = match &held {
             Some(file) => read(rt, file)?,
-            None => Reserved::NOTHING,
+            None => Reserved::NOTHING.from_frame(least_frame(rt, wanted)),
         };
         let least = least_number(rt, width, held.is_none());
         let taken = before.begin(said, least, puts).ok_or(StateError::Spent)?;
@@ -125,10 +144,36 @@ impl<'a> StateFile<'a> {
         ensures numbers { self.new.numbers_end ≡ self.old.numbers_end }
     {
         let reserved = self.reserved.covering(count).ok_or(StateError::Spent)?;
-        if reserved != self.reserved {
-            self.write(reserved)?;
-        }
-        Ok(())
+        self.write(reserved)
+    }
+
+    /// Notes that the peer's frame with this sequence number is handed on, and so many more ahead of
+    /// it, where that wasn't noted before.
+    ///
+    /// # Errors
+    ///
+    /// `StateError` where it can't be noted.
+    pub fn accepts(&mut self, number: u64, ahead: u64) -> Result<(), StateError>
+        ensures covered { OnOk result
+            (IsSomeAnd self.new.reserved.accepted (λ reserved. number ≤ reserved)) }
+        ensures numbers { self.new.numbers_end ≡ self.old.numbers_end }
+    {
+        self.write(self.reserved.accepting(number, ahead))
+    }
+
+    /// Notes that none of the peer's frames with a greater sequence number was handed on.
+    ///
+    /// # Errors
+    ///
+    /// `StateError` where it can't be noted.
+    pub fn settles(&mut self, last: Option<u64>) -> Result<(), StateError>
+        ensures exact { OnOk result (self.new.reserved.accepted ≡ last) }
+        ensures numbers { self.new.numbers_end ≡ self.old.numbers_end }
+    {
+        self.write(Reserved {
+            accepted: last,
+            ..self.reserved
+        })
     }
 
     /// Reserves so many transaction numbers more.
@@ -148,15 +193,27 @@ impl<'a> StateFile<'a> {
         Ok(())
     }
 
-    /// Writes a new file in the place of this one, and takes it.
+    /// Writes a new file in the place of this one, and takes it, if this one says something else.
     fn write(&mut self, reserved: Reserved) -> Result<(), StateError>
         ensures ok { OnOk result (self.new.reserved ≡ reserved) }
         ensures err { OnErr result (self.new.reserved ≡ self.old.reserved) }
         ensures numbers { self.new.numbers_end ≡ self.old.numbers_end }
     {
+        if reserved == self.reserved {
+            return Ok(());
+        }
         self.file = replaced(self.rt, self.path.as_str(), &self.file, reserved)?;
         self.reserved = reserved;
         Ok(())
+    }
+}
+
+/// Returns the count of frames from which on a station without a file counts.
+fn least_frame(rt: &HostRuntime, wanted: Wanted) -> u64 {
+    if wanted.is_secured {
+        microseconds(rt)
+    } else {
+        0
     }
 }
 
@@ -306,6 +363,12 @@ pub struct Reservation<'a> {
     beginning: Beginning,
     /// The count of the next frame, not modulo 2^28.
     next_frame: u64,
+    /// The sequence number of the peer's secured frame that was handed on last, or what the file
+    /// says of earlier ones.
+    accepted: Option<u64>,
+    /// How many sequence numbers are reserved ahead of the next one that isn't reserved: twice as
+    /// many each time, until the file says exactly what was accepted.
+    ahead: u64,
     /// How many numbers are reserved at the start, and how many at a time behind these.
     numbers: u64,
     step: u64,
@@ -320,17 +383,18 @@ impl<'a> Reservation<'a> {
     pub fn take(
         rt: &'a HostRuntime,
         path: &str,
-        said: Option<u64>,
-        width: u64,
-        puts: u64,
+        wanted: Wanted,
     ) -> Result<Reservation<'a>, StateError> {
-        let (file, beginning) = StateFile::take(rt, path, said, width, puts)?;
+        let (file, beginning) = StateFile::take(rt, path, wanted)?;
+        let accepted = file.reserved.accepted;
         Ok(Reservation {
             file: Some(file),
             beginning,
             next_frame: beginning.frames,
-            numbers: puts,
-            step: if width < 4 { 1 } else { NUMBERS },
+            accepted,
+            ahead: 1,
+            numbers: wanted.puts,
+            step: if wanted.width < 4 { 1 } else { NUMBERS },
         })
     }
 
@@ -344,9 +408,16 @@ impl<'a> Reservation<'a> {
                 frames: now,
             },
             next_frame: now,
+            accepted: None,
+            ahead: 1,
             numbers: u64::MAX,
             step: u64::MAX,
         }
+    }
+
+    /// Returns `true` if the numbers are kept in a file.
+    pub fn has_file(&self) -> bool {
+        self.file.is_some()
     }
 
     /// The number of the first transaction.
@@ -357,6 +428,22 @@ impl<'a> Reservation<'a> {
     /// The count of the first frame in either lane.
     pub fn frame_count(&self) -> u32 {
         (self.beginning.frames % u64::from(FRAME_COUNTS)) as u32
+    }
+
+    /// Returns the sequence number of the first secured frame: its count, not modulo 2^28. So the
+    /// numbers of all frames that may leave are reserved with their counts.
+    pub fn first_sequence_number(&self) -> u64
+        ensures { result ≡ self.now.beginning.frames }
+    {
+        self.beginning.frames
+    }
+
+    /// Returns the sequence number up to which the peer's secured frames must be refused; 0 if none
+    /// was ever accepted.
+    pub fn accepted(&self) -> u64
+        ensures { result ≡ unwrap_or self.now.accepted 0 }
+    {
+        self.accepted.unwrap_or(0)
     }
 
     /// How many transaction numbers are reserved at the start.
@@ -396,5 +483,47 @@ impl<'a> Reservation<'a> {
         }
         self.next_frame = self.next_frame.saturating_add(1);
         Ok(())
+    }
+
+    /// Notes that the peer's secured frame with this sequence number, which must be greater than
+    /// those before, is handed on. Of most numbers that is noted before, so that nothing is written.
+    ///
+    /// # Errors
+    ///
+    /// `StateError` if the number can't be reserved: then the frame must not be handed on.
+    pub fn covers_accepted(&mut self, number: u64) -> Result<(), StateError>
+        ensures covered { OnOk result (IfSome self.new.file (λ file.
+            IsSomeAnd file.reserved.accepted (λ reserved. number ≤ reserved))) }
+        ensures last { OnOk result (self.new.accepted ≡ Some number) }
+        ensures err { OnErr result (self.new.accepted ≡ self.old.accepted) }
+    {
+        if let Some(file) = &mut self.file {
+            let before = file.reserved.accepted;
+            file.accepts(number, self.ahead)?;
+            if file.reserved.accepted != before {
+                self.ahead = self.ahead.saturating_mul(2).min(ACCEPTED);
+            }
+        }
+        self.accepted = Some(number);
+        Ok(())
+    }
+
+    /// Notes that no later frame was handed on, so that a station that is started anew refuses none
+    /// that it hasn't received. It should be called once a second in which frames were accepted, and
+    /// at the end.
+    ///
+    /// # Errors
+    ///
+    /// `StateError` if that can't be noted; then up to 1,024 later frames are refused after a crash.
+    pub fn settles_accepted(&mut self) -> Result<(), StateError>
+        ensures exact { OnOk result (IfSome self.new.file (λ file.
+            file.reserved.accepted ≡ self.old.accepted)) }
+        ensures same { self.new.accepted ≡ self.old.accepted }
+    {
+        self.ahead = 1;
+        match &mut self.file {
+            Some(file) => file.settles(self.accepted),
+            None => Ok(()),
+        }
     }
 }

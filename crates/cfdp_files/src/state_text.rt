@@ -1,7 +1,7 @@
 //! The text of a file of reserved numbers.
-ghost use Rattle.std.specs.Prelude.{◌≡◌, ℕ, ◌++◌, ◌∷◌, ◌^◌, ◌<◌, List, Some, IfOk, IfSome, IsSomeAnd, decimal, string_bytes};
+ghost use Rattle.std.specs.Prelude.{◌≡◌, ℕ, ◌++◌, ◌∷◌, ◌^◌, ◌<◌, List, Option, Some, IfOk, IfSome, IsSomeAnd, decimal, string_bytes};
 ghost use Rattle.cfdp_files.specs.declared.reserving.Reserved.{Reserved as AReserved};
-ghost use Rattle.cfdp_files.specs.StateText.{Says, lines_text, state_text};
+ghost use Rattle.cfdp_files.specs.StateText.{AreNumbers, Says, first_text, lines_text, state_text};
 
 use crate::reserving::Reserved;
 use cfdp_report::{HexNumber, parse_number};
@@ -29,10 +29,27 @@ pub fn text_of(alloc: Global, reserved: Reserved) -> Result<String, AllocError>
 fn lines_of(alloc: Global, reserved: Reserved) -> Result<String, AllocError>
     ensures { IfOk result (λ text. string_bytes text ≡ lines_text reserved) }
 {
+    let first = first_of(alloc, reserved.accepted)?;
     format!(in alloc;
-        "cfdp_node station 1\nnumbers {}\nframes {}\n",
-        reserved.numbers, reserved.frames
+        "{}numbers {}\nframes {}\n",
+        first.as_str(),
+        reserved.numbers,
+        reserved.frames
     )
+}
+
+/// Returns the first line, and with it how far the peer's secured frames were accepted.
+///
+/// # Errors
+///
+/// `AllocError` if there is no memory for it.
+fn first_of(alloc: Global, accepted: Option<u64>) -> Result<String, AllocError>
+    ensures { IfOk result (λ text. string_bytes text ≡ first_text accepted) }
+{
+    match accepted {
+        None => String::from_str(alloc, "cfdp_node station 1\n"),
+        Some(number) => format!(in alloc; "cfdp_node station 2\naccepted {number}\n"),
+    }
 }
 
 /// Returns what a file says that has this text; `None` if no station wrote it.
@@ -42,15 +59,18 @@ fn lines_of(alloc: Global, reserved: Reserved) -> Result<String, AllocError>
 /// `AllocError` if there is no memory to compare it.
 pub fn parse(alloc: Global, text: &str) -> Result<Option<Reserved>, AllocError>
     ensures only { IfOk result (λ answer. IfSome answer (Says text.now)) }
-    ensures each { (r : AReserved) → r.numbers < 2 ^ 64 → r.frames < 2 ^ 64 → Says text.now r
+    ensures each { (r : AReserved) → AreNumbers r → Says text.now r
         → IfOk result (λ answer. answer ≡ Some r) }
 {
     let Some(reserved) = numbers_in(text) else {
         return Ok(None);
     };
     let whole = text_of(alloc, reserved)?;
+    if text == whole.as_str() {
+        return Ok(Some(reserved));
+    }
     let lines = lines_of(alloc, reserved)?;
-    if text == whole.as_str() || text == lines.as_str() {
+    if reserved.accepted.is_none() && text == lines.as_str() {
         return Ok(Some(reserved));
     }
     Ok(None)
@@ -58,12 +78,30 @@ pub fn parse(alloc: Global, text: &str) -> Result<Option<Reserved>, AllocError>
 
 /// Returns the numbers in the lines at the front of a text, if there are such lines.
 fn numbers_in(text: &str) -> Option<Reserved>
-    ensures { (r : AReserved) (rest : List ℕ) → r.numbers < 2 ^ 64 → r.frames < 2 ^ 64
+    ensures { (r : AReserved) (rest : List ℕ) → AreNumbers r
         → text.now ≡ lines_text r ++ rest → result ≡ Some r }
 {
-    let (numbers, rest) = number_behind("cfdp_node station 1\nnumbers ", text)?;
+    let (accepted, rest) = first_in(text)?;
+    let (numbers, rest) = number_behind("numbers ", rest)?;
     let (frames, _rest) = number_behind("frames ", rest)?;
-    Some(Reserved { numbers, frames })
+    Some(Reserved {
+        numbers,
+        frames,
+        accepted,
+    })
+}
+
+/// Returns what the first line of a text says, and what is behind that.
+fn first_in(text: &str) -> Option<(Option<u64>, &str)>
+    ensures { (accepted : Option ℕ) (rest : List ℕ) → IfSome accepted (λ number. number < 2 ^ 64)
+        → text.now ≡ first_text accepted ++ rest
+        → IsSomeAnd result (λ found. (found.0 ≡ accepted) × (found.1.now ≡ rest)) }
+{
+    if let Some(rest) = text.strip_prefix("cfdp_node station 1\n") {
+        return Some((None, rest));
+    }
+    let (number, rest) = number_behind("cfdp_node station 2\naccepted ", text)?;
+    Some((Some(number), rest))
 }
 
 /// Returns the number between this front of a text and the end of its line, and what is behind that

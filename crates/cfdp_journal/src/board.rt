@@ -3,7 +3,7 @@ use crate::journal::meaning::condition_words;
 use crate::journal::totals::Totals;
 use cfdp_console::{Counters, Dropped, FrameCounts, Ledger, LinkStatus, Names, Samples, Status};
 use cfdp_directives::{Condition, Delivery, FileStatus, Indication};
-use cfdp_exchange::{CarrierDrop, CarrierTally, FrameGaps};
+use cfdp_exchange::{CarrierDrop, Exchange, REFUSALS, refusal_name};
 use cfdp_header::TransactionId;
 use cfdp_report::Name;
 use cfdp_service::PutNames;
@@ -27,9 +27,10 @@ pub struct BoardSetup<'a> {
     pub carrier: &'static str,
     /// The peer's address.
     pub to: &'a str,
+    /// Whether frames are authenticated.
+    pub is_authenticated: bool,
     /// What passed over the link, and what of that was dropped.
-    pub gaps: &'a FrameGaps,
-    pub tally: &'a CarrierTally,
+    pub exchange: &'a Exchange,
 }
 
 /// How a station is at the time when it is looked at.
@@ -137,7 +138,7 @@ impl<'a> Board<'a> {
 
     /// The frames that were counted.
     fn frames(&self) -> FrameCounts {
-        let gaps = self.setup.gaps;
+        let gaps = &self.setup.exchange.gaps;
         FrameCounts {
             sent: gaps.sent(),
             received: gaps.came(),
@@ -167,7 +168,7 @@ impl<'a> Board<'a> {
             waiting: moment.waiting as u64,
             timeout: timeout.map(|deadline| deadline.saturating_sub(moment.told)),
             counters: counters(station, moment.totals),
-            dropped: dropped(setup.rt.alloc(), station, setup.tally)?,
+            dropped: dropped(setup.rt.alloc(), station, setup.exchange)?,
         })
     }
 
@@ -182,10 +183,11 @@ impl<'a> Board<'a> {
         Ok(LinkStatus {
             is_frozen: moment.is_frozen,
             carrier: setup.carrier,
+            is_authenticated: setup.is_authenticated,
             to: String::from_str(setup.rt.alloc(), setup.to)?,
             silent: self.came_second.map(|came| second.saturating_sub(came)),
             frames: self.frames(),
-            thrown_away: setup.gaps.thrown_away(),
+            thrown_away: setup.exchange.gaps.thrown_away(),
             control_field: control_field(station),
         })
     }
@@ -251,19 +253,37 @@ fn counters<O: Outbox, I: Inbox>(station: &Station<O, I>, totals: Totals) -> Cou
 fn dropped<O: Outbox, I: Inbox>(
     alloc: Global,
     station: &Station<O, I>,
-    tally: &CarrierTally,
+    exchange: &Exchange,
 ) -> Result<Vec<Dropped>, AllocError> {
     let mut all = Vec::new(alloc);
     for (place, by) in CarrierDrop::ALL.iter().enumerate() {
         let number = (place as u64).saturating_add(1);
-        adds(&mut all, "datagram", number, by.name(), tally.of(*by))?;
+        adds(
+            &mut all,
+            "datagram",
+            number,
+            by.name(),
+            exchange.dropped.of(*by),
+        )?;
     }
+    add_refusals(&mut all, exchange)?;
     for by in LinkDrop::ALL {
         let count = station.link_drops(by);
         adds(&mut all, "link", u64::from(by.number()), by.name(), count)?;
     }
     add_pdu_drops(&mut all, station)?;
     Ok(all)
+}
+
+/// Adds the causes by which frames of a secured link were refused.
+fn add_refusals(all: &mut Vec<Dropped>, exchange: &Exchange) -> Result<(), AllocError> {
+    let mut number = 0u64;
+    for cause in REFUSALS {
+        number = number.saturating_add(1);
+        let count = exchange.refused.of(cause);
+        adds(all, "security", number, refusal_name(cause), count)?;
+    }
+    Ok(())
 }
 
 fn add_pdu_drops<O: Outbox, I: Inbox>(

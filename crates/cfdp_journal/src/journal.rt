@@ -16,12 +16,12 @@ use crate::journal::overview::{
 use crate::journal::register::{Register, copied, is_one_of, told_id};
 use crate::journal::style::{Log, Style};
 use crate::journal::telling::{
-    Why, tell_change, tell_end, tell_file, tell_indication, tell_refusal,
+    Why, tell_change, tell_end, tell_file, tell_indication, tell_refusal, tell_rekey,
 };
 use crate::journal::totals::Totals;
 use cfdp_console::Open;
 use cfdp_directives::Indication;
-use cfdp_exchange::FrameGaps;
+use cfdp_exchange::Exchange;
 use cfdp_header::TransactionId;
 use cfdp_report::Exit;
 use cfdp_service::{Outcome, PutNames, Reply};
@@ -39,8 +39,8 @@ pub struct JournalSetup<'a> {
     pub log: Log<'a>,
     /// The folder of the files that are sent, if there is one: their lengths are looked up there.
     pub outbox: Option<&'a str>,
-    /// How many frames were found missing.
-    pub gaps: &'a FrameGaps,
+    /// What was counted of the link.
+    pub exchange: &'a Exchange,
 }
 
 /// The log of a station, and what is known of its transactions. What calls write may lie in the
@@ -168,6 +168,18 @@ impl<'a, V: Write + Drop> Journal<'a, V> {
         }
     }
 
+    /// Reports that the station changed its keys, in a line, except in the plain style.
+    pub fn rekeyed(&mut self)
+        ensures logs { Logs Notes self.old self.new }
+        ensures totals { self.new.totals ≡ self.old.totals }
+    {
+        if self.has_failed {
+            return;
+        }
+        let told = tell_rekey(&mut self.out, &mut self.line, self.setup.log);
+        self.has_failed = told.is_err();
+    }
+
     /// Hears what the station indicates. A line tells it.
     pub fn hears(&mut self, indication: &Indication)
         ensures counts { CountsTold self.old.own indication.now self.old.totals self.new.totals }
@@ -226,13 +238,13 @@ impl<'a, V: Write + Drop> Journal<'a, V> {
         if self.has_failed {
             return;
         }
-        let (log, gaps) = (self.setup.log, self.setup.gaps);
+        let (log, exchange) = (self.setup.log, self.setup.exchange);
         let told = tell_end(
             &mut self.out,
             &mut self.line,
             log,
             &self.totals,
-            gaps,
+            exchange,
             station,
         );
         self.has_failed = told.is_err();
@@ -312,7 +324,7 @@ impl<'a, V: Write + Drop> Journal<'a, V> {
         form: Form,
         station: &Station<O, I>,
     ) -> fmt::Result {
-        write_counters(out, form, &self.totals, self.setup.gaps, station)
+        write_counters(out, form, &self.totals, self.setup.exchange, station)
     }
 
     /// The transactions that are open, in order of their ids, as the console shows them.

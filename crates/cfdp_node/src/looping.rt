@@ -10,6 +10,7 @@ ghost use Rattle.cfdp_report.specs.Report.Lines.{count_line};
 ghost use Rattle.cfdp_port.specs.Pair.{pair};
 
 pub mod folders;
+pub mod security;
 pub mod udp;
 
 use cfdp_port::{Lookout, Port, Wire, take_turns};

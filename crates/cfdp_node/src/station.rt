@@ -8,18 +8,22 @@ pub mod operator;
 pub mod setup;
 
 use crate::station::console_door::door;
-use crate::station::operation::{Context, StationParts, StationSpool, ran};
+use crate::station::operation::{Context, SecuredEnds, StationParts, StationSpool, ran};
 use crate::station::setup::{StationSetup, key_hint};
 use crate::transfers::named_files::{check_file, check_name, folder, folder_outbox, tell_untold};
+use crate::transfers::secured_links::keys_in;
 use cfdp_command_line::{CarrierKind, StationNumbers, StationRequest, TimeUnit, note_losses};
 use cfdp_control::{LineSources, address_cause};
-use cfdp_datagrams::{Carrier, Pace, PeerSocket, Unit, Unusable};
+use cfdp_datagrams::{Carrier, Pace, PeerSocket, SharedNumbers, Unit, Unusable};
 use cfdp_exchange::{Beacon, Exchange};
-use cfdp_files::{HeldFolder, Reservation, StateError, is_same_folder, lies_in, try_folder};
+use cfdp_files::{
+    HeldFolder, Reservation, StateError, Wanted, is_same_folder, lies_in, try_folder,
+};
 use cfdp_report::{Hint, LineError, cause_text, parse_number, parse_setting};
 use cfdp_spool::{FolderSpool, StandardErrorTeller};
 use cfdp_station::StationConfig;
 use cfdp_watch::{Progress, shown_status};
+use frame_security::LinkKeys;
 use station_pair::{Side, WorldConfig};
 use std::cell::Cell;
 use std::io::ErrorKind;
@@ -37,6 +41,10 @@ const DEVICE: u8 = 3;
 struct Prepared<'a> {
     config: Valid<WorldConfig>,
     carrier: Carrier,
+    /// How it is set up, from which the frames on the link follow.
+    setup: StationSetup,
+    /// Its keys, if frames are authenticated.
+    keys: Option<LinkKeys>,
     reservation: Reservation<'a>,
     /// The folder of its inbox, if it has one.
     held: Option<HeldFolder>,
@@ -48,7 +56,8 @@ struct Prepared<'a> {
 /// error what went wrong. Answers the exit status.
 ///
 /// What may be wrong is looked for in this order: the console, the control address, what is set,
-/// the names of files that are to be sent, the folders, those files, the file of reserved numbers,
+/// the file of keys, the names of files that are to be sent, the folders, those files, the file of
+/// reserved numbers,
 /// the addresses.
 pub fn station_status(rt: &HostRuntime, request: &StationRequest) -> u8 {
     match started_status(rt, request) {
@@ -99,6 +108,8 @@ fn bound_status<'a>(
     let Prepared {
         config,
         carrier,
+        setup,
+        keys,
         reservation,
         held: _held,
         spool,
@@ -107,17 +118,25 @@ fn bound_status<'a>(
     exchange.numbers_left.set(reservation.numbers_left());
     let frame_count = reservation.frame_count();
     let own = WorldConfig::station(config, side_of(request)).get();
-    let pace = pace_of(request, &own, carrier);
-    match socket(rt, request, pace, reservation, &exchange) {
+    let on_link = setup.on_link(&own);
+    let pace = pace_of(request, &on_link, carrier);
+    let ends = secured_ends(&setup, keys, &reservation);
+    let numbers = SharedNumbers::over(reservation);
+    match socket(rt, request, pace, &numbers, &exchange) {
         Ok(socket) => {
             let parts = StationParts {
                 socket,
                 frame_count,
                 sources,
                 config,
+                on_link,
                 carrier,
+                numbers: &numbers,
+                ends,
             };
-            Ok(ran_status(rt, request, parts, spool, &exchange))
+            let status = ran_status(rt, request, parts, spool, &exchange);
+            let _ = numbers.settles();
+            Ok(status)
         }
         Err(status) => {
             drop(sources);
@@ -125,6 +144,21 @@ fn bound_status<'a>(
             Err(status)
         }
     }
+}
+
+/// Returns what seals and opens the frames, if they are authenticated. Their sequence numbers go on
+/// from those of earlier runs.
+fn secured_ends(
+    setup: &StationSetup,
+    keys: Option<LinkKeys>,
+    reservation: &Reservation<'_>,
+) -> Option<SecuredEnds> {
+    let (keys, securities) = (keys?, setup.securities()?);
+    Some(SecuredEnds {
+        sealer: keys.sealer(securities.sends, reservation.first_sequence_number()),
+        opener: keys.opener(securities.receives, reservation.accepted()),
+        mac_len: setup.mac_len(),
+    })
 }
 
 /// Looks whether the station has another address than its peer, and says where none of its frames
@@ -201,19 +235,74 @@ fn begun<'a>(
     setup: &StationSetup,
 ) -> Result<Prepared<'a>, u8> {
     let _ = configuration(rt, request, setup)?;
+    let keys = keys(rt, request)?;
     let held = held_inbox(rt, request)?;
     check_outbox(rt, request)?;
     let spool = spool(rt, request)?;
     let reservation = reserved(rt, request, setup)?;
+    check_kept(rt, request, &reservation)?;
     let setup = setup.beginning_at(reservation.number());
     let (config, carrier) = configuration(rt, request, &setup)?;
     Ok(Prepared {
         config,
         carrier,
+        setup,
+        keys,
         reservation,
         held,
         spool,
     })
+}
+
+/// Reads the keys, if frames are to be authenticated.
+///
+/// # Errors
+///
+/// The exit status, if they can't be read, which was reported on standard error.
+fn keys(rt: &HostRuntime, request: &StationRequest) -> Result<Option<LinkKeys>, u8> {
+    let Some(path) = &request.keys else {
+        return Ok(None);
+    };
+    check_keys_place(rt, request, path.as_str())?;
+    Ok(Some(keys_in(rt, path.as_str())?))
+}
+
+/// Checks that the file of keys is in no folder from which it is sent, or in which the peer can
+/// replace it.
+///
+/// # Errors
+///
+/// The exit status, if it is, which was reported on standard error.
+fn check_keys_place(rt: &HostRuntime, request: &StationRequest, path: &str) -> Result<(), u8> {
+    for folder in [&request.inbox, &request.outbox, &request.spool] {
+        if let Some(folder) = folder
+            && lies_in(rt, path, folder.as_str())
+        {
+            let _ = eprintln!(rt;
+                "error: {path}: lies in the folder {folder}, whose files are sent or received: \
+                 move it elsewhere"
+            );
+            return Err(MISTAKE);
+        }
+    }
+    Ok(())
+}
+
+/// Checks that the numbers of authenticated frames are kept over a restart.
+///
+/// # Errors
+///
+/// The exit status, if they aren't, which was reported on standard error.
+fn check_kept(
+    rt: &HostRuntime,
+    request: &StationRequest,
+    reservation: &Reservation<'_>,
+) -> Result<(), u8> {
+    if request.keys.is_none() || reservation.has_file() {
+        return Ok(());
+    }
+    let _ = eprintln!(rt; "error: --keys needs a state file: name one with --state");
+    Err(MISTAKE)
 }
 
 /// Takes the folder of the spool, if there is one.
@@ -277,22 +366,27 @@ fn configuration(
     }
 }
 
-/// Looks whether frames leave, where fields of frames are set.
+/// Checks that frames are sent if fields of frames are set or frames are authenticated, and that
+/// they are authenticated if the octets of their MAC are set.
 ///
 /// # Errors
 ///
-/// The exit status, where none do, which was told on standard error.
+/// The exit status, if not, which was reported on standard error.
 fn check_fields(
     rt: &HostRuntime,
     request: &StationRequest,
     setup: &StationSetup,
 ) -> Result<(), u8> {
-    if setup.has_bare_frames() || request.carrier == CarrierKind::Frames {
+    let has_frames = request.carrier == CarrierKind::Frames;
+    let _ = if !has_frames && !setup.has_bare_frames() {
+        eprintln!(rt; "error: insert_zone, control_field and error_control need --carrier frames")
+    } else if !has_frames && request.keys.is_some() {
+        eprintln!(rt; "error: --keys needs --carrier frames")
+    } else if setup.has_idle_mac() {
+        eprintln!(rt; "error: --set mac needs --keys FILE")
+    } else {
         return Ok(());
-    }
-    let _ = eprintln!(rt;
-        "error: insert_zone, control_field and error_control need --carrier frames"
-    );
+    };
     Err(MISTAKE)
 }
 
@@ -315,7 +409,9 @@ fn set_up(rt: &HostRuntime, request: &StationRequest) -> Result<StationSetup, u8
         first_number,
         ..
     } = request.numbers;
-    let mut setup = StationSetup::new(id < peer).beginning_at(first_number);
+    let mut setup = StationSetup::new(id < peer)
+        .beginning_at(first_number)
+        .with_security(request.keys.is_some());
     let words = request.sets.as_slice();
     for pair in 0..words.len() / 2 {
         set_one(
@@ -384,9 +480,15 @@ fn reserved<'a>(
     let said = if number == 0 { None } else { Some(number) };
     // Each put is two words: its source and its destination.
     let puts = request.puts.len() as u64 / 2;
+    let wanted = Wanted {
+        said,
+        width,
+        puts,
+        is_secured: request.keys.is_some(),
+    };
     if let Some(path) = &request.state {
         check_state_place(rt, request, path.as_str())?;
-        return match Reservation::take(rt, path.as_str(), said, width, puts) {
+        return match Reservation::take(rt, path.as_str(), wanted) {
             Ok(reservation) => Ok(reservation),
             Err(error) => Err(tell_state(rt, path.as_str(), &error)),
         };
@@ -396,10 +498,10 @@ fn reserved<'a>(
     }
     match numbers_folder(request) {
         Some(folder) => {
-            let is_needed = puts > 0 || request.spool.is_some();
+            let is_needed = puts > 0 || request.spool.is_some() || wanted.is_secured;
             let path = beside_told(rt, folder)?;
             check_state_place(rt, request, path.as_str())?;
-            reserved_in(rt, path.as_str(), is_needed, puts, width)
+            reserved_in(rt, path.as_str(), is_needed, wanted)
         }
         None => Ok(Reservation::by_clock(rt, None)),
     }
@@ -426,10 +528,9 @@ fn reserved_in<'a>(
     rt: &'a HostRuntime,
     path: &str,
     is_needed: bool,
-    puts: u64,
-    width: u64,
+    wanted: Wanted,
 ) -> Result<Reservation<'a>, u8> {
-    match Reservation::take(rt, path, None, width, puts) {
+    match Reservation::take(rt, path, wanted) {
         Ok(reservation) => Ok(reservation),
         Err(StateError::System(_)) if !is_needed => Ok(Reservation::by_clock(rt, None)),
         Err(error) => Err(tell_state(rt, path, &error)),
@@ -562,15 +663,15 @@ fn pace_of(request: &StationRequest, config: &StationConfig, carrier: Carrier) -
 /// # Errors
 ///
 /// The exit status, where an address can't be used, which was told on standard error.
-fn socket<'a>(
+fn socket<'a, 'n>(
     rt: &'a HostRuntime,
     request: &StationRequest,
     pace: Pace,
-    reservation: Reservation<'a>,
+    numbers: &'a SharedNumbers<'n>,
     exchange: &'a Exchange,
-) -> Result<PeerSocket<'a>, u8> {
+) -> Result<PeerSocket<'a, 'n>, u8> {
     let (listen, to) = (request.listen.as_str(), request.to.as_str());
-    match PeerSocket::bind(rt, listen, to, pace, reservation, exchange) {
+    match PeerSocket::bind(rt, listen, to, pace, numbers, exchange) {
         Ok(socket) => {
             if has_any_port(Some(listen))
                 && let Ok(address) = socket.local_address()
@@ -616,7 +717,7 @@ pub fn side_of(request: &StationRequest) -> Side {
 fn ran_status<'a>(
     rt: &'a HostRuntime,
     request: &'a StationRequest,
-    parts: StationParts<'a>,
+    parts: StationParts<'a, '_>,
     spool: Option<StationSpool<'a>>,
     exchange: &'a Exchange,
 ) -> u8 {

@@ -2,4 +2,5 @@
 
 pub mod fault;
 pub mod named_files;
+pub mod secured_links;
 pub mod telling;

@@ -4,7 +4,7 @@
 /// checksums (SHA-256 of what stands between their tags), and it asks nobody but this program.
 pub const POLICY: &str = "default-src 'none'; connect-src 'self'; img-src data:; \
     style-src 'sha256-+3fUDDRyN+MFSZaeEB4jEf//+SIuqJR2s5wu4SJMySs='; \
-    script-src 'sha256-gI/xajv4dS8Azp7VdVq2MVl6FnsRFBq4KC49Y9H0+hU='; \
+    script-src 'sha256-heb0Bnh53eGyHYVkmtLyIqmW51uIQGTAjuySrEoRjkY='; \
     base-uri 'none'; form-action 'none'; frame-ancestors 'none'";
 
 /// The page, in HTML.
@@ -316,13 +316,13 @@ put 1 a.txt b.txt
 burst 1
 strike 1 data
 
-# The EOF arrives, which shows what is missing. It is asked for, and sent again.
+# The EOF arrives and shows what is missing: it is requested and sent again.
 recover
 `,
   losses: `\
-# A file of 1,000 octets goes in ten segments. Two of them are lost, asked for, and sent again.
+# A file of 1,000 octets goes in ten segments. Two of them are lost, requested and sent again.
 
-# \`set\`, \`file\` and \`fill\` stand before all other commands. \`set\` holds for both stations.
+# \`set\`, \`file\` and \`fill\` come before all other commands. \`set\` holds for both stations.
 set segment 100
 
 # A file at station 1: 1,000 octets that are each 41 hexadecimal.
@@ -356,7 +356,7 @@ strike 1 3
 recover
 `,
   timers: `\
-# A station that hears no answer sends its EOF again, and then gives up: here it suspends the
+# A station that receives no answer sends its EOF again, and then gives up: here it suspends the
 # transaction, which its user then resumes.
 set eof_limit 1
 set on_ack_limit 1

@@ -44,6 +44,7 @@
 #![tactic(auto)]
 
 mod config;
+mod keys;
 mod laws;
 mod opening;
 mod sealing;
@@ -51,6 +52,7 @@ mod sealing;
 mod tests;
 
 pub use config::{Security, SecurityField};
+pub use keys::{LinkKeys, NamedKey};
 pub use laws::{
     only_what_was_sealed_is_taken, refused_octets_change_nothing, what_is_sealed_is_opened,
 };

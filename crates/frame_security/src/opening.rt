@@ -5,10 +5,12 @@ ghost use Rattle.std.specs.Result.{result_err};
 ghost use Rattle.std.specs.Option.{option_copied};
 ghost use Rattle.frame_fields.specs.Fields.{bare_in, control_in};
 ghost use Rattle.frame_security.specs.Frames.{frame_in, overhead, number_in};
+ghost use Rattle.frame_security.specs.Keys.{association, opener_with};
 ghost use Rattle.frame_security.specs.Opening.{after, counted, key_of, refusal};
 ghost use Rattle.frame_security.specs.Opening as opening;
 
 use crate::config::{SECURITY_HEADER_LEN, SPI_LEN, Security};
+use crate::keys::{LinkKeys, NamedKey};
 use crate::sealing::mac_of;
 use cfd_bits::{read_eight, read_uint};
 use frame_fields::{FieldsFault, HEADER_LEN};
@@ -91,6 +93,18 @@ impl Refused {
 struct Association {
     spi: u16,
     key: Key,
+}
+
+impl Association {
+    /// Returns the association of a key with its SPI.
+    fn of(named: &NamedKey) -> Association
+        ensures { result ≡ association named.now }
+    {
+        Association {
+            spi: named.spi,
+            key: Key::new(&named.key),
+        }
+    }
 }
 
 /// An accepted frame, borrowed from the octets that were received: the bare frame is its header
@@ -184,6 +198,18 @@ impl Opener {
         ensures { self.new ≡ record self.old { former = None } }
     {
         self.former = None;
+    }
+
+    /// Has these keys from now on, and no others: the latest and the former one of the peer. The
+    /// last sequence number and the counts stay.
+    pub fn change_keys(&mut self, keys: &LinkKeys)
+        ensures { self.new ≡ opener_with keys.now self.old }
+    {
+        self.latest = Association::of(&keys.receive);
+        self.former = match &keys.former {
+            Some(former) => Some(Association::of(former)),
+            None => None,
+        };
     }
 
     /// Returns the sequence number of the frame that was accepted last.

@@ -4,9 +4,11 @@ ghost use Rattle.std.specs.Prelude.{replicate, OnErr, OnOk, IsErr};
 ghost use Rattle.frame_fields.specs.Fields.{bare_in};
 ghost use Rattle.hmac.specs.Hmac.{hmac};
 ghost use Rattle.frame_security.specs.Frames.{overhead, masked, secured};
+ghost use Rattle.frame_security.specs.Keys.{sealer_with};
 ghost use Rattle.frame_security.specs.Sealing.{secured_frame};
 
 use crate::config::{SECURITY_HEADER_LEN, SPI_LEN, Security};
+use crate::keys::LinkKeys;
 use cfd_bits::{put_bytes, put_eight, put_uint};
 use frame_fields::HEADER_LEN;
 use hmac::Key;
@@ -78,6 +80,13 @@ impl Sealer {
     {
         self.spi = spi;
         self.key = Key::new(key);
+    }
+
+    /// Seals under the sending key of these from now on. The sequence numbers go on.
+    pub fn change_keys(&mut self, keys: &LinkKeys)
+        ensures { self.new ≡ sealer_with keys.now self.old }
+    {
+        self.change_key(keys.send.spi, &keys.send.key);
     }
 
     /// Returns the sequence number of the next frame.

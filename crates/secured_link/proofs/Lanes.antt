@@ -249,7 +249,7 @@ module _ (all : List SealedIn) (next : ℕ) (from : Lane → List (List ℕ)) wh
   hears o [] taken short most s none = (taken, refl, s)
   hears o (a ∷ came) taken short most s none =
       let number : ℕ = number_in (bare_in o.security.fields a.octets) in
-      let one = step o a taken short most s (none a (0, omega arith, refl)) (refusal o a.octets) a.room refl in
+      let one = step o a taken short most s (none a (0, omega arith, refl)) (refusal o a.octets) a.handed_on refl in
       let more = hears (after o a.octets) came one.now one.near (keeps_size (refusal o a.octets) number o most) one.stands (keeps (refusal o a.octets) number o a came none) in
       (more.0, one.in_order (frames_of_all (after o a.octets) came) more.0 more.1, more.2)
 

@@ -1,3 +1,8 @@
 mod Lanes
+mod Arriving
 mod Turns
 mod Copies
+mod Accepting
+mod Keeping
+mod Serving
+mod Lives

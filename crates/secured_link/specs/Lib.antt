@@ -1,2 +1,4 @@
 pub mod Turns
 pub mod Copies
+pub mod Serving
+pub mod Lives

@@ -8,6 +8,7 @@ use Rattle.cfdp_port.specs.Pair.{PairState, Turns}
 use Rattle.cfdp_port.specs.Passing.{frames_left}
 use Rattle.ports_in_order.specs.InOrder.{PassInOrder, Passage}
 use Rattle.secured_wire.specs.Direction.{NoneForgedOf, SealedIn}
+use Rattle.secured_wire.specs.Keeping.{KeeperCall}
 use Rattle.secured_wire.specs.Passing.{arrivals, sealed_in}
 use Rattle.secured_wire.specs.Secured.{Secures, SecuredState}
 
@@ -16,64 +17,65 @@ abbrev pub BothBegin : {W : Type 0} → PairState (SecuredState W) → Type 0
 BothBegin first = (first.one.wire.opener.security.mac_len ≤ 32)
     × (first.two.wire.opener.security.mac_len ≤ 32)
 
-module _ {W : Type 0} (Steps : W → WireCall → W → Type 0) (id : TransactionId) where
+module _ {W : Type 0} (Steps : W → WireCall → W → Type 0) (Calls : KeeperCall → Type 0)
+    (id : TransactionId) where
   -- all that the first station sealed in these turns, and the second one
   abbrev pub sealed_one : (count : ℕ) → (old new : PairState (SecuredState W))
-      → Turns (Secures Steps) id count old new → List SealedIn
+      → Turns (Secures Steps Calls) id count old new → List SealedIn
   sealed_one zero old new same = []
   sealed_one (suc count) old new (mid, before, unclosed, turn) =
       let sends = turn.one_sends.sends in
-      sealed_one count old mid before ++ sealed_in Steps sends.count _ _ sends.sent
+      sealed_one count old mid before ++ sealed_in Steps Calls sends.count _ _ sends.sent
 
   abbrev pub sealed_two : (count : ℕ) → (old new : PairState (SecuredState W))
-      → Turns (Secures Steps) id count old new → List SealedIn
+      → Turns (Secures Steps Calls) id count old new → List SealedIn
   sealed_two zero old new same = []
   sealed_two (suc count) old new (mid, before, unclosed, turn) =
       let sends = turn.two_sends.sends in
-      sealed_two count old mid before ++ sealed_in Steps sends.count _ _ sends.sent
+      sealed_two count old mid before ++ sealed_in Steps Calls sends.count _ _ sends.sent
 
   -- all frames that left the first station in a lane, and the second one
   abbrev pub left_one : (count : ℕ) → (old new : PairState (SecuredState W))
-      → Turns (Secures Steps) id count old new → Lane → List (List ℕ)
+      → Turns (Secures Steps Calls) id count old new → Lane → List (List ℕ)
   left_one zero old new same lane = []
   left_one (suc count) old new (mid, before, unclosed, turn) lane =
       let sends = turn.one_sends.sends in
       left_one count old mid before lane
-      ++ frames_left (Secures Steps) lane sends.count _ _ sends.sent
+      ++ frames_left (Secures Steps Calls) lane sends.count _ _ sends.sent
 
   abbrev pub left_two : (count : ℕ) → (old new : PairState (SecuredState W))
-      → Turns (Secures Steps) id count old new → Lane → List (List ℕ)
+      → Turns (Secures Steps Calls) id count old new → Lane → List (List ℕ)
   left_two zero old new same lane = []
   left_two (suc count) old new (mid, before, unclosed, turn) lane =
       let sends = turn.two_sends.sends in
       left_two count old mid before lane
-      ++ frames_left (Secures Steps) lane sends.count _ _ sends.sent
+      ++ frames_left (Secures Steps Calls) lane sends.count _ _ sends.sent
 
   -- **None was forged**: all octets that arrived in these turns with a right MAC had been sealed by
   -- the other station.
   abbrev pub NoneForgedIn : (count : ℕ) → (old new : PairState (SecuredState W))
-      → Turns (Secures Steps) id count old new → Type 0
+      → Turns (Secures Steps Calls) id count old new → Type 0
   NoneForgedIn zero old new same = ⊤
   NoneForgedIn (suc count) old new (mid, before, unclosed, turn) =
       let one_sends = turn.one_sends.sends in
       let two_sends = turn.two_sends.sends in
       NoneForgedIn count old mid before
       × NoneForgedOf turn.two.wire.opener
-      (sealed_one count old mid before ++ sealed_in Steps one_sends.count _ _ one_sends.sent)
-      (arrivals Steps turn.two_hears.count _ _ turn.two_hears.heard)
+      (sealed_one count old mid before ++ sealed_in Steps Calls one_sends.count _ _ one_sends.sent)
+      (arrivals Steps Calls turn.two_hears.count _ _ turn.two_hears.heard)
       × NoneForgedOf turn.one.wire.opener
-      (sealed_two count old mid before ++ sealed_in Steps two_sends.count _ _ two_sends.sent)
-      (arrivals Steps turn.one_hears.count _ _ turn.one_hears.heard)
+      (sealed_two count old mid before ++ sealed_in Steps Calls two_sends.count _ _ two_sends.sent)
+      (arrivals Steps Calls turn.one_hears.count _ _ turn.one_hears.heard)
 
   -- **Few were lost in a row**: in whichever way the turns before were in order, at most as many
   -- frames of a lane have left, by the end of a turn's sending, after the last one that was lost or
   -- arrived, as there are frame counts.
   abbrev pub FewLost : (count : ℕ) → (old new : PairState (SecuredState W))
-      → Turns (Secures Steps) id count old new → Type 0
+      → Turns (Secures Steps Calls) id count old new → Type 0
   FewLost zero old new same = ⊤
   FewLost (suc count) old new (mid, before, unclosed, turn) =
       FewLost count old mid before
-      × ((earlier : Passage) → PassInOrder (Secures Steps) id count old mid before earlier
+      × ((earlier : Passage) → PassInOrder (Secures Steps Calls) id count old mid before earlier
       → (lane : Lane)
       → (length (left_one (suc count) old new (mid, before, unclosed, turn) lane)
       ≤ earlier.taken_one lane + frame_counts)

@@ -19,18 +19,19 @@ abbrev pub bares_in : Lane → List SealedIn → List (List ℕ)
 bares_in lane [] = []
 bares_in lane (x ∷ more) = in_lane lane x.lane x.frame.bare ++ bares_in lane more
 
--- Octets that arrived over the wire behind, and whether the caller had room for the frame in them.
+-- Octets that arrived over the wire behind, and whether an accepted frame in them is handed on: the
+-- keeper noted its number, and the caller had room for it.
 pub record Arrival : Type 0 where
   pub octets : List ℕ
-  pub room : Bool
+  pub handed_on : Bool
 
--- the bare frame, if the octets aren't refused and there was room for it
-abbrev pub frames_by : (room : Bool) → Option Refusal → (bare : List ℕ) → List (List ℕ)
+-- the bare frame, if the octets aren't refused and it is handed on
+abbrev pub frames_by : (handed_on : Bool) → Option Refusal → (bare : List ℕ) → List (List ℕ)
 frames_by true fault bare = given_by fault bare
 frames_by false fault bare = []
 
 abbrev pub frames_of : Arrival → OpenerState → List (List ℕ)
-frames_of a o = frames_by a.room (refusal o a.octets)
+frames_of a o = frames_by a.handed_on (refusal o a.octets)
     (frame_in o.security (bare_in o.security.fields a.octets))
 
 -- the frames of all arrivals, one after another, and the opener after them

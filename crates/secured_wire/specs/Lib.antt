@@ -1,3 +1,4 @@
+pub mod Keeping
 pub mod Secured
 pub mod Direction
 pub mod Passing

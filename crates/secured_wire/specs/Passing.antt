@@ -10,23 +10,24 @@ use Rattle.cfdp_port.specs.Port.{PortState}
 use Rattle.cfdp_port.specs.Turn.{AsksOn, SendsFrame}
 use Rattle.cfdp_port.specs.declared.wire.WireFault.{WireFault}
 use Rattle.secured_wire.specs.Direction.{Arrival, SealedIn}
+use Rattle.secured_wire.specs.Keeping.{KeeperCall}
 use Rattle.secured_wire.specs.Secured.{Came, Opens, Secures, SecuredState}
 
--- the octets that the wire behind answered, and whether there was room for the frame in them
-abbrev pub arrival_of : (behind came : Came) → (old new : OpenerState) → Opens behind came old new
-    → List Arrival
-arrival_of (Ok (Some octets)) came old new (is, inl opened) =
-    record { octets = octets; room = true } ∷ []
-arrival_of (Ok (Some octets)) came old new (is, inr lost) =
-    record { octets = octets; room = false } ∷ []
-arrival_of (Ok None) came old new is = []
-arrival_of (Err fault) came old new is = []
+-- the octets that the wire behind answered, and whether an accepted frame in them is handed on
+abbrev pub arrival_of : (Calls : KeeperCall → Type 0) → (room : ℕ) → (behind came : Came)
+    → (old new : OpenerState) → Opens Calls room behind came old new → List Arrival
+arrival_of Calls room (Ok (Some octets)) came old new (is, inl opened) =
+    record { octets = octets; handed_on = true } ∷ []
+arrival_of Calls room (Ok (Some octets)) came old new (is, inr lost) =
+    record { octets = octets; handed_on = false } ∷ []
+arrival_of Calls room (Ok None) came old new is = []
+arrival_of Calls room (Err fault) came old new is = []
 
-module _ {W : Type 0} (Steps : W → WireCall → W → Type 0) where
+module _ {W : Type 0} (Steps : W → WireCall → W → Type 0) (Calls : KeeperCall → Type 0) where
   -- how a frame of this lane was sealed, unless it was lost before
   abbrev pub sealed_by_call : (lane : Lane) → (frame : List ℕ)
       → (answer : Result (Unit {0}) WireFault) → (old new : SecuredState W)
-      → Secures Steps old (Sent frame answer) new → List SealedIn
+      → Secures Steps Calls old (Sent frame answer) new → List SealedIn
   sealed_by_call lane frame answer old new (inl sends) =
       record {
         lane = lane;
@@ -41,7 +42,7 @@ module _ {W : Type 0} (Steps : W → WireCall → W → Type 0) where
 
   -- what was sealed as so many frames left, in order
   abbrev pub sealed_in : (count : ℕ) → (old new : PortState (SecuredState W))
-      → Times (SendsFrame (Secures Steps)) count old new → List SealedIn
+      → Times (SendsFrame (Secures Steps Calls)) count old new → List SealedIn
   sealed_in zero old new same = []
   sealed_in (suc count) old new (mid, before, step) =
       sealed_in count old mid before
@@ -49,8 +50,9 @@ module _ {W : Type 0} (Steps : W → WireCall → W → Type 0) where
 
   -- what arrived in so many questions, in order
   abbrev pub arrivals : (count : ℕ) → (old new : PortState (SecuredState W))
-      → Times (AsksOn (Secures Steps)) count old new → List Arrival
+      → Times (AsksOn (Secures Steps Calls)) count old new → List Arrival
   arrivals zero old new same = []
   arrivals (suc count) old new (mid, before, step) =
       arrivals count old mid before
-      ++ arrival_of step.2.asked.behind step.0 mid.wire.opener new.wire.opener step.2.asked.opens
+      ++ arrival_of Calls step.2.asked.0 step.2.asked.1.behind step.0 mid.wire.opener
+      new.wire.opener step.2.asked.1.opens

@@ -1,12 +1,12 @@
 //! The wire.
-ghost use Rattle.std.specs.Prelude.{◌≡◌, ◌+◌, ◌-◌, ◌^◌, ◌<◌, ◌≤◌, Ok, Some, length, take, IfOk};
-ghost use Rattle.std.specs.Prelude.{IfSome, OnErr, OnOk};
-ghost use Rattle.frame_security.specs.Frames.{frame_in, overhead};
+ghost use Rattle.std.specs.Prelude.{◌≡◌, ◌+◌, ◌-◌, ◌^◌, ◌<◌, ◌≤◌, ◌++◌, Ok, Err, Some, length};
+ghost use Rattle.std.specs.Prelude.{take, IfOk, IfSome, OnErr, OnOk};
+ghost use Rattle.frame_security.specs.Frames.{overhead};
 ghost use Rattle.frame_security.specs.Sealing.{secured_frame};
 ghost use Rattle.cfdp_port.specs.Calls.{brought};
-ghost use Rattle.frame_fields.specs.Fields.{bare_in};
-ghost use Rattle.secured_wire.specs.Secured.{Opens, Secures, opened};
+ghost use Rattle.secured_wire.specs.Secured.{AsksBehind, Opens, Secures};
 
+use crate::keeper::Keeper;
 use cfd_bits::put_bytes;
 use cfdp_port::{PeerWire, Wire, WireFault};
 use frame_fields::HEADER_LEN;
@@ -16,16 +16,18 @@ use std::marker::Model;
 
 /// A wire that secures each frame that is sent over the wire behind it. Of what arrives there it
 /// answers only frames that the peer sealed, each at most once, in the order in which the peer sent
-/// them. It has no `Debug`, so that no key is printed.
+/// them. Its keeper notes each number before the frame is answered. It has no `Debug`, so that no
+/// key is printed.
 ///
 /// # Examples
 ///
 /// ```text
-/// let wire = SecuredWire::new(alloc, udp, sealer, opener, 2048)?;
+/// let wire = SecuredWire::new(alloc, udp, keeper, sealer, opener, 2048)?;
 /// ```
 #[derive(Drop)]
-pub struct SecuredWire<W: Wire> {
+pub struct SecuredWire<W: Wire, K: Keeper> {
     wire: W,
+    keeper: K,
     sealer: Sealer,
     opener: Opener,
     most: usize,
@@ -33,7 +35,7 @@ pub struct SecuredWire<W: Wire> {
     came: Vec<u8>,
 }
 
-impl<W: Wire> Model for SecuredWire<W> {
+impl<W: Wire, K: Keeper> Model for SecuredWire<W, K> {
     ghost use Rattle.std.specs.Prelude.{◌+◌, ◌≤◌};
     ghost use Rattle.std.specs.Vec.{vec_len};
     ghost use Rattle.frame_security.specs.Frames.{overhead};
@@ -51,10 +53,10 @@ impl<W: Wire> Model for SecuredWire<W> {
     ghost invariant = { λ s. s.most + overhead s.sealer.security ≤ vec_len s.sent };
 }
 
-impl<W: Wire> SecuredWire<W> {
+impl<W: Wire, K: Keeper> SecuredWire<W, K> {
     /// Returns a secured wire over this one, for bare frames of up to `frame_len` octets, which
     /// must be at most 65,536. A longer frame is lost when it is sent. The sealer and the opener
-    /// must not have a key in common.
+    /// must not have a key in common, and must begin with the numbers that the keeper noted.
     ///
     /// # Errors
     ///
@@ -62,6 +64,7 @@ impl<W: Wire> SecuredWire<W> {
     pub fn new(
         alloc: Global,
         wire: W,
+        keeper: K,
         sealer: Sealer,
         opener: Opener,
         frame_len: usize,
@@ -78,6 +81,7 @@ impl<W: Wire> SecuredWire<W> {
         let came = vec![in alloc; 0u8; frame_len + opener.overhead()]?;
         Ok(SecuredWire {
             wire,
+            keeper,
             sealer,
             opener,
             most: frame_len,
@@ -106,10 +110,34 @@ impl<W: Wire> SecuredWire<W> {
     {
         self.opener.refused()
     }
+
+    /// Does what [`Wire::receive`] says. An accepted frame is answered if the keeper notes its
+    /// number and the buffer has room for it.
+    ///
+    /// # Errors
+    ///
+    /// `WireFault` if the wire behind couldn't be asked, if what arrived is refused, if the keeper
+    /// can't note the frame, or if the buffer has no room for it.
+    pub fn receive_frame(&mut self, buffer: &mut [u8]) -> Result<Option<usize>, WireFault>
+        ensures asked { AsksBehind W.steps K.calls (length buffer.old) (brought result buffer.new)
+            self.old self.new }
+        ensures within { IfOk result (λ came. IfSome came (λ len. len ≤ length buffer.new)) }
+    {
+        match self.wire.receive(&mut self.came) {
+            Ok(Some(len)) => open_into(
+                &mut self.opener,
+                &mut self.keeper,
+                &self.came[..len],
+                buffer,
+            ),
+            Ok(None) => Ok(None),
+            Err(fault) => Err(fault),
+        }
+    }
 }
 
-impl<W: Wire> Wire for SecuredWire<W> {
-    ghost steps = { λ old call new. Secures W.steps old call new };
+impl<W: Wire, K: Keeper> Wire for SecuredWire<W, K> {
+    ghost steps = { λ old call new. Secures W.steps K.calls old call new };
 
     fn send(&mut self, frame: &[u8]) -> Result<(), WireFault> {
         if frame.len() < HEADER_LEN || self.most < frame.len() {
@@ -120,11 +148,7 @@ impl<W: Wire> Wire for SecuredWire<W> {
     }
 
     fn receive(&mut self, buffer: &mut [u8]) -> Result<Option<usize>, WireFault> {
-        match self.wire.receive(&mut self.came) {
-            Ok(Some(len)) => open_into(&mut self.opener, &self.came[..len], buffer),
-            Ok(None) => Ok(None),
-            Err(fault) => Err(fault),
-        }
+        self.receive_frame(buffer)
     }
 }
 
@@ -148,34 +172,57 @@ fn seal_into(sealer: &mut Sealer, frame: &[u8], out: &mut [u8]) -> Result<usize,
 }
 
 /// Verifies octets that arrived, and writes the bare frame to the front of the buffer. They are
-/// lost if they are refused, or if the buffer has no room for the frame.
-fn open_into(
+/// lost if they are refused, if the keeper can't note their number, or if the buffer has no room
+/// for the frame.
+fn open_into<K: Keeper>(
     opener: &mut Opener,
+    keeper: &mut K,
     octets: &[u8],
     buffer: &mut [u8],
 ) -> Result<Option<usize>, WireFault>
-    ensures opens { Opens (Ok (Some octets.now)) (brought result buffer.new) opener.old opener.new }
-    // If the buffer has room for the frame, it isn't lost.
-    ensures room { length (frame_in opener.old.security
-        (bare_in opener.old.security.fields octets.now)) ≤ length buffer.old
-        → brought result buffer.new ≡ opened opener.old octets.now }
+    ensures opens { Opens K.calls (length buffer.old) (Ok (Some octets.now))
+        (brought result buffer.new) opener.old opener.new }
     ensures within { IfOk result (λ came. IfSome came (λ len. len ≤ length buffer.new)) }
 {
-    let Ok(opened) = opener.open(octets) else {
-        return Err(WireFault);
+    let opened = match opener.open(octets) {
+        Ok(opened) => opened,
+        Err(cause) => {
+            keeper.refuses(cause);
+            return Err(WireFault);
+        }
     };
-    if buffer.len() < opened.header.len() {
+    if !keeper.keeps(opener.last()) {
         return Err(WireFault);
     }
-    if buffer.len() - opened.header.len() < opened.mpdu.len() {
-        return Err(WireFault);
-    }
-    let at = put_bytes(buffer, 0, opened.header);
-    Ok(Some(put_bytes(buffer, at, opened.mpdu)))
+    put_frame(opened.header, opened.mpdu, buffer)
 }
 
-impl<W: PeerWire> PeerWire for SecuredWire<W> {
+/// Writes a frame, which is given in two parts, to the front of the buffer. The frame is lost if
+/// the buffer has no room for it.
+fn put_frame(header: &[u8], mpdu: &[u8], buffer: &mut [u8]) -> Result<Option<usize>, WireFault>
+    ensures put { length (header.now ++ mpdu.now) ≤ length buffer.old
+        → brought result buffer.new ≡ Ok (Some (header.now ++ mpdu.now)) }
+    ensures lost { length buffer.old < length (header.now ++ mpdu.now)
+        → brought result buffer.new ≡ Err (record {}) }
+    ensures within { IfOk result (λ came. IfSome came (λ len. len ≤ length buffer.new)) }
+{
+    if buffer.len() < header.len() {
+        return Err(WireFault);
+    }
+    if buffer.len() - header.len() < mpdu.len() {
+        return Err(WireFault);
+    }
+    let at = put_bytes(buffer, 0, header);
+    Ok(Some(put_bytes(buffer, at, mpdu)))
+}
+
+impl<W: PeerWire, K: Keeper> PeerWire for SecuredWire<W, K> {
+    /// Asks the keeper for new keys first, and changes to these.
     fn now(&mut self) -> u64 {
+        if let Some(keys) = self.keeper.new_keys() {
+            self.sealer.change_keys(&keys);
+            self.opener.change_keys(&keys);
+        }
         self.wire.now()
     }
 

@@ -5,7 +5,7 @@ use crate::journal::register::{Known, Register, is_open};
 use crate::journal::stopped::Stopped;
 use crate::journal::totals::Totals;
 use cfdp_console::Way;
-use cfdp_exchange::FrameGaps;
+use cfdp_exchange::{Exchange, REFUSALS, refusal_name};
 use cfdp_header::TransactionId;
 use cfdp_report::{Name, parse_id};
 use cfdp_station::{EntityDrop, FrameError, LinkDrop, Phase, Station, Timer};
@@ -409,19 +409,20 @@ pub fn write_counters<O: Outbox, I: Inbox, W: fmt::Write>(
     out: &mut W,
     form: Form,
     totals: &Totals,
-    gaps: &FrameGaps,
+    exchange: &Exchange,
     station: &Station<O, I>,
 ) -> fmt::Result {
     match form {
         Form::Text => {
-            for (name, count) in figures(totals, gaps, station) {
+            for (name, count) in figures(totals, exchange, station) {
                 writeln!(out, "{name} {count}")?;
             }
+            write_refused_lines(out, exchange)?;
             write_dropped_lines(out, station)
         }
         Form::Json => {
             write!(out, "{{")?;
-            write_counter_members(out, totals, gaps, station)?;
+            write_counter_members(out, totals, exchange, station)?;
             writeln!(out, "}}")
         }
     }
@@ -435,21 +436,22 @@ pub fn write_counters<O: Outbox, I: Inbox, W: fmt::Write>(
 pub fn write_counter_members<O: Outbox, I: Inbox, W: fmt::Write>(
     out: &mut W,
     totals: &Totals,
-    gaps: &FrameGaps,
+    exchange: &Exchange,
     station: &Station<O, I>,
 ) -> fmt::Result {
-    let figures = figures(totals, gaps, station);
+    let figures = figures(totals, exchange, station);
     write_members(out, &figures)?;
+    write_refused_members(out, exchange)?;
     write_dropped_members(out, station)
 }
 
 /// The counters but for what was dropped, by their names.
 fn figures<O: Outbox, I: Inbox>(
     totals: &Totals,
-    gaps: &FrameGaps,
+    exchange: &Exchange,
     station: &Station<O, I>,
 ) -> [(&'static str, u64); 15] {
-    let sent = station.counters().sent;
+    let (sent, gaps) = (station.counters().sent, &exchange.gaps);
     let pdus = sent
         .file_data
         .saturating_add(sent.file_data_again)
@@ -475,6 +477,17 @@ fn figures<O: Outbox, I: Inbox>(
         ),
         ("datagrams_thrown_away", gaps.thrown_away()),
     ]
+}
+
+/// Writes a line for each cause by which frames of a secured link were refused.
+fn write_refused_lines<W: fmt::Write>(out: &mut W, exchange: &Exchange) -> fmt::Result {
+    let mut number = 0u8;
+    for cause in REFUSALS {
+        number = number.saturating_add(1);
+        let count = exchange.refused.of(cause);
+        write_dropped(out, "security", number, refusal_name(cause), count)?;
+    }
+    Ok(())
 }
 
 /// Writes a line for each cause by which something was dropped.
@@ -523,6 +536,17 @@ fn write_members<W: fmt::Write>(out: &mut W, figures: &[(&'static str, u64)]) ->
         write!(out, "\"{name}\":{count}")?;
     }
     Ok(())
+}
+
+/// Writes what was refused of a secured link as a member of an object.
+fn write_refused_members<W: fmt::Write>(out: &mut W, exchange: &Exchange) -> fmt::Result {
+    write!(out, ",\"security_drops\":{{")?;
+    let mut has_one = false;
+    for cause in REFUSALS {
+        let count = exchange.refused.of(cause);
+        has_one = write_member(out, refusal_name(cause), count, has_one)?;
+    }
+    write!(out, "}}")
 }
 
 /// Writes what was dropped as two members of an object.

@@ -8,6 +8,8 @@ use std::fmt;
 pub enum Stopped {
     /// It sends nothing: the counts of its frames can't be reserved.
     Frames(Stop),
+    /// It accepts nothing: the sequence numbers of the peer's frames can't be reserved.
+    Accepting(Stop),
     /// It makes no put: transaction numbers can't be reserved.
     Puts(Stop),
 }
@@ -15,10 +17,12 @@ pub enum Stopped {
 impl Stopped {
     /// Returns what the station doesn't do now; `None` if it does all.
     pub fn at(exchange: &Exchange) -> Option<Stopped> {
-        match (exchange.no_counts.get(), exchange.no_numbers.get()) {
-            (Some(stop), _) => Some(Stopped::Frames(stop)),
-            (None, Some(stop)) => Some(Stopped::Puts(stop)),
-            (None, None) => None,
+        if let Some(stop) = exchange.no_counts.get() {
+            Some(Stopped::Frames(stop))
+        } else if let Some(stop) = exchange.no_accepting.get() {
+            Some(Stopped::Accepting(stop))
+        } else {
+            Some(Stopped::Puts(exchange.no_numbers.get()?))
         }
     }
 }
@@ -28,6 +32,7 @@ impl fmt::Display for Stopped {
     fn fmt<W: fmt::Write>(&self, f: &mut fmt::Formatter<W>) -> fmt::Result {
         match self {
             Stopped::Frames(stop) => write!(f, "nothing is sent: {}", StopCause(*stop)),
+            Stopped::Accepting(stop) => write!(f, "nothing is accepted: {}", StopCause(*stop)),
             Stopped::Puts(stop) => write!(f, "no further file is sent: {}", StopCause(*stop)),
         }
     }

@@ -17,7 +17,7 @@ use crate::journal::overview::{Form, write_counter_members, write_counters};
 use crate::journal::style::{Log, Style};
 use crate::journal::totals::Totals;
 use cfdp_directives::{Condition, Indication};
-use cfdp_exchange::FrameGaps;
+use cfdp_exchange::Exchange;
 use cfdp_report::{Answer, Answered, Name, write_answer, write_indications};
 use cfdp_service::{Outcome, PutNames};
 use cfdp_station::{PutError, RequestError, Station};
@@ -200,6 +200,30 @@ pub fn tell_change<V: Write>(
     }
 }
 
+/// Reports that the station changed its keys.
+///
+/// # Errors
+///
+/// Those of the writer.
+pub fn tell_rekey<V: Write>(out: &mut V, line: &mut Vec<u8>, log: Log<'_>) -> io::Result<()>
+    ensures { OnOk result (WritesAs log.entry.own log.entry.style Notes (V.contents out.old)
+        (V.contents out.new)) }
+{
+    match log.style {
+        Style::Plain => Ok(()),
+        Style::Text => {
+            line.clear();
+            add_time(line, log)?;
+            writeln!(line, "rekey")?;
+            write_line(out, line.as_slice())
+        }
+        Style::Json { .. } => {
+            begin_object(out, log, "rekey")?;
+            end_object(out)
+        }
+    }
+}
+
 /// Tells what became of a file that lay in a spool, and why, where that is known.
 ///
 /// # Errors
@@ -263,7 +287,7 @@ pub fn tell_end<O: Outbox, I: Inbox, V: Write>(
     line: &mut Vec<u8>,
     log: Log<'_>,
     totals: &Totals,
-    gaps: &FrameGaps,
+    exchange: &Exchange,
     station: &Station<O, I>,
 ) -> io::Result<()>
     ensures { OnOk result (WritesAs log.entry.own log.entry.style
@@ -275,13 +299,13 @@ pub fn tell_end<O: Outbox, I: Inbox, V: Write>(
         Style::Plain => write_count(out, complete, asked),
         Style::Text => {
             line.clear();
-            add_counters(line, log, totals, gaps, station)?;
+            add_counters(line, log, totals, exchange, station)?;
             add_time(line, log)?;
             write_count(line, complete, asked)?;
             write_line(out, line.as_slice())
         }
         Style::Json { .. } => {
-            write_counters_object(out, log, totals, gaps, station)?;
+            write_counters_object(out, log, totals, exchange, station)?;
             write_count_object(out, log, complete, asked)
         }
     }
@@ -300,11 +324,11 @@ fn add_counters<O: Outbox, I: Inbox>(
     line: &mut Vec<u8>,
     log: Log<'_>,
     totals: &Totals,
-    gaps: &FrameGaps,
+    exchange: &Exchange,
     station: &Station<O, I>,
 ) -> io::Result<()> {
     let mut text = String::new(log.rt.alloc());
-    let _ = write_counters(&mut text, Form::Text, totals, gaps, station);
+    let _ = write_counters(&mut text, Form::Text, totals, exchange, station);
     for row in text.as_str().lines() {
         add_time(line, log)?;
         writeln!(line, "{row}")?;
@@ -317,11 +341,11 @@ fn write_counters_object<O: Outbox, I: Inbox, V: Write>(
     out: &mut V,
     log: Log<'_>,
     totals: &Totals,
-    gaps: &FrameGaps,
+    exchange: &Exchange,
     station: &Station<O, I>,
 ) -> io::Result<()> {
     let mut text = String::new(log.rt.alloc());
-    if write_counter_members(&mut text, totals, gaps, station).is_err() {
+    if write_counter_members(&mut text, totals, exchange, station).is_err() {
         return Ok(());
     }
     begin_object(out, log, "counters")?;

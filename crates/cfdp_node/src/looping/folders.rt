@@ -2,6 +2,7 @@
 ghost use Rattle.std.specs.Prelude.{IfOk};
 ghost use Rattle.cfdp_node.specs.Looping.Asked.{AreAsked, AreFor};
 
+use crate::looping::security::{LoopSecurity, secured};
 use crate::looping::udp::UdpWire;
 use crate::looping::{LoopEnds, LoopOptions, run_loop};
 use crate::transfers::named_files::{
@@ -34,21 +35,34 @@ const MOST_TURNS: u64 = 1_000_000;
 /// Sends the file that is asked for, writes the report to standard output, and says on standard
 /// error what went wrong. Answers the exit status.
 ///
-/// What may be wrong is looked for in this order: what is set, both names, the folder and the file
-/// that is to be sent, the other folder, the sockets.
+/// What may be wrong is looked for in this order: what is set, the file of keys, both names, the
+/// folder and the file that is to be sent, the other folder, the sockets.
 pub fn loop_status(rt: &HostRuntime, request: &LoopRequest) -> u8 {
     let (told, progress) = (Cell::new(false), Progress::new(rt));
-    match options(rt, request) {
-        Ok(options) => from_folder(rt, request, &options, &told, &progress),
+    match prepared(rt, request) {
+        Ok(prepared) => from_folder(rt, request, &prepared, &told, &progress),
         Err(status) => status,
     }
+}
+
+/// What is to be sent and how, and how frames are authenticated, if they are.
+type Prepared = (LoopOptions, Option<LoopSecurity>);
+
+/// Looks at what is set and at the keys.
+///
+/// # Errors
+///
+/// The exit status, where something is wrong, which was told on standard error.
+fn prepared(rt: &HostRuntime, request: &LoopRequest) -> Result<Prepared, u8> {
+    let options = options(rt, request)?;
+    secured(rt, request, options)
 }
 
 /// Sends the file of its folder.
 fn from_folder(
     rt: &HostRuntime,
     request: &LoopRequest,
-    options: &LoopOptions,
+    prepared: &Prepared,
     told: &Cell<bool>,
     progress: &Progress<'_>,
 ) -> u8 {
@@ -56,7 +70,7 @@ fn from_folder(
         Ok(outbox) => {
             let from = request.from.as_str();
             let outbox = TellingOutbox::over(rt, from, outbox, told, progress);
-            sent_status(rt, request, options, outbox, told, progress)
+            sent_status(rt, request, prepared, outbox, told, progress)
         }
         Err(status) => status,
     }
@@ -143,15 +157,22 @@ fn check_open(rt: &HostRuntime, path: &str, name: &str) -> Result<(), u8> {
 fn sent_status<O: Outbox>(
     rt: &HostRuntime,
     request: &LoopRequest,
-    options: &LoopOptions,
+    prepared: &Prepared,
     outbox: O,
     told: &Cell<bool>,
     progress: &Progress<'_>,
 ) -> u8 {
     let losses = Cell::new(frame_losses(request.losses));
+    let (options, security) = prepared;
     match way(rt, request, &losses) {
         Ok((wires, held)) => {
-            let ran = sent(rt, request, options, outbox, wires, told, progress);
+            let ran = match security {
+                Some(security) => match security.wires(rt.alloc(), wires) {
+                    Ok(wires) => sent(rt, request, options, outbox, wires, told, progress),
+                    Err(AllocError) => Ran::unseen(Exit::Device(Fault::NoMemoryAtStart)),
+                },
+                None => sent(rt, request, options, outbox, wires, told, progress),
+            };
             held.clear(rt, request.to.as_str());
             tell_untold(rt, ran.exit, told);
             shown_status(rt, &request.shown, &ran)

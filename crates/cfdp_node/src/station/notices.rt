@@ -1,9 +1,9 @@
 //! What an operator is told on standard error while a station runs.
 use crate::transfers::telling::LoopLookout;
-use cfdp_command_line::TimeUnit;
+use cfdp_command_line::{CarrierKind, TimeUnit};
 use cfdp_datagrams::frame_len;
 use cfdp_directives::{Handler, Indication, Phase, Policy};
-use cfdp_exchange::{Beacon, CarrierDrop, Exchange, FrameMonitor, is_often_late};
+use cfdp_exchange::{Beacon, CarrierDrop, Exchange, FrameMonitor, REFUSALS, is_often_late};
 use cfdp_header::TransactionId;
 use cfdp_journal::Stopped;
 use cfdp_port::{Lookout, Passed};
@@ -117,13 +117,17 @@ pub struct Notices<'a> {
     pub lookout: LoopLookout<'a>,
     rt: &'a HostRuntime,
     exchange: &'a Exchange,
+    // How the station is set up, and the same with the frames that are on the link, which are longer
+    // if they are secured.
     config: StationConfig,
+    on_link: StationConfig,
     to: &'a str,
     start: Option<Instant>,
     foreign: Foreign,
     link: [Tally; 12],
     pdus: [Tally; 17],
     datagrams: [Tally; 8],
+    refused: [Tally; 5],
     // Whether something of the link came in this turn. When something did last, when it was looked
     // what is waited for, and when what was told last.
     hears: bool,
@@ -142,19 +146,22 @@ pub struct Notices<'a> {
 }
 
 impl<'a> Notices<'a> {
-    /// Before the first turn of a station whose peer has this address.
+    /// Before the first turn of a station whose peer has this address, and which is set up like the
+    /// first configuration; the second one has the frames that are on the link.
     pub fn new(
         rt: &'a HostRuntime,
         lookout: LoopLookout<'a>,
         exchange: &'a Exchange,
-        config: StationConfig,
+        configs: (StationConfig, StationConfig),
         to: &'a str,
     ) -> Notices<'a> {
+        let (config, on_link) = configs;
         Notices {
             lookout,
             rt,
             exchange,
             config,
+            on_link,
             to,
             start: Instant::now(rt).ok(),
             foreign: Foreign {
@@ -165,6 +172,7 @@ impl<'a> Notices<'a> {
             link: [Tally::NONE; 12],
             pdus: [Tally::NONE; 17],
             datagrams: [Tally::NONE; 8],
+            refused: [Tally::NONE; 5],
             hears: false,
             heard: 0,
             looked: 0,
@@ -256,13 +264,25 @@ impl<'a> Notices<'a> {
         }
     }
 
+    /// Reports how many frames of a secured link were refused.
+    fn tell_refusals(&mut self, now: u64) {
+        for (place, cause) in REFUSALS.iter().enumerate() {
+            let _ = self.refused[place].grows(self.exchange.refused.of(*cause));
+            if let Some(count) = self.refused[place].news(now) {
+                self.lookout.progress.yields();
+                let _ = eprintln!(self.rt; "note: {count} dropped: {cause}");
+            }
+        }
+    }
+
     fn tell_link_drop(&self, by: LinkDrop, count: u64) {
-        let (up, foreign) = (self.config.receives, self.foreign);
+        let (up, foreign) = (self.on_link.receives, self.foreign);
+        let more = frame_len(&up).saturating_sub(frame_len(&self.config.receives));
         self.lookout.progress.yields();
         let _ = match by {
             LinkDrop::Frame(FrameError::Length) => eprintln!(self.rt;
                 "note: {count} dropped: a frame has {} octets, but must have {}: the zone is {}{}",
-                foreign.len,
+                foreign.len.saturating_add(more),
                 frame_len(&up),
                 up.zone,
                 MoreOctets(up.fields.extra())
@@ -304,7 +324,7 @@ impl<'a> Notices<'a> {
         let Some(beacon) = self.exchange.beacon.take() else {
             return;
         };
-        let own = Beacon::of(&self.config);
+        let own = Beacon::of(&self.on_link);
         if beacon.fits(&own) || !is_over(&mut self.beacon_at, now) {
             return;
         }
@@ -429,6 +449,21 @@ pub fn tell_timers(rt: &HostRuntime, config: &StationConfig, unit: TimeUnit) {
     );
 }
 
+/// Says whether frames are authenticated, by MACs of so many octets.
+pub fn tell_authentication(rt: &HostRuntime, carrier: CarrierKind, mac_len: Option<u64>) {
+    let _ = match (mac_len, carrier) {
+        (Some(octets), _) => {
+            eprintln!(rt; "note: frames are authenticated: MAC of {octets} octets")
+        }
+        (None, CarrierKind::Frames) => eprintln!(rt;
+            "note: frames are not authenticated: without --keys anybody on the network can send them"
+        ),
+        (None, CarrierKind::Packets | CarrierKind::Pdus) => eprintln!(rt;
+            "note: datagrams are not authenticated: anybody on the network can send them"
+        ),
+    };
+}
+
 /// Whether a transaction is open at its sender.
 fn is_sending<O: Outbox, I: Inbox>(station: &Station<O, I>, id: TransactionId) -> bool {
     station.phase(id) == Some(Phase::Sending)
@@ -484,6 +519,7 @@ impl Lookout for Notices<'_> {
                 }
                 self.tell_drops(now, station);
                 self.tell_datagram_drops(now);
+                self.tell_refusals(now);
                 self.tell_beacon(now);
                 self.tell_failure(now);
                 self.tell_stop(now);

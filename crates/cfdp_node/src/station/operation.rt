@@ -1,5 +1,5 @@
 //! A station that serves its operator over its stores, from its first turn to its last.
-use crate::station::notices::{Notices, tell_timers};
+use crate::station::notices::{Notices, tell_authentication, tell_timers};
 use crate::station::operator::{OperatorConsole, OperatorPost};
 use crate::station::{outbox_of, side_of};
 use crate::transfers::named_files::folder_outbox;
@@ -7,7 +7,7 @@ use crate::transfers::telling::{LoopLookout, TellingInbox, TellingNoInbox, Telli
 use cfdp_command_line::{CarrierKind, StationRequest, frame_losses};
 use cfdp_console::LogLines;
 use cfdp_control::LineSources;
-use cfdp_datagrams::{Carrier, CarrierWire, PeerSocket};
+use cfdp_datagrams::{Carrier, CarrierWire, PeerSocket, SharedNumbers, StationKeeper, frame_len};
 use cfdp_exchange::Exchange;
 use cfdp_journal::{Board, BoardSetup, Form, Journal, JournalSetup, KeptLog, Log, LossyLog, Style};
 use cfdp_port::{Lookout, LossyWire, PeerWire};
@@ -16,28 +16,57 @@ use cfdp_service::{
     Clerk, ClerkLimits, NoSpool, PutNames, ServiceEnds, ServiceOptions, Spool, run,
 };
 use cfdp_spool::{FolderSpool, StandardErrorTeller};
+use cfdp_station::StationConfig;
 use cfdp_store::{Inbox, SeekingOutbox};
 use cfdp_watch::{Onlooker, Progress, Ran, Screen};
+use frame_security::{Opener, Sealer};
+use secured_wire::SecuredWire;
 use station_pair::WorldConfig;
 use std::alloc::{AllocError, Global};
 use std::cell::Cell;
 use valid_config::Valid;
+
+/// The longest frame over which a wire can be secured.
+const MOST_FRAME: usize = 65_536;
 
 /// A spool over a folder, which tells what its operator has to know on standard error.
 pub type StationSpool<'a> = FolderSpool<'a, StandardErrorTeller<'a>>;
 
 /// What a station needs to run.
 #[derive(Drop)]
-pub struct StationParts<'a> {
-    pub socket: PeerSocket<'a>,
+pub struct StationParts<'a, 'n> {
+    pub socket: PeerSocket<'a, 'n>,
     /// The count of its first frame in either lane.
     pub frame_count: u32,
     /// Where commands come from.
     pub sources: LineSources<'a>,
     /// How both stations are set up.
     pub config: Valid<WorldConfig>,
+    /// How this station is set up, with the frames that are on the link.
+    pub on_link: StationConfig,
     /// What a datagram between them is.
     pub carrier: Carrier,
+    /// The numbers that it reserves.
+    pub numbers: &'a SharedNumbers<'n>,
+    /// What seals and opens its frames, if they are authenticated.
+    pub ends: Option<SecuredEnds>,
+}
+
+/// What seals the frames that a station sends, and opens those that it receives.
+#[derive(Drop)]
+pub struct SecuredEnds {
+    pub sealer: Sealer,
+    pub opener: Opener,
+    /// How many octets a MAC has.
+    pub mac_len: u64,
+}
+
+/// What a station serves, before it has its wire.
+#[derive(Drop)]
+struct Served<'a, O: SeekingOutbox, I: Inbox, S: Spool> {
+    stores: (O, I),
+    spool: S,
+    sources: LineSources<'a>,
 }
 
 /// What a run is shown by, and what was asked for.
@@ -53,7 +82,11 @@ pub struct Context<'a> {
 
 /// Runs the station over the folder that it sends from. Without one it has no put, and asks for no
 /// file.
-pub fn ran(context: Context<'_>, parts: StationParts<'_>, spool: Option<StationSpool<'_>>) -> Ran {
+pub fn ran<'a>(
+    context: Context<'a>,
+    parts: StationParts<'a, '_>,
+    spool: Option<StationSpool<'_>>,
+) -> Ran {
     let rt = context.rt;
     let path = outbox_of(context.request).unwrap_or("");
     match folder_outbox(rt, path) {
@@ -71,7 +104,7 @@ pub fn ran(context: Context<'_>, parts: StationParts<'_>, spool: Option<StationS
 /// Runs the station over this outbox and the folder of its inbox; without one it takes no file.
 fn ran_from<'a, O: SeekingOutbox, S: Spool>(
     context: Context<'a>,
-    parts: StationParts<'a>,
+    parts: StationParts<'a, '_>,
     outbox: O,
     spool: S,
 ) -> Ran {
@@ -101,7 +134,7 @@ fn ran_from<'a, O: SeekingOutbox, S: Spool>(
 /// Runs the station over these stores. One looks on if that is asked for.
 fn ran_over<'a, O: SeekingOutbox, I: Inbox, S: Spool>(
     context: Context<'a>,
-    parts: StationParts<'a>,
+    parts: StationParts<'a, '_>,
     stores: (O, I),
     spool: S,
 ) -> Ran {
@@ -122,7 +155,13 @@ fn ran_over<'a, O: SeekingOutbox, I: Inbox, S: Spool>(
             let own = WorldConfig::station(config, side_of(request)).get();
             let lookout = LoopLookout::new(onlooker, progress);
             tell_timers(rt, &own, request.unit);
-            let mut notices = Notices::new(rt, lookout, exchange, own, request.to.as_str());
+            tell_authentication(
+                rt,
+                request.carrier,
+                parts.ends.as_ref().map(|it| it.mac_len),
+            );
+            let configs = (own, parts.on_link);
+            let mut notices = Notices::new(rt, lookout, exchange, configs, request.to.as_str());
             let exit = wired(context, parts, stores, spool, &mut notices);
             Ran {
                 exit,
@@ -136,42 +175,73 @@ fn ran_over<'a, O: SeekingOutbox, I: Inbox, S: Spool>(
 /// Runs the station over its socket, which loses some of its datagrams if that is asked for.
 fn wired<'a, O: SeekingOutbox, I: Inbox, S: Spool, L: Lookout>(
     context: Context<'a>,
-    parts: StationParts<'a>,
+    parts: StationParts<'a, '_>,
     stores: (O, I),
     spool: S,
     lookout: &mut L,
 ) -> Exit {
-    let Context {
-        rt,
-        request,
-        exchange,
-        ..
-    } = context;
     let StationParts {
         socket,
         frame_count,
         sources,
         config,
         carrier,
+        numbers,
+        ends,
+        ..
     } = parts;
-    let side = side_of(request);
+    let side = side_of(context.request);
     let options = ServiceOptions {
         config: WorldConfig::station(config, side),
         frame_count,
         side,
     };
-    let wire = LossyWire::new(socket, frame_losses(request.numbers.losses));
-    let (own, tally) = (options.config, &exchange.dropped);
-    match CarrierWire::new(rt.alloc(), carrier, own, wire, tally) {
-        Ok(wire) => {
-            let (outbox, inbox) = stores;
-            let ends = ServiceEnds {
-                outbox,
-                inbox,
-                wire,
-            };
-            operated(context, options, ends, spool, sources, lookout)
+    let served = Served {
+        stores,
+        spool,
+        sources,
+    };
+    let wire = LossyWire::new(socket, frame_losses(context.request.numbers.losses));
+    match ends {
+        Some(ends) => {
+            let keeper = StationKeeper::new(numbers, context.exchange);
+            secured(context, options, served, wire, (keeper, ends), lookout)
         }
+        None => carried(context, options, served, wire, carrier, lookout),
+    }
+}
+
+/// Runs the station over a wire whose frames are authenticated.
+fn secured<'a, O: SeekingOutbox, I: Inbox, S: Spool, W: PeerWire, L: Lookout>(
+    context: Context<'a>,
+    options: ServiceOptions,
+    served: Served<'a, O, I, S>,
+    wire: W,
+    security: (StationKeeper<'a, '_>, SecuredEnds),
+    lookout: &mut L,
+) -> Exit {
+    let (keeper, ends) = security;
+    let SecuredEnds { sealer, opener, .. } = ends;
+    let alloc = context.rt.alloc();
+    let most = frame_len(&options.config.get().sends).min(MOST_FRAME);
+    match SecuredWire::new(alloc, wire, keeper, sealer, opener, most) {
+        Ok(wire) => operated(context, options, served, wire, lookout),
+        Err(AllocError) => Exit::Device(Fault::NoMemoryAtStart),
+    }
+}
+
+/// Runs the station over a wire whose datagrams are frames, packets or PDUs.
+fn carried<'a, O: SeekingOutbox, I: Inbox, S: Spool, W: PeerWire, L: Lookout>(
+    context: Context<'a>,
+    options: ServiceOptions,
+    served: Served<'a, O, I, S>,
+    wire: W,
+    carrier: Carrier,
+    lookout: &mut L,
+) -> Exit {
+    let (own, tally) = (options.config, &context.exchange.dropped);
+    match CarrierWire::new(context.rt.alloc(), carrier, own, wire, tally) {
+        Ok(wire) => operated(context, options, served, wire, lookout),
         Err(AllocError) => Exit::Device(Fault::NoMemoryAtStart),
     }
 }
@@ -180,9 +250,8 @@ fn wired<'a, O: SeekingOutbox, I: Inbox, S: Spool, L: Lookout>(
 fn operated<'a, O: SeekingOutbox, I: Inbox, W: PeerWire, S: Spool, L: Lookout>(
     context: Context<'a>,
     options: ServiceOptions,
-    ends: ServiceEnds<O, I, W>,
-    spool: S,
-    sources: LineSources<'a>,
+    served: Served<'a, O, I, S>,
+    wire: W,
     lookout: &mut L,
 ) -> Exit {
     let Context {
@@ -192,6 +261,17 @@ fn operated<'a, O: SeekingOutbox, I: Inbox, W: PeerWire, S: Spool, L: Lookout>(
         progress,
         ..
     } = context;
+    let Served {
+        stores,
+        spool,
+        sources,
+    } = served;
+    let (outbox, inbox) = stores;
+    let ends = ServiceEnds {
+        outbox,
+        inbox,
+        wire,
+    };
     let setup = journal_setup(context);
     let Ok(out) = LossyLog::new(setup.log) else {
         return Exit::Device(Fault::NoMemoryAtStart);
@@ -212,6 +292,7 @@ fn operated<'a, O: SeekingOutbox, I: Inbox, W: PeerWire, S: Spool, L: Lookout>(
         journal,
         board,
         form,
+        keys: keys_of(request),
     };
     let console = OperatorConsole::new(rt, post, exchange, progress);
     let own = request.numbers.id;
@@ -249,7 +330,7 @@ fn journal_setup(context: Context<'_>) -> JournalSetup<'_> {
     JournalSetup {
         log: Log { rt, own, style },
         outbox: outbox_of(request),
-        gaps: &exchange.gaps,
+        exchange,
     }
 }
 
@@ -271,8 +352,16 @@ fn board_setup(context: Context<'_>) -> BoardSetup<'_> {
             CarrierKind::Pdus => "pdus",
         },
         to: request.to.as_str(),
-        gaps: &exchange.gaps,
-        tally: &exchange.dropped,
+        is_authenticated: request.keys.is_some(),
+        exchange,
+    }
+}
+
+/// Returns the path of the file of keys, if there is one.
+fn keys_of(request: &StationRequest) -> Option<&str> {
+    match &request.keys {
+        Some(path) => Some(path.as_str()),
+        None => None,
     }
 }
 

@@ -3,6 +3,7 @@ use cfdp_console::{Answer, Ask, Look, Shown};
 use cfdp_control::{Asked, CommandHelp, LineFault, LineSources, Speaker, parse_command};
 use cfdp_directives::Indication;
 use cfdp_exchange::Exchange;
+use cfdp_files::{SecretError, read_keys};
 use cfdp_header::TransactionId;
 use cfdp_journal::{Board, Form, Journal, KeptLog, LossyLog, Moment, Stopped, Waiting};
 use cfdp_report::{Exit, Fault};
@@ -26,6 +27,8 @@ pub struct OperatorPost<'a> {
     pub board: Option<Board<'a>>,
     /// How questions are answered.
     pub form: Form,
+    /// The path of the file of keys, if frames are authenticated.
+    pub keys: Option<&'a str>,
 }
 
 /// Where the operator of a station stands: lines of commands come from standard input and from a
@@ -108,6 +111,10 @@ impl<'a> OperatorConsole<'a> {
             Ok(Asked::Command(command)) => {
                 self.accepts(speaker, &command);
                 Some(command)
+            }
+            Ok(Asked::Rekey) => {
+                self.rekeys(speaker);
+                None
             }
             Ok(asked) => {
                 self.answers(speaker, &asked, station, waiting);
@@ -216,12 +223,38 @@ impl<'a> OperatorConsole<'a> {
         match asked {
             Asked::Freeze => self.exchange.is_frozen.set(true),
             Asked::Thaw => self.exchange.is_frozen.set(false),
-            Asked::List | Asked::Counters | Asked::Help | Asked::Command(_) => {}
+            Asked::List | Asked::Counters | Asked::Rekey | Asked::Help | Asked::Command(_) => {}
         }
         let mut text = String::new(self.rt.alloc());
         match self.tells(&mut text, asked, station, waiting) {
             Ok(()) => self.is_done(speaker, text.as_str()),
             Err(fmt::Error) => self.refuses(speaker, &"out of memory"),
+        }
+    }
+
+    /// Reads the file of keys again, and has the wire change to its keys in the next turn. If they
+    /// can't be read, the keys stay as they are.
+    fn rekeys(&mut self, speaker: Speaker) {
+        let Some(path) = self.post.keys else {
+            self.refuses(speaker, &"this station has no --keys");
+            return;
+        };
+        match read_keys(self.rt, path) {
+            Ok(keys) => {
+                self.exchange.new_keys.set(Some(keys));
+                self.is_told();
+                self.post.journal.rekeyed();
+                self.is_done(speaker, "");
+            }
+            Err(error) => self.refuses_keys(speaker, path, &error),
+        }
+    }
+
+    /// Answers why the keys at this path can't be read.
+    fn refuses_keys(&mut self, speaker: Speaker, path: &str, error: &SecretError) {
+        match format!(in self.rt.alloc(); "{path}: {error}") {
+            Ok(why) => self.refuses(speaker, &why),
+            Err(AllocError) => self.refuses(speaker, &"out of memory"),
         }
     }
 
@@ -242,7 +275,7 @@ impl<'a> OperatorConsole<'a> {
             }
             Asked::Counters => self.post.journal.counters(out, self.post.form, station),
             Asked::Help => fmt::Write::write_fmt(out, format_args!("{CommandHelp}")),
-            Asked::Freeze | Asked::Thaw | Asked::Command(_) => Ok(()),
+            Asked::Freeze | Asked::Thaw | Asked::Rekey | Asked::Command(_) => Ok(()),
         }
     }
 

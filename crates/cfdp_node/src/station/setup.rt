@@ -1,16 +1,19 @@
 //! What the words behind `--set` set.
-ghost use Rattle.std.specs.Prelude.{IfSome};
+ghost use Rattle.std.specs.Prelude.{◌≡◌, ◌+◌, false, true, Some, IfSome, unwrap_or};
+ghost use Rattle.frame_fields.specs.Fields.{no_fields};
 
+use crate::transfers::secured_links::{SECURITY_HEADER, bare_link};
 use cfdp_command_line::CarrierKind;
 use cfdp_datagrams::{Carrier, PacketForm};
 use cfdp_report::{Keys, Nearest, Setting, Settings, consider_keys, parse_setting};
-use cfdp_station::LinkConfig;
+use cfdp_station::{LinkConfig, StationConfig};
 use frame_fields::FrameFields;
+use frame_security::Security;
 use space_packet::PacketType;
 use station_pair::WorldConfig;
 use std::alloc::{AllocError, Global};
 use std::fmt;
-use valid_config::Valid;
+use valid_config::{Config, Valid};
 
 /// The frames of one direction, as numbers that may fit no frame.
 #[derive(Clone, Copy)]
@@ -60,6 +63,14 @@ fn flag(value: u64) -> Option<bool> {
     }
 }
 
+/// The octets of a MAC, if none are set, and the other number that may be set.
+const SHORT_MAC: u64 = 16;
+/// See [`SHORT_MAC`].
+const LONG_MAC: u64 = 32;
+
+/// The least octets of a packet zone.
+const LEAST_ZONE: u64 = 16;
+
 /// The most octets of an insert zone.
 const MOST_INSERT_ZONE: u64 = 64;
 /// What a field that may be there or not is set to at most.
@@ -95,6 +106,11 @@ pub enum Misfit {
     WideNumber(u64),
     /// The value of this key is the first number, which is greater than the second.
     TooGreat(&'static str, u64, u64),
+    /// The octets of a MAC are so many.
+    Mac(u64),
+    /// The zone has the second number of octets, and must have at least the first: the security
+    /// header and a MAC of the third number are taken of it.
+    ShortZone(u64, u64, u64),
     /// Both lanes of a direction have this channel, by these keys.
     OneChannel(&'static str, &'static str, u64),
     /// Something else is.
@@ -116,6 +132,13 @@ impl fmt::Display for Misfit {
             Misfit::TooGreat(key, value, most) => {
                 write!(f, "{key} must be 0 to {most} (got {value})")
             }
+            Misfit::Mac(value) => {
+                write!(f, "mac must be {SHORT_MAC} or {LONG_MAC} (got {value})")
+            }
+            Misfit::ShortZone(least, value, mac) => write!(
+                f,
+                "zone must be {least} to 2040 with --keys and mac {mac} (got {value})"
+            ),
             Misfit::OneChannel(one, other, value) => {
                 write!(f, "{one} and {other} must differ (both are {value})")
             }
@@ -126,7 +149,7 @@ impl fmt::Display for Misfit {
 
 /// The keys of a station beside those of a script, of which `insert_zone`, `control_field` and
 /// `error_control` are of the frames that it sends.
-const OWN_KEYS: [&'static str; 13] = [
+const OWN_KEYS: [&'static str; 14] = [
     "spacecraft",
     "virtual_channel",
     "data_virtual_channel",
@@ -140,6 +163,7 @@ const OWN_KEYS: [&'static str; 13] = [
     "peer_insert_zone",
     "peer_control_field",
     "peer_error_control",
+    "mac",
 ];
 
 /// What may stand where a key is none.
@@ -199,6 +223,17 @@ pub struct StationSetup {
     peer: Direction,
     packets: PacketNumbers,
     peer_fields: FieldNumbers,
+    /// Whether frames are secured, and how many octets their MAC has, if that is set.
+    is_secured: bool,
+    mac: Option<u64>,
+}
+
+/// How the frames of both directions are secured.
+#[derive(Clone, Copy)]
+pub struct Securities {
+    /// The frames that the station sends, and those that it receives.
+    pub sends: Valid<Security>,
+    pub receives: Valid<Security>,
 }
 
 impl StationSetup {
@@ -232,6 +267,35 @@ impl StationSetup {
                 peer_secondary_header: 0,
             },
             peer_fields: FieldNumbers::NONE,
+            is_secured: false,
+            mac: None,
+        }
+    }
+
+    /// Returns the same with secured frames, or not.
+    pub fn with_security(mut self, is_secured: bool) -> StationSetup {
+        self.is_secured = is_secured;
+        self
+    }
+
+    /// Returns `true` if the octets of a MAC are set, though frames aren't secured.
+    pub fn has_idle_mac(&self) -> bool {
+        self.mac.is_some() && !self.is_secured
+    }
+
+    /// Returns how many octets the MAC of a frame has.
+    pub fn mac_len(&self) -> u64
+        ensures { result ≡ unwrap_or self.now.mac 16 }
+    {
+        self.mac.unwrap_or(SHORT_MAC)
+    }
+
+    /// Returns how many octets of the zone the security header and the MAC take.
+    fn security_len(&self) -> u64 {
+        if self.is_secured {
+            u64::from(SECURITY_HEADER).saturating_add(self.mac_len())
+        } else {
+            0
         }
     }
 
@@ -263,6 +327,8 @@ impl StationSetup {
             self.peer_fields.control_field = value;
         } else if key == "peer_error_control" {
             self.peer_fields.error_control = value;
+        } else if key == "mac" {
+            self.mac = Some(value);
         } else if let Some(setting) = parse_setting(key.as_bytes()) {
             self.settings.set(setting, value);
         } else {
@@ -332,6 +398,9 @@ impl StationSetup {
         if let Some(misfit) = self.field_misfit() {
             return misfit;
         }
+        if let Some(misfit) = self.security_misfit() {
+            return misfit;
+        }
         if id == peer {
             Misfit::OneId(id)
         } else if !fits(id, width) {
@@ -385,6 +454,21 @@ impl StationSetup {
         None
     }
 
+    /// What is wrong with how frames are secured.
+    fn security_misfit(&self) -> Option<Misfit> {
+        let (mac, zone) = (self.mac_len(), self.settings.zone);
+        let least = LEAST_ZONE.saturating_add(self.security_len());
+        if !self.is_secured {
+            None
+        } else if mac != SHORT_MAC && mac != LONG_MAC {
+            Some(Misfit::Mac(mac))
+        } else if zone < least {
+            Some(Misfit::ShortZone(least, zone, mac))
+        } else {
+            None
+        }
+    }
+
     /// Whether the frames of both directions are bare: they have a header and an M_PDU alone.
     pub fn has_bare_frames(&self) -> bool {
         self.own_fields().are_none() && self.peer_fields.are_none()
@@ -401,16 +485,69 @@ impl StationSetup {
     }
 
     /// The configuration of this station and its peer, of which that with the lesser id is the
-    /// first; `None` where they can't be set up so.
+    /// first; `None` where they can't be set up so. If frames are secured, the station's own ones
+    /// have a shorter zone and no fields, since a layer below the station adds these.
     pub fn config(&self, id: u64, peer: u64) -> Option<Valid<WorldConfig>> {
         let _form = self.packet_form()?;
-        let sends = self.link(self.own, self.own_fields())?;
-        let receives = self.link(self.peer, self.peer_fields)?;
+        if self.security_misfit().is_some() {
+            return None;
+        }
+        let sends = self.bare(self.link(self.own, self.own_fields())?)?;
+        let receives = self.bare(self.link(self.peer, self.peer_fields)?)?;
         if id < peer {
             self.settings.pair(id, peer, sends, receives)
         } else {
             self.settings.pair(peer, id, receives, sends)
         }
+    }
+
+    /// Returns the configuration of this station with the frames that are on the link: the same if a
+    /// value doesn't fit its field.
+    pub fn on_link(&self, own: &StationConfig) -> StationConfig {
+        let sends = self.link(self.own, self.own_fields());
+        let receives = self.link(self.peer, self.peer_fields);
+        match (sends, receives) {
+            (Some(sends), Some(receives)) => StationConfig {
+                sends,
+                receives,
+                ..*own
+            },
+            (None, _) | (_, None) => *own,
+        }
+    }
+
+    /// Returns how frames are secured; `None` if they aren't or can't be.
+    pub fn securities(&self) -> Option<Securities> {
+        if !self.is_secured {
+            return None;
+        }
+        let mac_len = u8::try_from(self.mac_len()).ok()?;
+        let sends = Security {
+            fields: self.own_fields().fields()?,
+            mac_len,
+        };
+        let receives = Security {
+            fields: self.peer_fields.fields()?,
+            mac_len,
+        };
+        Some(Securities {
+            sends: sends.validate().ok()?,
+            receives: receives.validate().ok()?,
+        })
+    }
+
+    /// Returns the frames that the station makes for this direction of the link: with their fields,
+    /// security header and MAC they are as long as the frames on the link.
+    fn bare(&self, link: LinkConfig) -> Option<LinkConfig>
+        ensures plain { self.now.is_secured ≡ false → result ≡ Some link }
+        ensures secured { self.now.is_secured ≡ true → IfSome result (λ bare.
+            (bare.zone + 10 + unwrap_or self.now.mac 16 ≡ link.zone)
+            × (bare ≡ record link { zone = bare.zone; fields = no_fields })) }
+    {
+        if !self.is_secured {
+            return Some(link);
+        }
+        bare_link(link, u16::try_from(self.mac_len()).ok()?)
     }
 
     /// What a datagram is, by the word for it; `None` where packets can't be set up so.

@@ -24,7 +24,7 @@ pub fn check_name(rt: &HostRuntime, name: &str) -> Result<(), u8> {
         return Ok(());
     }
     let _ = eprintln!(rt;
-        "error: a file name must be 1 to 64 of A-Z a-z 0-9 . _ -, no point first (got {})",
+        "error: a file name must be 1 to 64 of A-Z a-z 0-9 . _ -, no leading dot (got {})",
         Name(name.as_bytes())
     );
     Err(MISTAKE)
