@@ -110,15 +110,15 @@ Law = (c : Setup) (counts : Side → ℕ) (sources files : Side → FileMap) (ev
     ((s : Side) → IsNew (setup_of s c) (counts s) (sources s) (files s) (at s start)) → start.puts ≡ [] → Happen c events start now → (s : Side) → HoldsAt s (files s) now
 
 pub keeps_promise : Law → (w : WorldKept) → HasRun w → KeepsPromise w
-keeps_promise law w run = record { now = run.now; is = run.is; holds = holds; inbox = inbox }
+keeps_promise law w run = record { run = run; holds = holds; inbox = inbox }
   where
-    holds : (s : Side) → HoldsAt s (first_at s w) run.now
-    holds s = law (setup w.config) run.counts run.sources (λ (t : Side). first_at t w) run.events run.start run.now run.joined run.begun run.none run.happen s
+    holds : (any : HasRun w) (s : Side) → HoldsAt s (first_at s w) any.now
+    holds any s = law (setup w.config) any.counts any.sources (λ (t : Side). first_at t w) any.events any.start any.now any.joined any.begun any.none any.happen s
 
     inbox : (s : Side) → let e = (kept_at s w).station.entity.state in e.table.files
         ≡ inbox_after (found w.puts) (first_at s w) (completions e.config.entity ((kept_at s w).told_before ++ e.table.told))
     inbox s =
-        let h = (holds s).inbox in
+        let h = (holds run s).inbox in
         let its = run.is.of s in
         subst (λ (l : List user.Put). (kept_at s w).station.entity.state.table.files
         ≡ inbox_after (found l) (first_at s w) (completions (kept_at s w).station.entity.state.config.entity ((kept_at s w).told_before ++ (kept_at s w).station.entity.state.table.told))) run.is.puts

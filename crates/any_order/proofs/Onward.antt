@@ -78,9 +78,9 @@ module _ (laws : EntityLaws) (truth : TruthLaws) where
 
   pub world_goes : (t : Side) (calls : List Call) (old new : WorldKept) → KeepsPromise old → Happened t calls old new → AreNoStarts calls → (s : Side) → GoesOn (kept_at s old) (kept_at s new)
   world_goes t calls old new promised happened nostart s =
-      let next = happened.follow promised.now promised.is in
-      kept_goes (kept_at s old) (kept_at s new) (at s promised.now) (at s next.0) (promised.is.of s) (next.2.of s)
-      (happen_goes calls t s (setup old.config) promised.now next.0 next.1 nostart)
+      let next = happened.follow promised.run.now promised.run.is in
+      kept_goes (kept_at s old) (kept_at s new) (at s promised.run.now) (at s next.0) (promised.run.is.of s) (next.2.of s)
+      (happen_goes calls t s (setup old.config) promised.run.now next.0 next.1 nostart)
 
 -- ---- a start
 other_goes : (t : Side) (old new mid : Pair) → at (other t) mid ≡ at (other t) old → new ≡ mid → EndGoes (at (other t) old) (at (other t) new)
@@ -89,13 +89,13 @@ other_goes t old new mid others same = goes_none (at (other t) old) (at (other t
 pub world_begins : (t : Side) (first number : ℕ) (old new : WorldKept) → KeepsPromise old → Happened t (Restarts first number ∷ []) old new →
     BeginsAnew (kept_at t old) (kept_at t new) × GoesOn (kept_at (other t) old) (kept_at (other t) new)
 world_begins t first number old new promised happened =
-    let next = happened.follow promised.now promised.is in
+    let next = happened.follow promised.run.now promised.run.is in
     let mid : Pair = next.1.0 in
     let anew = next.1.1.0.0 in
     let same : next.0 ≡ mid = next.1.2 in
-    let mine : End = at t promised.now in
+    let mine : End = at t promised.run.now in
     let after : End = at t next.0 in
-    let is : IsOf (kept_at t old) mine = promised.is.of t in
+    let is : IsOf (kept_at t old) mine = promised.run.is.of t in
     let then : IsOf (kept_at t new) after = next.2.of t in
     let at_mid : after ≡ at t mid = ap (λ (p : Pair). at t p) same in (
       record {
@@ -106,9 +106,9 @@ world_begins t first number old new promised happened =
         gone = sym (ap (λ (st : StationState). st.entity.state.table.gone) then.station) ∙ (ap (λ (e : End). (entity_of e).table.gone) at_mid ∙ ap (λ (e : EntityState). e.table.gone) anew.entity);
       },
       record {
-        before = sym (next.2.of (other t)).before ∙ (ap (λ (l : List Life). map kept_of l) (other_goes t promised.now next.0 mid next.1.1.1 same).before ∙ (promised.is.of (other t)).before);
-        told_before = sym (next.2.of (other t)).told ∙ ((other_goes t promised.now next.0 mid next.1.1.1 same).told ∙ (promised.is.of (other t)).told);
+        before = sym (next.2.of (other t)).before ∙ (ap (λ (l : List Life). map kept_of l) (other_goes t promised.run.now next.0 mid next.1.1.1 same).before ∙ (promised.run.is.of (other t)).before);
+        told_before = sym (next.2.of (other t)).told ∙ ((other_goes t promised.run.now next.0 mid next.1.1.1 same).told ∙ (promised.run.is.of (other t)).told);
         gone = sym (ap (λ (st : StationState). st.entity.state.table.gone) (next.2.of (other t)).station)
-            ∙ ((other_goes t promised.now next.0 mid next.1.1.1 same).gone ∙ ap (λ (st : StationState). st.entity.state.table.gone) (promised.is.of (other t)).station);
+            ∙ ((other_goes t promised.run.now next.0 mid next.1.1.1 same).gone ∙ ap (λ (st : StationState). st.entity.state.table.gone) (promised.run.is.of (other t)).station);
       },
     )

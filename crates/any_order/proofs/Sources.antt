@@ -20,7 +20,7 @@ module _ (laws : EntityLaws) (truth : TruthLaws) where
 
   pub world_sources : (t : Side) (calls : List Call) (old new : WorldKept) → KeepsPromise old → Happened t calls old new → (s : Side) → sources_at s new ≡ sources_at s old
   world_sources t calls old new promised happened s =
-      let next = happened.follow promised.now promised.is in
+      let next = happened.follow promised.run.now promised.run.is in
       ap (λ (st : StationState). st.entity.state.table.sources) (sym ((next.2.of s).station))
-      ∙ (happen_sources (calls_at t calls) (setup old.config) promised.now next.0 s next.1
-      ∙ ap (λ (st : StationState). st.entity.state.table.sources) ((promised.is.of s).station))
+      ∙ (happen_sources (calls_at t calls) (setup old.config) promised.run.now next.0 s next.1
+      ∙ ap (λ (st : StationState). st.entity.state.table.sources) ((promised.run.is.of s).station))

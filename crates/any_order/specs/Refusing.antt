@@ -1,6 +1,7 @@
--- When a station over such a link is lent no frame or octets, and when it can't start anew.
+-- When a station over such a link refuses a call, is lent no frame or octets, and can't start anew.
 use Rattle.std.specs.Prelude.{◌≡◌, ◌≢◌, ◌⊎◌, ◌+◌, ◌<◌, ◌≤◌, ◌^◌, ℕ, List, Option, Some, None, length}
 use Rattle.std.specs.Prelude.{Bool, true, false, Result, Ok, Err, IfSome, IsSomeAnd, slice_get}
+use Rattle.std.specs.Prelude.{max}
 use Rattle.std.specs.declared.alloc.AllocError.{AllocError}
 use Rattle.aos_frame.specs.Frame.{frame_fault, lane_channel}
 use Rattle.aos_frame.specs.declared.config.ChannelConfig.{ChannelConfig}
@@ -9,12 +10,39 @@ use Rattle.aos_frame.specs.declared.config.LinkConfig.{LinkConfig}
 use Rattle.mpdu.specs.MpduHeader.{pointer_of}
 use Rattle.link_stack.specs.AnyOrder.{IsStray, IsWithinCounts}
 use Rattle.link_stack.specs.Frames.{mpdu_in}
+use Rattle.cfdp_header.specs.declared.value.TransactionId.{TransactionId}
+use Rattle.cfdp_timers.specs.Due.{due_count}
+use Rattle.cfdp_entity.specs.declared.error.PutError.{PutError}
+use Rattle.cfdp_entity.specs.declared.error.PutError.TheVariants.{NoMemory}
+use Rattle.cfdp_entity.specs.declared.error.RequestError.{RequestError}
+use Rattle.cfdp_entity.specs.declared.request.Request.{Request}
+use Rattle.cfdp_entity.specs.Putting.{IsPutRefusal, put_refusal, stored_by_error}
+use Rattle.cfdp_entity.specs.Refusing.{IsRefusal}
+use Rattle.cfdp_entity.specs.Requests.{request_refusal}
 use Rattle.any_order.specs.declared.answers.Delivered.{Delivered}
 use Rattle.any_order.specs.declared.answers.Delivered.TheVariants as delivered
 use Rattle.any_order.specs.declared.answers.Restarted.{Restarted}
 use Rattle.any_order.specs.declared.answers.Restarted.TheVariants as restarted
 use Rattle.any_order.specs.declared.answers.SentFrame.{SentFrame}
 use Rattle.any_order.specs.Kept.{EndKept, LifeKept, all_kept, frames_in, last_at}
+
+-- ---- a put, a request, the time
+-- A put of these names was refused by this cause: the first one that holds at the station; or there
+-- was no memory, be it to keep the names.
+abbrev pub RefusesPut : PutError → (source destination : List ℕ) → EndKept → Type 0
+RefusesPut by source destination k = (by ≡ NoMemory)
+    ⊎ IsPutRefusal (put_refusal (stored_by_error by) source destination
+    k.station.entity.state) by
+
+-- A request of a transaction was refused by this cause, the first one that holds.
+abbrev pub RefusesRequest : RequestError → Request → TransactionId → EndKept → Type 0
+RefusesRequest by request id k =
+    IsRefusal (request_refusal request id k.station.entity.state.table) by
+
+-- Memory can only be wanting for the time where a timer's deadline has come.
+abbrev pub HasDue : (now : ℕ) → EndKept → Type 0
+HasDue now k = 1 ≤ due_count k.station.entity.state.table.armed
+    (max k.station.entity.state.table.now now)
 
 -- ---- a frame that is to be delivered
 -- The station has no such life, or made fewer frames of the lane in it.

@@ -138,13 +138,12 @@ pub record HasRun (w : WorldKept) : Type 0 where
   pub happen : Happen (setup w.config) events start now
   pub is : IsPairOf w now
 
--- The promise holds of the two stations that calls led to, of which this is kept; and so of what is
--- kept: each inbox is the first one, overwritten by the files of the puts that its station
--- indicated complete, over all its lives, in that order.
+-- Calls led to what is kept; and whatever calls they were, the promise holds of the two stations
+-- that these led to. So it holds of what is kept: each inbox is the first one, overwritten by the
+-- files of the puts that its station indicated complete, over all its lives, in that order.
 pub record KeepsPromise (w : WorldKept) : Type 0 where
-  pub now : Pair
-  pub is : IsPairOf w now
-  pub holds : (s : Side) → HoldsAt s (first_at s w) now
+  pub run : HasRun w
+  pub holds : (any : HasRun w) (s : Side) → HoldsAt s (first_at s w) any.now
   pub inbox : (s : Side) → let e = (kept_at s w).station.entity.state in
       e.table.files ≡ inbox_after (found w.puts) (first_at s w)
       (completions e.config.entity ((kept_at s w).told_before ++ e.table.told))

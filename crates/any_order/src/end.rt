@@ -1,10 +1,12 @@
 //! One of two stations, with what a program keeps of its lives.
 ghost use Rattle.std.specs.Prelude.{◌≡◌, ◌+◌, ◌++◌, ◌∷◌, [], ◌<◌, ◌≤◌, ℕ, List, true, false};
 ghost use Rattle.std.specs.Prelude.{length, None, Some, map};
-ghost use Rattle.std.specs.Prelude.{IfOk, IfSome, OnErr, OnOk, MatchOption, IsTrue, ◌↔◌, slice_get};
+ghost use Rattle.std.specs.Prelude.{IfErr, IfOk, IfSome, OnErr, OnOk, MatchOption, IsTrue, ◌↔◌};
+ghost use Rattle.std.specs.Prelude.{slice_get};
 ghost use Rattle.aos_frame.specs.Frame.{other_lane};
 ghost use Rattle.aos_frame.specs.declared.config.Lane.{Lane};
-ghost use Rattle.any_order.specs.Refusing.{IsFarFromLast, IsNearLast, IsUsedFrame};
+ghost use Rattle.any_order.specs.Refusing.{HasDue, IsFarFromLast, IsNearLast, IsUsedFrame};
+ghost use Rattle.any_order.specs.Refusing.{RefusesPut, RefusesRequest};
 ghost use Rattle.link_stack.specs.Downward.{Flushes, both_counted_from, first_down};
 ghost use Rattle.link_stack.specs.Downward.{frame_lane, lane_down};
 ghost use Rattle.link_stack.specs.Upward.{first_up};
@@ -110,6 +112,8 @@ impl<O: SteadyOutbox, I: Inbox> OneEnd<O, I> {
     ) -> Result<TransactionId, PutError>
         ensures accepted { IfOk result (λ id. Accepts source.now destination.now id
             self.old.station.entity.state self.new.station.entity.state) }
+        ensures refused { IfErr result
+            (λ by. RefusesPut by source.now destination.now self.old) }
         ensures err { OnErr result
             (self.new.station.entity.state ≡ self.old.station.entity.state) }
         ensures link { KeepsLink self.old.station self.new.station }
@@ -126,16 +130,18 @@ impl<O: SteadyOutbox, I: Inbox> OneEnd<O, I> {
         id: TransactionId,
         request: Request,
     ) -> Result<(), RequestError>
-        ensures { (c : StationConfig) (theirs : EndKept) (puts : List Put) →
+        ensures makes { (c : StationConfig) (theirs : EndKept) (puts : List Put) →
             Makes (request_calls id request result) c self.old theirs self.new puts puts }
+        ensures refused { IfErr result (λ by. RefusesRequest by request id self.old) }
     {
         self.station.request(id, request)
     }
 
     /// Tells it the time.
     pub(crate) fn tick(&mut self, now: u64) -> Result<(), AllocError>
-        ensures { (c : StationConfig) (theirs : EndKept) (puts : List Put) →
+        ensures makes { (c : StationConfig) (theirs : EndKept) (puts : List Put) →
             Makes (tick_calls now result) c self.old theirs self.new puts puts }
+        ensures lacks { OnErr result (HasDue now self.old) }
     {
         self.station.tick(now)
     }

@@ -1,11 +1,13 @@
 //! The world of two stations over a link that keeps no order.
-ghost use Rattle.std.specs.Prelude.{◌≡◌, ◌<◌, ◌^◌, List, None, Some, IfOk, OnOk, MatchOption};
+ghost use Rattle.std.specs.Prelude.{◌≡◌, ◌<◌, ◌^◌, List, None, Some, IfErr, IfOk, OnErr, OnOk};
+ghost use Rattle.std.specs.Prelude.{MatchOption};
 ghost use Rattle.std.specs.Prelude.{length};
 ghost use Rattle.std.specs.Prelude.{slice_get};
 ghost use Rattle.any_order.specs.Calls.{Call, other, setup_of};
 ghost use Rattle.any_order.specs.Kept.{all_kept};
 ghost use Rattle.link_stack.specs.Downward.{frame_lane};
-ghost use Rattle.any_order.specs.Refusing.{AnswersFrame, AnswersOctets, AnswersStart};
+ghost use Rattle.any_order.specs.Refusing.{AnswersFrame, AnswersOctets, AnswersStart, HasDue};
+ghost use Rattle.any_order.specs.Refusing.{RefusesPut, RefusesRequest};
 ghost use Rattle.any_order.specs.World.{ArePollCalls, AreFlushCalls, Happened, IsNewWorld};
 ghost use Rattle.any_order.specs.World.{KeepsPromise, deliver_calls, kept_at, octets_calls};
 ghost use Rattle.any_order.specs.World.{put_calls, request_calls, restart_calls, setup, side_of};
@@ -104,8 +106,10 @@ impl<O: SteadyOutbox, I: Inbox> UnorderedWorld<O, I> {
         source: &[u8],
         destination: &[u8],
     ) -> Result<TransactionId, PutError>
-        ensures { Happened (side_of side) (put_calls source.now destination.now result) self.old
-            self.new }
+        ensures happened { Happened (side_of side) (put_calls source.now destination.now result)
+            self.old self.new }
+        ensures refused { IfErr result (λ by. RefusesPut by source.now destination.now
+            (kept_at (side_of side) self.old)) }
     {
         self.ends.put(side, source, destination)
     }
@@ -121,7 +125,10 @@ impl<O: SteadyOutbox, I: Inbox> UnorderedWorld<O, I> {
         id: TransactionId,
         request: Request,
     ) -> Result<(), RequestError>
-        ensures { Happened (side_of side) (request_calls id request result) self.old self.new }
+        ensures happened { Happened (side_of side) (request_calls id request result) self.old
+            self.new }
+        ensures refused { IfErr result (λ by. RefusesRequest by request id
+            (kept_at (side_of side) self.old)) }
     {
         self.ends.request(side, id, request)
     }
@@ -130,9 +137,10 @@ impl<O: SteadyOutbox, I: Inbox> UnorderedWorld<O, I> {
     ///
     /// # Errors
     ///
-    /// The station's, as `Station::tick` tells them; nothing changed then.
+    /// `AllocError` only if a timer's deadline has come; nothing changed then.
     pub fn tick(&mut self, side: Side, now: u64) -> Result<(), AllocError>
-        ensures { Happened (side_of side) (tick_calls now result) self.old self.new }
+        ensures happened { Happened (side_of side) (tick_calls now result) self.old self.new }
+        ensures lacks { OnErr result (HasDue now (kept_at (side_of side) self.old)) }
     {
         self.ends.tick(side, now)
     }

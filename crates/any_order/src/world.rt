@@ -1,5 +1,6 @@
 //! Two stations and all frames that each of them ever made.
-ghost use Rattle.std.specs.Prelude.{◌≡◌, ◌≢◌, List, true, false, None, map, IfOk, OnErr, OnOk};
+ghost use Rattle.std.specs.Prelude.{◌≡◌, ◌≢◌, List, true, false, None, map};
+ghost use Rattle.std.specs.Prelude.{IfErr, IfOk, OnErr, OnOk};
 ghost use Rattle.aos_frame.specs.declared.config.Lane.{Lane};
 ghost use Rattle.aos_frame.specs.Frame.{lane_channel};
 ghost use Rattle.link_stack.specs.AnyOrder.{IsStray};
@@ -10,7 +11,8 @@ ghost use Rattle.cfdp_entity.specs.Config.{IsConfig};
 ghost use Rattle.any_order.specs.Calls.{Call, numbered_from, other, setup_of};
 ghost use Rattle.any_order.specs.Kept.{EndKept, Makes};
 ghost use Rattle.link_stack.specs.Downward.{frame_lane};
-ghost use Rattle.any_order.specs.Refusing.{AnswersFrame, AnswersOctets, AnswersStart, IsNoStray};
+ghost use Rattle.any_order.specs.Refusing.{AnswersFrame, AnswersOctets, AnswersStart, HasDue};
+ghost use Rattle.any_order.specs.Refusing.{IsNoStray, RefusesPut, RefusesRequest};
 ghost use Rattle.any_order.specs.World.{ArePollCalls, AreFlushCalls, Happened, IsNewWorld};
 ghost use Rattle.any_order.specs.World.{deliver_calls, kept_at, octets_calls, put_calls};
 ghost use Rattle.any_order.specs.World.{request_calls, restart_calls, setup, side_of, tick_calls};
@@ -95,10 +97,11 @@ fn put_at<O: SteadyOutbox, I: Inbox>(
     source: &[u8],
     destination: &[u8],
 ) -> Result<TransactionId, PutError>
-    ensures { (c : StationConfig) (theirs : EndKept) →
+    ensures makes { (c : StationConfig) (theirs : EndKept) →
         Makes (put_calls source.now destination.now result) c end.old theirs end.new
         (map (λ t. next_put t.source t.destination t.station.value.entity.state) puts.old.items)
         (map (λ t. next_put t.source t.destination t.station.value.entity.state) puts.new.items) }
+    ensures refused { IfErr result (λ by. RefusesPut by source.now destination.now end.old) }
 {
     let Ok(taken) = prepare(alloc, end, source, destination) else {
         return Err(PutError::NoMemory);
@@ -276,8 +279,10 @@ impl<O: SteadyOutbox, I: Inbox> TwoEnds<O, I> {
         source: &[u8],
         destination: &[u8],
     ) -> Result<TransactionId, PutError>
-        ensures { Happened (side_of side) (put_calls source.now destination.now result) self.old
-            self.new }
+        ensures happened { Happened (side_of side) (put_calls source.now destination.now result)
+            self.old self.new }
+        ensures refused { IfErr result (λ by. RefusesPut by source.now destination.now
+            (kept_at (side_of side) self.old)) }
     {
         let alloc = self.alloc;
         match side {
@@ -292,7 +297,10 @@ impl<O: SteadyOutbox, I: Inbox> TwoEnds<O, I> {
         id: TransactionId,
         request: Request,
     ) -> Result<(), RequestError>
-        ensures { Happened (side_of side) (request_calls id request result) self.old self.new }
+        ensures happened { Happened (side_of side) (request_calls id request result) self.old
+            self.new }
+        ensures refused { IfErr result (λ by. RefusesRequest by request id
+            (kept_at (side_of side) self.old)) }
     {
         match side {
             Side::One => self.one.request(id, request),
@@ -301,7 +309,8 @@ impl<O: SteadyOutbox, I: Inbox> TwoEnds<O, I> {
     }
 
     pub(crate) fn tick(&mut self, side: Side, now: u64) -> Result<(), AllocError>
-        ensures { Happened (side_of side) (tick_calls now result) self.old self.new }
+        ensures happened { Happened (side_of side) (tick_calls now result) self.old self.new }
+        ensures lacks { OnErr result (HasDue now (kept_at (side_of side) self.old)) }
     {
         match side {
             Side::One => self.one.tick(now),

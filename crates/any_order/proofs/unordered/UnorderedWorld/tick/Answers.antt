@@ -3,4 +3,4 @@ use Rattle.any_order.proofs.Happening.{runs_on}
 use Rattle.any_order.proofs.unordered.UnorderedWorld.tick.Goals as goal
 
 pub invariant_of-self : goal.invariant_of-self
-invariant_of-self g c = runs_on _ _ c.self.inside.ends c.tick.new.self c.tick.ensures c.self.invariant
+invariant_of-self g c = runs_on _ _ c.self.inside.ends c.tick.new.self c.tick.ensures.happened c.self.invariant

@@ -2,12 +2,12 @@ use Rattle.std.proofs.Common.{◌≡◌, refl, sym, ap, ◌∙◌}
 use Rattle.any_order.proofs.Happening.{happened_one, happened_two}
 use Rattle.any_order.proofs.world.TwoEnds.tick.Goals as goal
 
-pub returns-in-One : goal.returns-in-One
-returns-in-One g c =
+pub returns-in-One-clause-happened : goal.returns-in-One-clause-happened
+returns-in-One-clause-happened g c =
     let i = c.self.inside in
-    rw (c.in-One.is, ← c.self.view_is) (happened_one _ _ _ refl (c.tick.ensures i.config.one i.two _))
+    rw (c.in-One.is, ← c.self.view_is) (happened_one _ _ _ refl (c.tick.ensures.makes i.config.one i.two _))
 
-pub returns-in-Two : goal.returns-in-Two
-returns-in-Two g c =
+pub returns-in-Two-clause-happened : goal.returns-in-Two-clause-happened
+returns-in-Two-clause-happened g c =
     let i = c.self.inside in
-    rw (c.in-Two.is, ← c.self.view_is) (happened_two _ _ _ refl (c.tick-in-Two.ensures i.config.two i.one _))
+    rw (c.in-Two.is, ← c.self.view_is) (happened_two _ _ _ refl (c.tick-in-Two.ensures.makes i.config.two i.one _))

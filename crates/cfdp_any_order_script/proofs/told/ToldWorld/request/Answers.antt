@@ -2,4 +2,4 @@ use Rattle.cfdp_any_order_script.proofs.Noted.{all_on, request_no}
 use Rattle.cfdp_any_order_script.proofs.told.ToldWorld.request.Goals as goal
 
 pub invariant_of-self : goal.invariant_of-self
-invariant_of-self c = all_on c.self.inside.files.now _ _ _ _ _ _ _ _ (c.show_onward.ensures _ _ _ c.request.ensures (request_no _ _ _)) c.self.invariant
+invariant_of-self c = all_on c.self.inside.files.now _ _ _ _ _ _ _ _ (c.show_onward.ensures _ _ _ c.request.ensures.happened (request_no _ _ _)) c.self.invariant
