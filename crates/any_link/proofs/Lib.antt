@@ -3,10 +3,15 @@ mod Sounds
 mod Holding
 mod Telling
 mod Turning
+mod Hearing
+mod Transmitting
 mod Doing
 mod Promising
+mod Inboxing
 mod Calling
 mod Knowing
+mod Lasting
+mod Sending
 mod Lying
 mod Wishing
 mod Readying

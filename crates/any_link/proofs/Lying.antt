@@ -1,6 +1,6 @@
 -- A file that left its spool as sent lies in the inbox of the other station.
-use Rattle.std.proofs.Common.{◌≡◌, ◌⊎◌, ℕ, zero, suc, true, cond, Option, Some, None, List, [], ◌∷◌, ◌++◌, refl, sym, ap, subst, ◌∙◌, inl, inr, arith, append-nil, append_assoc, ⊎_elim}
-use Rattle.std.specs.Prelude.{Contains}
+use Rattle.std.proofs.Common.{◌≡◌, Bool, ℕ, zero, suc, ◌+◌, ◌<◌, ◌≤◌, true, cond, Option, Some, None, List, [], ◌∷◌, ◌++◌, length, map, refl, sym, ap, ap₂, subst, ◌∙◌, inl, inr, arith, append-nil, append_assoc}
+use Rattle.std.specs.Prelude.{Contains, count_by}
 use Rattle.std.specs.FinMap.{get, insert, get-insert, slice_cmp-IsAntisymmetric, nat_cmp-IsAntisymmetric}
 use Rattle.std.specs.Ordering.{nat_cmp, is_eq, eq_by_cmp}
 use Rattle.std.specs.declared.cmp.Ordering.{Ordering}
@@ -12,11 +12,13 @@ use Rattle.std.proofs.lemmas.Cmp.{eq_by_cmp_equiv, nat_list_cmp_total}
 use Rattle.std.proofs.lemmas.List.Elements.{Contains-append_left, Contains-append_right}
 use Rattle.cfdp_header.specs.declared.value.TransactionId.{TransactionId}
 use Rattle.cfdp_header.specs.Files.{FileMap}
+use Rattle.cfdp_header.specs.Ids.{same_id}
 use Rattle.cfdp_directives.specs.declared.user.indication.Indication.{Indication}
-use Rattle.cfdp_directives.specs.User.Completions.{completions}
+use Rattle.cfdp_directives.specs.User.Completions.{FinishedOnce, completions, is_finished}
 use Rattle.cfdp_directives.specs.User.Put.{Put, inbox_after, overwritten}
-use Rattle.cfdp_directives.proofs.Puts.{inbox_after-append}
+use Rattle.cfdp_directives.proofs.Puts.{count_by-append, inbox_after-append}
 use Rattle.cfdp_entity.specs.Sound.{FindsById}
+use Rattle.cfdp_entity.specs.Table.{TableState}
 use Rattle.cfdp_station.specs.Station.{StationState}
 use Rattle.cfdp_station.specs.Transmitting.{Times}
 use Rattle.any_order.specs.Calls.{AreJoined, Setup, Side, at, other, setup_of}
@@ -24,15 +26,18 @@ use Rattle.any_order.specs.Kept.{IsOf}
 use Rattle.any_order.specs.Promise.{found}
 use Rattle.any_order.proofs.Puts.{finds_by_id}
 use Rattle.cfdp_port.specs.Calls.{WireCall}
-use Rattle.cfdp_service.specs.Calls.{Asks, Chain, UserCall}
-use Rattle.cfdp_service.specs.Clerk.{ClerkState, ClerkSteps, IsDelivered as IsHeardComplete}
-use Rattle.any_link.specs.Promise.{IsDelivered, IsSent, Lies, completed_by, told_by}
-use Rattle.any_link.specs.Serving.{Stations, served_at}
+use Rattle.cfdp_port.specs.Port.{table_of}
+use Rattle.cfdp_service.specs.Calls.{Asks, Chain, heard_by}
+use Rattle.cfdp_service.specs.Clerk.{ClerkState, ClerkSteps}
+use Rattle.any_link.specs.Promise.{AreDelivered, IsSent, Lies, completed_by, own_of, told_by}
+use Rattle.any_link.specs.Serving.{InboxLife, Stations, inboxes, served_at}
 use Rattle.any_link.proofs.Standing.{Goes, HaveServed, KeepPromise}
 use Rattle.any_link.proofs.Calling.{IsPut, accepts_put}
 use Rattle.any_link.proofs.Doing.{AllLaws}
-use Rattle.any_link.proofs.Knowing.{AreKnown, Known, delivered, own_so, served_known, went_known, went_sent}
-use Rattle.any_link.proofs.Promising.{held_keeps}
+use Rattle.any_link.proofs.Inboxing.{all_told, in_one}
+use Rattle.any_link.proofs.Knowing.{AreKnown, Known, delivered, served_known, went_known, went_sent}
+use Rattle.any_link.proofs.Promising.{AreHeld, held_at, held_keeps, inboxed_so, own_so}
+use Rattle.any_link.proofs.Sending.{Left, Tracks, WasSent, names_of, of_id, once_first, tracks_all}
 
 -- ---- lists
 split : {X : Type 0} (xs : List X) (x : X) → Contains xs x → (before : List X) × (behind : List X) × (xs ≡ before ++ x ∷ behind)
@@ -114,19 +119,26 @@ lies_so p by_id first before behind put is =
     (over_all p by_id put.destination behind (overwritten mid (p put.id)) (put.id ∷ []) now)
 
 -- ---- what was sent lies there
-sent_lies : (files : Side → FileMap) (w : Stations) (s : Side) (name : List ℕ) (put : Put) → KeepPromise files w → IsSent s name put w → Lies (other s) put w
-sent_lies files w s name put k sent =
+sent_lies : (all : AllLaws) (c : Setup) (joined : AreJoined c) (w : Stations) (h : AreHeld c w) (files : Side → FileMap) (s : Side) (name : List ℕ) (put : Put) → IsSent s name put w → Lies (other s) put w
+sent_lies all c joined w h files s name put sent =
+    let k : KeepPromise c files w = held_keeps all c joined w h files in
     let mine : IsOf (served_at s w).kept (at s k.now) = k.is s in
     let its : IsOf (served_at (other s) w).kept (at (other s) k.now) = k.is (other s) in
+    let own : ℕ = own_of (served_at (other s) w) in
     let told = subst (λ (x : StationState × List Indication). (put.id.source ≡ x.0.entity.state.config.entity) × Contains (x.1 ++ x.0.entity.state.table.told) (delivered put.id))
     (λ i. (sym mine.station i, sym mine.told i)) sent.told in
-    let done = ((k.holds s).told put.id told).completed in
+    let done = (k.told s put.id told).completed in
     let there : Contains (completed_by (served_at (other s) w)) put.id =
     subst (λ (x : StationState × List Indication). Contains (completions x.0.entity.state.config.entity (x.1 ++ x.0.entity.state.table.told)) put.id) (λ i. (its.station i, its.told i)) done in
-    let parts = split (completed_by (served_at (other s) w)) put.id there in
-    let has : HasFile (found w.puts) (finds_by_id w.puts) put.destination (inbox_after (found w.puts) (files (other s)) (parts.0 ++ put.id ∷ parts.1)) (put.id ∷ parts.1) =
-    lies_so (found w.puts) (finds_by_id w.puts) (files (other s)) parts.0 parts.1 put sent.is_put in
+    let all_lives = all_told own w.puts (served_at (other s) w) (inboxed_so all c joined w h (other s)) in
+    let one = in_one own (inboxes (served_at (other s) w)) put.id (subst (λ (l : List Indication). Contains (completions own l) put.id) (sym all_lives) there) in
+    let l : InboxLife = one.0 in
+    let parts = split (completions own l.told) put.id one.2 in
+    let has : HasFile (found w.puts) (finds_by_id w.puts) put.destination (inbox_after (found w.puts) l.begun (parts.0 ++ put.id ∷ parts.1)) (put.id ∷ parts.1) =
+    lies_so (found w.puts) (finds_by_id w.puts) l.begun parts.0 parts.1 put sent.is_put in
     record {
+      life = l;
+      one_of = one.1;
       before = parts.0;
       behind = parts.1;
       is = parts.2;
@@ -134,40 +146,100 @@ sent_lies files w s name put k sent =
       among = has.among;
       is_put = has.is_put;
       name = has.name_is;
-      file = ap (λ (f : FileMap). get f put.destination) (k.inbox (other s) ∙ ap (λ (l : List TransactionId). inbox_after (found w.puts) (files (other s)) l) parts.2) ∙ has.file;
+      file = ap (λ (f : FileMap). get f put.destination) (k.folded (other s) l one.1 ∙ ap (λ (ids : List TransactionId). inbox_after (found w.puts) l.begun ids) parts.2) ∙ has.file;
     }
 
 -- ---- what left the spool
-module _ {W : Type 0} (Steps : W → WireCall → W → Type 0) (all : AllLaws) (c : Setup) (files : Side → FileMap) (joined : AreJoined c) where
-  was_sent : (mid : Stations) (s : Side) (own : ℕ) (name : List ℕ) → AreKnown c files mid → IsHeardComplete own (served_at s mid).calls name → (put : Put) × IsSent s name put mid
-  was_sent mid s own name k d =
+-- Puts of what left, in order, each of its transaction and of which this holds.
+record PutsOf (P : Put → Type 0) (left : List Left) : Type 0 where
+  pub puts : List Put
+  pub named : map (λ (put : Put). put.source) puts ≡ names_of left
+  pub counted : (id : TransactionId) → count_by (λ (put : Put). same_id put.id id) puts ≡ of_id id left
+  pub each : (put : Put) → Contains puts put → P put
+
+-- A put of one that left.
+record PutOf (P : Put → Type 0) (l : Left) : Type 0 where
+  pub put : Put
+  pub source : put.source ≡ l.name
+  pub its_id : put.id ≡ l.id
+  pub holds : P put
+
+count_first : {X : Type 0} (p : X → Bool) (x : X) (xs : List X) → count_by p (x ∷ xs) ≡ cond (p x) 1 0 + count_by p xs
+count_first p x xs = count_by-append p (x ∷ []) xs ∙ omega arith
+
+all_puts : (P : Put → Type 0) (left : List Left) → ((l : Left) → Contains left l → PutOf P l) → PutsOf P left
+all_puts P [] each = record { puts = []; named = refl; counted = λ id. refl; each = λ put has. absurd (none put has) }
+  where
+    none : (put : Put) → Contains [] put → ⊥
+    none put (k, low, e) = omega (arith, low)
+all_puts P (l ∷ left) each =
+    let one : PutOf P l = each l (0, omega arith, refl) in
+    let rest : PutsOf P left = all_puts P left (λ x has. each x (suc has.0, (let k = has.0 in let low : k < length left = has.1 in omega (arith, low)), has.2)) in
+    record {
+      puts = one.put ∷ rest.puts;
+      named = ap₂ (λ (n : List ℕ) (ns : List (List ℕ)). n ∷ ns) one.source rest.named;
+      counted = λ id.
+          count_first (λ (put : Put). same_id put.id id) one.put rest.puts ∙ ap₂ (λ (i : TransactionId) (n : ℕ). cond (same_id i id) 1 0 + n) one.its_id (rest.counted id)
+          ∙ sym (count_first (λ (x : Left). same_id x.id id) l left);
+      each = either one rest;
+    }
+  where
+    either : (one : PutOf P l) (rest : PutsOf P left) (put : Put) → Contains (one.put ∷ rest.puts) put → P put
+    either one rest put (zero, low, e) = subst P e one.holds
+    either one rest put (suc k, low, e) = rest.each put (k, omega (arith, low), e)
+
+module _ {W : Type 0} (Steps : W → WireCall → W → Type 0) (all : AllLaws) (c : Setup) (joined : AreJoined c) where
+  was_sent : (mid : Stations) (s : Side) (own : ℕ) (l : Left) → AreKnown c mid → WasSent own (served_at s mid).calls l → PutOf (λ put. IsSent s put.source put mid) l
+  was_sent mid s own l k d =
       let a = d.accepted in
       let names = a.wishes.names in
       let known : Known (setup_of s c).entity.entity mid.puts (served_at s mid) = k.known s in
-      let it : IsPut (setup_of s c).entity.entity mid.puts names d.id =
-      known.are a.before a.behind names d.id (a.is ∙ ap (λ w. a.before ++ Asks w ∷ accepts_put d.id ∷ a.behind) a.wishes.is) in (
-        it.put,
-        record {
+      let it : IsPut (setup_of s c).entity.entity mid.puts names l.id =
+      known.are a.before a.behind names l.id (a.is ∙ ap (λ w. a.before ++ Asks w ∷ accepts_put l.id ∷ a.behind) a.wishes.is) in
+      record {
+        put = it.put;
+        source = it.source ∙ a.wishes.source;
+        its_id = it.its_id;
+        holds = record {
           is_put = ap (λ i. found mid.puts i) it.its_id ∙ it.is_put;
-          source = it.source ∙ a.wishes.source;
-          destination = it.destination ∙ a.wishes.destination;
+          source = refl;
+          destination = it.destination ∙ a.wishes.destination ∙ sym (it.source ∙ a.wishes.source);
           told = (
-            ap (λ i. i.source) it.its_id ∙ it.of_own ∙ sym (own_so Steps all c files joined s mid k.held),
-            subst (λ (i : TransactionId). Contains (told_by (served_at s mid)) (delivered i)) (sym it.its_id) (known.told (delivered d.id) d.told.1),
+            ap (λ i. i.source) it.its_id ∙ it.of_own ∙ sym (own_so c s mid k.held),
+            subst (λ (i : TransactionId). Contains (told_by (served_at s mid)) (delivered i)) (sym it.its_id) (known.told (delivered l.id) d.told.1),
           );
+        };
+      }
+
+  -- no transaction was heard finished twice in this life
+  heard_once : (mid : Stations) (s : Side) → AreKnown c mid → (id : TransactionId) → count_by (is_finished id) (heard_by (served_at s mid).calls) ≤ 1
+  heard_once mid s k id =
+      let t : TableState = table_of (served_at s mid).kept.station in
+      let from = held_at c mid s k.held in
+      let once : FinishedOnce t.told = subst (λ (x : StationState). FinishedOnce (table_of x).told) from.of_mine.station (λ i. let o = from.kept_mine.entity.once.once i in omega (arith, o)) in
+      subst (λ (l : List Indication). count_by (is_finished id) l ≤ 1) (sym (k.known s).gone.heard) (once_first t.gone t.told once id)
+
+  pub spooled : {S : Type 0} (sent failed : S → List (List ℕ)) (files : Side → FileMap) (mid now : Stations) (more : ℕ) → HaveServed Steps c files mid →
+      Times (Goes Steps c) more mid now → (s : Side) (old new : ClerkState S) → Chain (ClerkSteps sent failed) (served_at s mid).calls old new → old.asked ≡ None → old.files ≡ [] →
+      (left : List (List ℕ)) × (sent new.spool ≡ sent old.spool ++ left) × AreDelivered s left now
+  spooled sent failed files mid now more served went s old new chain asked none =
+      let k : AreKnown c mid = served_known Steps all c joined files mid served in
+      let then : AreKnown c now = went_known Steps all c joined more mid now went k in
+      let t : Tracks sent failed old (served_at s mid).calls new = tracks_all sent failed (served_at s mid).calls old new chain asked none in
+      let puts : PutsOf (λ put. IsSent s put.source put mid) t.left = all_puts (λ put. IsSent s put.source put mid) t.left (λ l has. was_sent mid s old.own l k (t.each l has)) in
+      let still : (put : Put) → Contains puts.puts put → IsSent s put.source put now =
+      (λ (put : Put) (has : Contains puts.puts put). went_sent Steps all c joined s put.source put more mid now went k.held (puts.each put has)) in (
+        names_of t.left,
+        t.gone,
+        record {
+          puts = puts.puts;
+          named = puts.named;
+          apart = λ id.
+              let same : count_by (λ (put : Put). same_id put.id id) puts.puts ≡ of_id id t.left = puts.counted id in
+              let few : of_id id t.left ≤ count_by (is_finished id) (heard_by (served_at s mid).calls) = t.few id in
+              let once : count_by (is_finished id) (heard_by (served_at s mid).calls) ≤ 1 = heard_once mid s k id in
+              omega (arith, same, few, once);
+          sent = still;
+          lie = λ put has. sent_lies all c joined now then.held files s put.source put (still put has);
         },
       )
-
-  pub spooled : {S : Type 0} (sent failed : S → List (List ℕ)) → ((calls : List UserCall) (old new : ClerkState S) → Chain (ClerkSteps sent failed) calls old new → old.asked ≡ None → old.files ≡ [] → (name : List ℕ) →
-      Contains (sent new.spool) name → Contains (sent old.spool) name ⊎ IsHeardComplete old.own calls name) → (mid now : Stations) (more : ℕ) → HaveServed Steps c files mid →
-      Times (Goes Steps c) more mid now → (s : Side) (old new : ClerkState S) → Chain (ClerkSteps sent failed) (served_at s mid).calls old new → old.asked ≡ None → old.files ≡ [] → (name : List ℕ) →
-      Contains (sent new.spool) name → Contains (sent old.spool) name ⊎ IsDelivered s name now
-  spooled sent failed left mid now more served went s old new chain asked none name has =
-      let k : AreKnown c files mid = served_known Steps all c files joined mid served in
-      let then : AreKnown c files now = went_known Steps all c files joined more mid now went k in
-      ⊎_elim (λ before. inl before)
-      (λ (d : IsHeardComplete old.own (served_at s mid).calls name).
-      let it = was_sent mid s old.own name k d in
-      let still : IsSent s name it.0 now = went_sent Steps all c files joined s name it.0 more mid now went k.held it.1 in
-      inr (record { put = it.0; sent = still; lies = sent_lies files now s name it.0 (held_keeps all c files joined now then.held) still }))
-      (left (served_at s mid).calls old new chain asked none name has)

@@ -2,6 +2,7 @@
 -- the files stand.
 use Rattle.std.proofs.Common.{◌≡◌, ℕ, zero, suc, Option, Result, Ok, Err, List, refl, sym, ap, subst, ◌∙◌, inl, inr}
 use Rattle.std.specs.FinMap.{empty}
+use Rattle.std.specs.Prelude.{Contains}
 use Rattle.cfdp_header.specs.declared.value.TransactionId.{TransactionId}
 use Rattle.cfdp_header.specs.Files.{FileMap}
 use Rattle.cfdp_directives.specs.User.Put.{Put, inbox_after}
@@ -27,8 +28,10 @@ use Rattle.cfdp_service.specs.declared.wish.Wish.TheVariants as wishes
 use Rattle.shown_sources.specs.Shown.{AreAsLong, counted_sending, entity_sending, station_sending, table_sending}
 use Rattle.shown_sources.proofs.Tables.{accepts_keeps, accepts_sending, put_refused_same, some_keeps, some_sending, station_answers, station_keeps}
 use Rattle.any_link.specs.Promise as promise
-use Rattle.any_link.specs.Serving.{Deed, Finds, IsBegun, Says, Served, Starts, Stations, Stops, Tells, Turns, Wishes, kept_sending, served_at}
+use Rattle.any_link.specs.Serving.{Deed, Finds, InboxLife, IsBegun, Says, Served, Starts, Stations, Stops, Tells, Turns, Wishes, inboxes, kept_sending, served_at}
 use Rattle.any_link.specs.Serving as serving
+use Rattle.any_order_endings.proofs.Lively.{Holds}
+use Rattle.any_link.proofs.Lasting.{AllHold, EndLaws, alike_holds}
 use Rattle.any_link.proofs.Shading.{Long, early_so, turn_so}
 use Rattle.any_link.proofs.Standing as standing
 
@@ -108,7 +111,7 @@ wish_so (wishes.Change id request) (replies.Put answer) has now a b added f long
 -- ---- what is done
 -- a station, with what its files to send have
 abbrev pub shade : Served → Served
-shade s = record { kept = kept_sending s.has s.kept; calls = s.calls; has = empty }
+shade s = record { kept = kept_sending s.has s.kept; calls = s.calls; has = empty; begun = s.begun; inboxes_before = s.inboxes_before }
 
 abbrev pub LongOf : Served → Type 0
 LongOf s = Long s.has s.kept.station
@@ -126,6 +129,10 @@ begun_long : (c : StationConfig) (first : ℕ) (sources files has : FileMap) (s 
 begun_long c first sources files has s b long =
     let is : (table_of s).sources ≡ sources = ap (λ (e : Counted). e.state.table.sources) b.counts.rest.0 ∙ ap (λ (e : EntityState). e.table.sources) b.is_new.entity in
     subst (λ (f : FileMap). AreAsLong f has) (sym is) long
+
+-- a station that went on, so seen
+shade_same : (old new : Served) → new ≡ record old { kept = new.kept } → new.has ≡ old.has → shade new ≡ record (shade old) { kept = (shade new).kept }
+shade_same old new same has = ap shade same ∙ ap (λ (f : FileMap). record (shade old) { kept = kept_sending f new.kept }) (sym has)
 
 module _ {W : Type 0} (Steps : W → WireCall → W → Type 0) where
   deed_so : (deed : Deed) (c : StationConfig) (theirs : EndKept) (others : FileMap) (old new : Served) (puts puts_then : List Put) → serving.DoesDeed Steps deed c theirs old new puts puts_then → LongOf old →
@@ -145,29 +152,39 @@ module _ {W : Type 0} (Steps : W → WireCall → W → Type 0) where
       let still : Long old.has station =
       subst (λ (f : FileMap). AreAsLong f old.has) (sym (some_keeps old.kept.station.entity.state station.entity.state go.forgets)) long in
       ((station_sending old.has station, gone, ap shade same, more), subst (λ (s : Served). LongOf s) (sym same) still)
-  deed_so Turns c theirs others old new puts puts_then (turn, calls, has, more) long =
+  deed_so Turns c theirs others old new puts puts_then (turn, same, more) long =
+      let has : new.has ≡ old.has = ap (λ (s : Served). s.has) same in
       let r = turn_so old.has Steps c.receives theirs (kept_sending others theirs) refl old.kept new.kept turn long in (
-        (subst (λ (f : FileMap). standing.TakesTurn Steps c.receives (kept_sending others theirs) (kept_sending old.has old.kept) (kept_sending f new.kept)) (sym has) r.0, calls, more),
+        (
+          subst (λ (f : FileMap). standing.TakesTurn Steps c.receives (kept_sending others theirs) (kept_sending old.has old.kept) (kept_sending f new.kept)) (sym has) r.0,
+          shade_same old new same has,
+          more,
+        ),
         subst (λ (f : FileMap). Long f new.kept.station) (sym has) r.1,
       )
-  deed_so Stops c theirs others old new puts puts_then (turn, calls, has, more) long =
+  deed_so Stops c theirs others old new puts puts_then (turn, same, more) long =
+      let has : new.has ≡ old.has = ap (λ (s : Served). s.has) same in
       let r = early_so old.has Steps c.receives theirs (kept_sending others theirs) refl old.kept new.kept turn long in (
-        (subst (λ (f : FileMap). standing.EndsEarly Steps c.receives (kept_sending others theirs) (kept_sending old.has old.kept) (kept_sending f new.kept)) (sym has) r.0, calls, more),
+        (
+          subst (λ (f : FileMap). standing.EndsEarly Steps c.receives (kept_sending others theirs) (kept_sending old.has old.kept) (kept_sending f new.kept)) (sym has) r.0,
+          shade_same old new same has,
+          more,
+        ),
         subst (λ (f : FileMap). Long f new.kept.station) (sym has) r.1,
       )
   deed_so (Starts first number) c theirs others old new puts puts_then (a, more) long =
       let config : StationConfig = record c { entity = numbered_from number c.entity } in
-      let files : FileMap = (table_of old.kept.station).files in
       let starts : standing.StartsAnew first number c (shade old) (shade new) = record {
         valid = a.valid;
         sources = new.has;
-        begun = begun_so config first a.sources files new.has new.kept.station a.begun;
+        begun = begun_so config first a.sources new.begun new.has new.kept.station a.begun;
         unused = a.unused;
         apart = a.apart;
         kept = ap (kept_sending new.has) a.kept;
         calls = a.calls;
+        inboxes_before = a.inboxes_before;
       } in
-      ((starts, more), begun_long config first a.sources files new.has new.kept.station a.begun a.long)
+      ((starts, more), begun_long config first a.sources new.begun new.has new.kept.station a.begun a.long)
 
   -- ---- at both
   module _ (c : Setup) where
@@ -201,6 +218,8 @@ module _ {W : Type 0} (Steps : W → WireCall → W → Type 0) where
       begun = begun_so (setup_of s c) (counts s) (sources s) (files s) (served_at s w).has (served_at s w).kept.station f.begun;
       kept = ap (kept_sending (served_at s w).has) f.kept;
       calls = f.calls;
+      is_begun = f.is_begun;
+      inboxes_before = f.inboxes_before;
     }
 
     each_first : (counts : Side → ℕ) (sources files : Side → FileMap) (w : Stations) → ((s : Side) → serving.IsFirst (setup_of s c) (counts s) (sources s) (files s) (served_at s w)) → (s : Side) →
@@ -234,17 +253,38 @@ module _ {W : Type 0} (Steps : W → WireCall → W → Type 0) where
         )
 
     -- ---- what holds
-    pub keeps_so : (files : Side → FileMap) (w : Stations) → standing.KeepPromise files (shade_all w) → promise.KeepPromise files w
+    pub keeps_so : (files : Side → FileMap) (w : Stations) → standing.KeepPromise c files (shade_all w) → promise.KeepPromise c files w
     unfolding shade_all
-    keeps_so files w k = record { now = k.now; is = is; puts = k.puts; holds = k.holds; inbox = inbox }
+    keeps_so files w k = record {
+      now = k.now;
+      is = is;
+      puts = k.puts;
+      can_be = k.can_be;
+      once = k.once;
+      caused = k.caused;
+      told = k.told;
+      truth = k.truth;
+      folded = folded;
+      inbox = inbox;
+    }
       where
         is : (s : Side) → IsOf (kept_sending (served_at s w).has (served_at s w).kept) (at s k.now)
         is One = k.is One
         is Two = k.is Two
 
-        inbox : (s : Side) → promise.inbox_of (served_at s w) ≡ inbox_after (found w.puts) (files s) (promise.completed_by (served_at s w))
-        inbox One = k.inbox One
-        inbox Two = k.inbox Two
+        folded : (s : Side) (l : InboxLife) → Contains (inboxes (served_at s w)) l → promise.IsFolded (promise.own_of (served_at s w)) w.puts l
+        folded One l among = k.folded One l among
+        folded Two l among = k.folded Two l among
+
+        inbox : (s : Side) → promise.FollowEachOther (files s) (inboxes (served_at s w)) → promise.inbox_of (served_at s w) ≡ inbox_after (found w.puts) (files s) (promise.completed_by (served_at s w))
+        inbox One follow = k.inbox One follow
+        inbox Two follow = k.inbox Two follow
+
+    -- with what its outbox has, a station has as much to do
+    pub holds_so : (laws : EndLaws) (w : Stations) → AllHold c (shade_all w) → (s : Side) → Holds (setup_of s c).entity.policy (served_at s w).kept.station.entity.state
+    unfolding shade_all
+    holds_so laws w k One = alike_holds laws c.one.entity.policy _ w.one.kept.station.entity.state refl refl refl refl (k One)
+    holds_so laws w k Two = alike_holds laws c.two.entity.policy _ w.two.kept.station.entity.state refl refl refl refl (k Two)
 
     sent_so : (s : Side) (name : List ℕ) (put : Put) (w : Stations) → promise.IsSent s name put (shade_all w) → promise.IsSent s name put w
     unfolding shade_all
@@ -253,11 +293,17 @@ module _ {W : Type 0} (Steps : W → WireCall → W → Type 0) where
 
     lies_so : (s : Side) (put : Put) (w : Stations) → promise.Lies s put (shade_all w) → promise.Lies s put w
     unfolding shade_all
-    lies_so One put w l = record { before = l.before; behind = l.behind; is = l.is; last = l.last; among = l.among; is_put = l.is_put; name = l.name; file = l.file }
-    lies_so Two put w l = record { before = l.before; behind = l.behind; is = l.is; last = l.last; among = l.among; is_put = l.is_put; name = l.name; file = l.file }
+    lies_so One put w l = record { life = l.life; one_of = l.one_of; before = l.before; behind = l.behind; is = l.is; last = l.last; among = l.among; is_put = l.is_put; name = l.name; file = l.file }
+    lies_so Two put w l = record { life = l.life; one_of = l.one_of; before = l.before; behind = l.behind; is = l.is; last = l.last; among = l.among; is_put = l.is_put; name = l.name; file = l.file }
 
-    pub delivered_so : (s : Side) (name : List ℕ) (w : Stations) → promise.IsDelivered s name (shade_all w) → promise.IsDelivered s name w
-    delivered_so s name w d = record { put = d.put; sent = sent_so s name d.put w d.sent; lies = lies_so (other s) d.put w d.lies }
+    pub delivered_so : (s : Side) (names : List (List ℕ)) (w : Stations) → promise.AreDelivered s names (shade_all w) → promise.AreDelivered s names w
+    delivered_so s names w d = record {
+      puts = d.puts;
+      named = d.named;
+      apart = d.apart;
+      sent = λ put has. sent_so s put.source put w (d.sent put has);
+      lie = λ put has. lies_so (other s) put w (d.lie put has);
+    }
 
     pub calls_so : (s : Side) (w : Stations) → (served_at s (shade_all w)).calls ≡ (served_at s w).calls
     unfolding shade_all

@@ -1,9 +1,10 @@
 -- Two stations in service whose files to send stand: what is done at either, one thing after another. Those of `specs` are
 -- led to these by putting what their files have in the place of what the outbox has.
-use Rattle.std.specs.Prelude.{◌≡◌, ◌⊎◌, ◌<◌, ◌≤◌, ◌+◌, ℕ, List, [], ◌∷◌, ◌++◌, length, map, slice_get, Some, None, Result, Err, IsTrue}
+use Rattle.std.specs.Prelude.{◌≡◌, ◌⊎◌, ◌<◌, ◌≤◌, ◌+◌, ℕ, List, [], ◌∷◌, ◌++◌, length, map, slice_get, Some, None, Result, Err, IsTrue, Contains}
 use Rattle.aos_frame.specs.declared.config.Lane.{Lane}
 use Rattle.cfdp_header.specs.declared.value.TransactionId.{TransactionId}
 use Rattle.cfdp_header.specs.Files.{FileMap}
+use Rattle.cfdp_directives.specs.User.Completions.{FinishedOnce}
 use Rattle.cfdp_directives.specs.User.Put.{Put, inbox_after}
 use Rattle.cfdp_store.specs.Files.{octets_in}
 use Rattle.cfdp_sender.specs.State.{SenderState}
@@ -16,7 +17,7 @@ use Rattle.cfdp_station.specs.declared.config.StationConfig.{StationConfig}
 use Rattle.cfdp_station.specs.Requests.{StationAnswers}
 use Rattle.cfdp_station.specs.Station.{StationState}
 use Rattle.cfdp_station.specs.Transmitting.{Times}
-use Rattle.any_order.specs.Calls.{Pair, Setup, Side, at, numbered_from, other, setup_of}
+use Rattle.any_order.specs.Calls.{Pair, Setup, Side, at, entity_of, numbered_from, other, setup_of}
 use Rattle.any_order.specs.Kept.{EndKept, IsOf, all_kept, frames_in}
 use Rattle.cfdp_port.specs.Asking.{CountsFrom, FailsToLook, LooksAt, Puts}
 use Rattle.cfdp_port.specs.Asking as asking
@@ -33,10 +34,10 @@ use Rattle.cfdp_port.specs.Passing.{frames_came}
 use Rattle.cfdp_port.specs.PeerTurn.{SendsSomeInPart, TakesOne}
 use Rattle.cfdp_port.specs.Port.{PortState, port_state}
 use Rattle.cfdp_port.specs.Turn.{AsksOn, TellsTime}
-use Rattle.any_order.specs.Promise.{HoldsAt, found}
+use Rattle.any_order.specs.Promise.{CausedAt, ToldAt, TruthAt, found}
 use Rattle.any_link.specs.Passing.{Comes, with_sent}
-use Rattle.any_link.specs.Promise.{completed_by, inbox_of}
-use Rattle.any_link.specs.Serving.{Deed, Wishes, Says, Tells, LetsGo, Turns, Stops, Starts, IsBegun, IsSaid, Served, Stations, accepted_by, life_from, served_at, served_on}
+use Rattle.any_link.specs.Promise.{CanBe, FollowEachOther, IsFolded, completed_by, inbox_of, own_of}
+use Rattle.any_link.specs.Serving.{Deed, InboxLife, Wishes, Says, Tells, LetsGo, Turns, Stops, Starts, IsBegun, IsSaid, Served, Stations, accepted_by, inboxes, life_from, served_at, served_on}
 
 -- ---- turns
 -- The files that a station sends stand: every read showed what was there before.
@@ -123,15 +124,17 @@ pub record IsFirst (c : StationConfig) (first : ℕ) (sources files : FileMap) (
     last_data = None;
   }
   pub calls : s.calls ≡ []
+  pub is_begun : s.begun ≡ files
+  pub inboxes_before : s.inboxes_before ≡ []
 
--- A station starts anew: with the files of its inbox, and with any files to send. Its frames are
+-- A station starts anew: with any files in its inbox, and with any files to send. Its frames are
 -- counted from a number behind those of its frames before, of which at least one is left out, and
 -- its puts are numbered from a number on that no put of it had.
 pub record StartsAnew (first number : ℕ) (c : StationConfig) (old new : Served) : Type 0 where
   pub valid : IsConfig (numbered_from number c.entity)
   pub sources : FileMap
   pub begun : IsBegun (record c { entity = numbered_from number c.entity }) first sources
-      (table_of old.kept.station).files new.kept.station
+      new.begun new.kept.station
   pub unused : old.kept.station.entity.state.next ≤ number
   pub apart : (lane : Lane) →
       old.kept.latest.first + length (frames_in lane old.kept.latest) < first
@@ -144,6 +147,7 @@ pub record StartsAnew (first number : ℕ) (c : StationConfig) (old new : Served
     last_data = None;
   }
   pub calls : new.calls ≡ []
+  pub inboxes_before : new.inboxes_before ≡ inboxes old
 
 -- ---- what is done
 -- This was done at a station that is set up so, `theirs` being what is kept of the other one.
@@ -163,10 +167,10 @@ DoesDeed Steps LetsGo c theirs old new puts puts_then =
     (station : StationState) × asking.LetsGo old.kept.station station
     × (new ≡ served_on station [] old) × (puts_then ≡ puts)
 DoesDeed Steps Turns c theirs old new puts puts_then =
-    TakesTurn Steps c.receives theirs old.kept new.kept × (new.calls ≡ old.calls)
+    TakesTurn Steps c.receives theirs old.kept new.kept × (new ≡ record old { kept = new.kept })
     × (puts_then ≡ puts)
 DoesDeed Steps Stops c theirs old new puts puts_then =
-    EndsEarly Steps c.receives theirs old.kept new.kept × (new.calls ≡ old.calls)
+    EndsEarly Steps c.receives theirs old.kept new.kept × (new ≡ record old { kept = new.kept })
     × (puts_then ≡ puts)
 DoesDeed Steps (Starts first number) c theirs old new puts puts_then =
     StartsAnew first number c old new × (puts_then ≡ puts)
@@ -199,9 +203,14 @@ pub record HaveServed {W : Type 0} (Steps : W → WireCall → W → Type 0) (c 
 
 -- ---- the promise
 -- The promise holds of both stations and of all that was done with them.
-pub record KeepPromise (files : Side → FileMap) (w : Stations) : Type 0 where
+pub record KeepPromise (c : Setup) (files : Side → FileMap) (w : Stations) : Type 0 where
   pub now : Pair
   pub is : (s : Side) → IsOf (served_at s w).kept (at s now)
   pub puts : now.puts ≡ w.puts
-  pub holds : (s : Side) → HoldsAt s (files s) now
-  pub inbox : (s : Side) → inbox_of (served_at s w) ≡ inbox_after (found w.puts) (files s) (completed_by (served_at s w))
+  pub can_be : (s : Side) → CanBe (setup_of s c) (setup_of (other s) c) (at s now) (at (other s) now)
+  pub once : (s : Side) → FinishedOnce (entity_of (at s now)).table.told
+  pub caused : (s : Side) → CausedAt s now
+  pub told : (s : Side) → ToldAt s now
+  pub truth : (s : Side) → TruthAt s now
+  pub folded : (s : Side) (l : InboxLife) → Contains (inboxes (served_at s w)) l → IsFolded (own_of (served_at s w)) w.puts l
+  pub inbox : (s : Side) → FollowEachOther (files s) (inboxes (served_at s w)) → inbox_of (served_at s w) ≡ inbox_after (found w.puts) (files s) (completed_by (served_at s w))

@@ -40,7 +40,7 @@ MakesSome c old theirs new puts = (calls : List Call) × Makes calls c old their
 abbrev pub at : StationState → EndKept → EndKept
 at s k = record k { station = s }
 
-same_stand : (a b : StationState) → b.entity ≡ a.entity → Stand b → Stand a
+pub same_stand : (a b : StationState) → b.entity ≡ a.entity → Stand b → Stand a
 same_stand a b same stand = sym (ap (λ (e : Counted). e.state.table.stands) same) ∙ stand
 
 -- ---- what came
@@ -51,15 +51,51 @@ module _ {W : Type 0} (Steps : W → WireCall → W → Type 0) where
     | inr all ↦ ap (λ (x : PortState W). x.station) all.1
   ]
 
+-- Its life goes on.
+pub record SameLife (old new : EndKept) : Type 0 where
+  pub before : new.before ≡ old.before
+  pub told : new.told_before ≡ old.told_before
+
+life_then : (a b c : EndKept) → SameLife a b → SameLife b c → SameLife a c
+life_then a b c g h = record { before = h.before ∙ g.before; told = h.told ∙ g.told }
+
+life_is : (a b : EndKept) → b ≡ a → SameLife a b
+life_is a b same = record { before = ap (λ (k : EndKept). k.before) same; told = ap (λ (k : EndKept). k.told_before) same }
+
+last_life : (lane : Lane) (n : ℕ) (k : EndKept) → SameLife k (with_last lane n k)
+last_life Directives n k = record { before = refl; told = refl }
+last_life Data n k = record { before = refl; told = refl }
+
+one_life : (link : LinkConfig) (octets : List ℕ) (from old new : EndKept) → ComesOne link octets from old new → SameLife old new
+one_life link octets from old new (inl copy) =
+    subst (λ (k : EndKept). SameLife old k) (sym copy.last) (last_life copy.frame.lane (number_in copy.frame copy.life) old)
+one_life link octets from old new (inr (stray, same)) = life_is old new same
+
+comes_life : (link : LinkConfig) (came : List (List ℕ)) (from old new : EndKept) → Comes link came from old new → SameLife old new
+comes_life link [] from old new same = life_is old new same
+comes_life link (octets ∷ came) from old new (mid, one, rest) = life_then old mid new (one_life link octets from old mid one) (comes_life link came from mid new rest)
+
+module _ {W : Type 0} (Steps : W → WireCall → W → Type 0) (link : LinkConfig) (theirs old new : EndKept) where
+  pub turn_life : TakesTurn Steps link theirs old new → SameLife old new
+  turn_life t =
+      life_then old t.heard new (comes_life link _ theirs old t.heard t.came)
+      (record { before = ap (λ (k : EndKept). k.before) t.kept; told = ap (λ (k : EndKept). k.told_before) t.kept })
+
+  pub early_life : EndsEarly Steps link theirs old new → SameLife old new
+  early_life t = life_then old t.heard new (comes_life link _ theirs old t.heard t.came) (elim (t.ends) [
+    | inl same ↦ record { before = ap (λ (k : EndKept). k.before) same; told = ap (λ (k : EndKept). k.told_before) same }
+    | inr more ↦ record { before = ap (λ (k : EndKept). k.before) more.kept; told = ap (λ (k : EndKept). k.told_before) more.kept }
+  ])
+
 module _ (laws : GoesOnLaws) (c : StationConfig) (theirs : EndKept) (puts : List Put) where
-  none_made : (old new : EndKept) → new ≡ old → MakesSome c old theirs new puts
+  pub none_made : (old new : EndKept) → new ≡ old → MakesSome c old theirs new puts
   none_made old new same = ([], makes_none c old theirs new puts same)
 
   pub both_made : (old mid new : EndKept) → MakesSome c old theirs mid puts → MakesSome c mid theirs new puts → MakesSome c old theirs new puts
   both_made old mid new a b = (a.0 ++ b.0, makes_both a.0 b.0 c old theirs mid new puts puts puts a.1 b.1)
 
   -- ---- polls
-  polled : (k : EndKept) (answer : Polled) (a b : StationState) → PollsOnce answer a b → Stand b → MakesSome c (at a k) theirs (at b k) puts
+  pub polled : (k : EndKept) (answer : Polled) (a b : StationState) → PollsOnce answer a b → Stand b → MakesSome c (at a k) theirs (at b k) puts
   polled k answer a b once stand =
       let lent : station_lent b a ≡ a = (polls-stood answer a b once.shows stand).1 in (
         Polls answer ∷ [],
@@ -67,7 +103,7 @@ module _ (laws : GoesOnLaws) (c : StationConfig) (theirs : EndKept) (puts : List
             (λ moved. subst (λ (s : StationState). SpellsTurn (turn s.entity.state) s.entity.state) lent (once.spells moved)) refl,
       )
 
-  moved : (k : EndKept) (count : ℕ) (a b : StationState) → Times MovesMore count a b → Stand b → MakesSome c (at a k) theirs (at b k) puts
+  pub moved : (k : EndKept) (count : ℕ) (a b : StationState) → Times MovesMore count a b → Stand b → MakesSome c (at a k) theirs (at b k) puts
   moved k zero a b same stand = none_made (at a k) (at b k) (ap (λ (s : StationState). at s k) same)
   moved k (suc count) a b (mid, before, step) stand =
       let stood : Stand mid = (poll-gains laws step.1.0 mid b step.1.2).stood stand in
@@ -85,14 +121,14 @@ module _ (laws : GoesOnLaws) (c : StationConfig) (theirs : EndKept) (puts : List
   ended_stood true count a b ends stand = (poll-gains laws ends.1.1.0 a b ends.1.1.2).stood stand
   ended_stood false count a b ends stand = subst (λ (s : StationState). Stand s) ends.1 stand
 
-  filled : (k : EndKept) (whole : Bool) (a b : StationState) → FillsUp whole a b → MakesSome c (at a k) theirs (at b k) puts
+  pub filled : (k : EndKept) (whole : Bool) (a b : StationState) → FillsUp whole a b → MakesSome c (at a k) theirs (at b k) puts
   filled k true a b f = (Fills Directives ∷ [], makes_fill Directives c (at a k) theirs (at b k) puts f.fills f.file_data f.keeps refl)
   filled k false a b f =
       let mid : StationState = record a { down = record a.down { directives = b.down.directives } } in
       both_made (at a k) (at mid k) (at b k) (Fills Directives ∷ [], makes_fill Directives c (at a k) theirs (at mid k) puts (f.0.lanes Directives) refl (refl, refl) refl)
       (Fills Data ∷ [], makes_fill Data c (at mid k) theirs (at b k) puts (f.0.lanes Data) refl f.1 refl)
 
-  filled_same : (whole : Bool) (a b : StationState) → FillsUp whole a b → b.entity ≡ a.entity
+  pub filled_same : (whole : Bool) (a b : StationState) → FillsUp whole a b → b.entity ≡ a.entity
   filled_same true a b f = f.keeps.0
   filled_same false a b f = f.1.0
 

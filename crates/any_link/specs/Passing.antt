@@ -1,6 +1,8 @@
 -- What passes in a turn of a port over a link that delivers frames in any order, any number of
 -- times, or not at all, and among them octets of which no packet can come; and what is kept of it.
-use Rattle.std.specs.Prelude.{◌≡◌, ◌⊎◌, ◌<◌, ℕ, zero, suc, List, [], ◌∷◌, slice_index_or, ⊤}
+use Rattle.std.specs.Prelude.{◌≡◌, ◌⊎◌, ◌<◌, ℕ, zero, suc, List, [], ◌∷◌, Option, Some, None}
+use Rattle.std.specs.Prelude.{slice_index_or, ⊤}
+use Rattle.aos_frame.specs.declared.config.Lane.{Lane}
 use Rattle.std.proofs.Common.{inl, inr}
 use Rattle.aos_frame.specs.declared.config.LinkConfig.{LinkConfig}
 use Rattle.cfdp_header.specs.Files.{FileMap}
@@ -37,6 +39,12 @@ abbrev pub Comes : LinkConfig → (came : List (List ℕ)) → (from old new : E
 Comes link [] from old new = new ≡ old
 Comes link (octets ∷ came) from old new =
     (mid : EndKept) × ComesOne link octets from old mid × Comes link came from mid new
+
+-- ---- what leaves by a call for the next frame
+-- the frames of a life, once this one left in this lane, if one did
+abbrev pub with_given : Option Lane → (frame : List ℕ) → LifeKept → LifeKept
+with_given (Some lane) frame life = with_frame lane frame life
+with_given None frame life = life
 
 -- ---- what is read
 -- These polls read no octets of a file but those that these files have there.

@@ -7,6 +7,7 @@ use Rattle.aos_frame.specs.Counts.{frame_counts}
 use Rattle.aos_frame.specs.declared.config.Lane.{Lane}
 use Rattle.cfdp_header.specs.declared.value.TransactionId.{TransactionId}
 use Rattle.cfdp_header.specs.Files.{FileMap}
+use Rattle.cfdp_directives.specs.declared.user.indication.Indication.{Indication}
 use Rattle.cfdp_directives.specs.User.Put.{Put}
 use Rattle.cfdp_store.specs.Files.{octets_in}
 use Rattle.cfdp_sender.specs.State.{SenderState}
@@ -40,12 +41,30 @@ use Rattle.cfdp_service.specs.Serving.{Does, Prepares, once_told, said_by, wish_
 use Rattle.any_link.specs.Passing as passing
 
 -- ---- a station in service
--- What is kept of it; the calls of its user in this life; and what the files have that it can send,
--- since each was looked for: as others made them, of which no code sees more than it reads.
+-- A life of an inbox: which files it had as the life of its station began, which may be any; what
+-- the station indicated in this life; and which files the inbox has, or had as the life ended.
+pub record InboxLife : Type 0 where
+  pub begun : FileMap
+  pub told : List Indication
+  pub files : FileMap
+
+-- What is kept of it; the calls of its user in this life; what the files have that it can send,
+-- since each was looked for: as others made them, of which no code sees more than it reads; which
+-- files its inbox had as this life began; and the lives before of its inbox.
 pub record Served : Type 0 where
   pub kept : EndKept
   pub calls : List UserCall
   pub has : FileMap
+  pub begun : FileMap
+  pub inboxes_before : List InboxLife
+
+-- all lives of its inbox, this one last
+abbrev pub inboxes : Served → List InboxLife
+inboxes s = s.inboxes_before ++ record {
+  begun = s.begun;
+  told = (table_of s.kept.station).told;
+  files = (table_of s.kept.station).files;
+} ∷ []
 
 -- what is kept of a station, with these files to send in the place of those of its outbox
 abbrev pub kept_sending : FileMap → EndKept → EndKept
@@ -142,7 +161,7 @@ IsSaid _ = ⊥
 
 -- ---- a life begins
 -- A station is new, as a program makes it, and its frames are counted from this number on. It has
--- these files to send, which stand, and those in its inbox.
+-- these files to send, which stand, and those in its inbox, as the inbox says.
 pub record IsBegun (c : StationConfig) (first : ℕ) (sources files : FileMap) (s : StationState)
     : Type 0 where
   pub fresh : StationState
@@ -169,15 +188,17 @@ pub record IsFirst (c : StationConfig) (first : ℕ) (sources files : FileMap) (
     last_data = None;
   }
   pub calls : s.calls ≡ []
+  pub is_begun : s.begun ≡ files
+  pub inboxes_before : s.inboxes_before ≡ []
 
--- A station starts anew: with the files of its inbox, and with any files to send, which have
+-- A station starts anew: with any files in its inbox, and with any files to send, which have
 -- anything. Its frames are counted from a number behind those of its frames before, of which at
 -- least one is left out, and its puts are numbered from a number on that no put of it had.
 pub record StartsAnew (first number : ℕ) (c : StationConfig) (old new : Served) : Type 0 where
   pub valid : IsConfig (numbered_from number c.entity)
   pub sources : FileMap
   pub begun : IsBegun (record c { entity = numbered_from number c.entity }) first sources
-      (table_of old.kept.station).files new.kept.station
+      new.begun new.kept.station
   pub unused : old.kept.station.entity.state.next ≤ number
   pub apart : (lane : Lane) →
       old.kept.latest.first + length (frames_in lane old.kept.latest) < first
@@ -190,6 +211,7 @@ pub record StartsAnew (first number : ℕ) (c : StationConfig) (old new : Served
     last_data = None;
   }
   pub calls : new.calls ≡ []
+  pub inboxes_before : new.inboxes_before ≡ inboxes old
   pub long : AreAsLong sources new.has
 
 -- ---- what is done
@@ -224,10 +246,10 @@ DoesDeed Steps LetsGo c theirs old new puts puts_then =
     × (new ≡ served_on station [] old) × (puts_then ≡ puts)
 DoesDeed Steps Turns c theirs old new puts puts_then =
     passing.TakesTurn Steps c.receives old.has theirs old.kept new.kept
-    × (new.calls ≡ old.calls) × (new.has ≡ old.has) × (puts_then ≡ puts)
+    × (new ≡ record old { kept = new.kept }) × (puts_then ≡ puts)
 DoesDeed Steps Stops c theirs old new puts puts_then =
     passing.EndsEarly Steps c.receives old.has theirs old.kept new.kept
-    × (new.calls ≡ old.calls) × (new.has ≡ old.has) × (puts_then ≡ puts)
+    × (new ≡ record old { kept = new.kept }) × (puts_then ≡ puts)
 DoesDeed Steps (Starts first number) c theirs old new puts puts_then =
     StartsAnew first number c old new × (puts_then ≡ puts)
 

@@ -1,12 +1,15 @@
 //! The laws, each the contract of a function that does nothing.
-ghost use Rattle.std.specs.Prelude.{◌≡◌, ◌⊎◌, ℕ, List, [], None, Contains};
+ghost use Rattle.std.specs.Prelude.{◌≡◌, ◌≤◌, ◌++◌, ℕ, List, [], None, Option, IsTrue};
+ghost use Rattle.aos_frame.specs.declared.config.Lane.{Lane};
 ghost use Rattle.aos_frame.specs.declared.config.LinkConfig.{LinkConfig};
 ghost use Rattle.cfdp_header.specs.Files.{FileMap};
 ghost use Rattle.cfdp_directives.specs.User.Put.{Put};
+ghost use Rattle.cfdp_entity.specs.Entity.{EntityState};
+ghost use Rattle.cfdp_endings.specs.Entity.{AreRounds, GivesUp, IsLively, NoneOpen, records_left};
 ghost use Rattle.cfdp_station.specs.Station.{StationState};
-ghost use Rattle.cfdp_station.specs.Transmitting.{Times};
+ghost use Rattle.cfdp_station.specs.Transmitting.{Times, Transmits};
 ghost use Rattle.cfdp_station.specs.declared.config.StationConfig.{StationConfig};
-ghost use Rattle.any_order.specs.Calls.{AreJoined, Call, Setup, Side};
+ghost use Rattle.any_order.specs.Calls.{AreJoined, Call, Setup, Side, setup_of};
 ghost use Rattle.any_order.specs.Kept.{EndKept, Makes};
 ghost use Rattle.cfdp_port.specs.Passing.{frames_came};
 ghost use Rattle.cfdp_port.specs.PeerTurn.{TakesInPart};
@@ -17,17 +20,18 @@ ghost use Rattle.cfdp_service.specs.declared.wish.Reply.{Reply};
 ghost use Rattle.cfdp_service.specs.declared.wish.Wish.{Wish};
 ghost use Rattle.cfdp_service.specs.Clerk.{ClerkState, ClerkSteps};
 ghost use Rattle.shown_sources.specs.Shown.{AreAsLong};
-ghost use Rattle.any_link.specs.Passing.{Comes, EndRead, EndsEarly, TakesTurn};
-ghost use Rattle.any_link.specs.Promise.{IsDelivered, KeepPromise};
+ghost use Rattle.any_link.specs.Passing.{Comes, EndRead, EndsEarly, TakesTurn, with_given};
+ghost use Rattle.any_link.specs.Promise.{AreDelivered, KeepPromise};
 ghost use Rattle.any_link.specs.Serving.{Fulfils, Goes, HaveServed, IsFree, IsPrepared, Leads};
 ghost use Rattle.any_link.specs.Serving.{MayFind, Stations, kept_sending, served_at, served_on};
 ghost use Rattle.any_link.specs.Serving.{with_has};
 
+use cfdp_endings::{an_entity_alone_ends, an_entity_is_never_silent};
 use cfdp_entity::{
     an_entity_goes_on, an_entity_keeps_the_truth, an_entity_may_forget, an_entity_sends_the_truth,
 };
 use cfdp_port::PeerWire;
-use cfdp_service::{Spool, what_is_sent_was_heard_complete};
+use cfdp_service::Spool;
 use link_stack::what_comes_up_was_put_in_once;
 
 /// What a port does in a turn is calls of its station, as [`any_order`] has them: whole, or ended
@@ -44,6 +48,20 @@ pub fn a_turn_is_calls<W: PeerWire>()
         (puts : List Put) → EndsEarly W.steps c.receives files theirs old new
         → AreAsLong (table_of old.station).sources files → (calls : List Call)
         × Makes calls c (kept_sending files old) theirs (kept_sending files new) puts puts }
+{
+    an_entity_goes_on();
+}
+
+/// What [`Station::transmit`](cfdp_station::Station::transmit) does is calls of its station, as
+/// [`any_order`] has them, if its files stand: polls, lanes that are filled, and the frame that is
+/// given. So a loop of puts, ticks, frames that are received and transmissions is such calls, and
+/// [`any_order::the_promise_holds_in_any_order`] is about it.
+pub fn a_transmission_is_calls()
+    ensures { (c : StationConfig) (theirs old new : EndKept) (answer : Option Lane)
+        (frame : List ℕ) (puts : List Put) → Transmits answer frame old.station new.station
+        → IsTrue (table_of new.station).stands
+        → new ≡ record old { station = new.station; latest = with_given answer frame old.latest }
+        → (calls : List Call) × Makes calls c old theirs new puts puts }
 {
     an_entity_goes_on();
 }
@@ -86,14 +104,14 @@ pub fn what_is_done_between_turns_is_deeds<W: PeerWire>()
 ///
 /// At each station the wishes of any user are done; what the station indicates is told and let go,
 /// and so are transactions that are over; and turns are taken, of which any may end early. A
-/// station may start anew at any time, with the files of its inbox; it counts its frames so that at
+/// station may start anew at any time, with any files in its inbox; it counts its frames so that at
 /// least one number is left out, and numbers its puts behind all before. Asked of the link is what
 /// [`any_order::the_promise_holds_in_any_order`] asks; and of the files to send, whatever they
 /// have, that no read showed a change: what is read of a file is what it had when it was looked
 /// for, and none becomes another one as long as a record is left that sent it.
 pub fn stations_keep_the_promise_in_any_order<W: PeerWire>()
     ensures { (c : Setup) (files : Side → FileMap) (now : Stations) → AreJoined c
-        → HaveServed W.steps c files now → KeepPromise files now }
+        → HaveServed W.steps c files now → KeepPromise c files now }
 {
     what_comes_up_was_put_in_once();
     an_entity_keeps_the_truth();
@@ -102,20 +120,48 @@ pub fn stations_keep_the_promise_in_any_order<W: PeerWire>()
     an_entity_may_forget();
 }
 
+/// Whatever is done at two stations in service, every record that is open at either has something
+/// to do, as `IsLively` says, by the policy that it was set up with. So whatever it has open ends
+/// by its limits where it hears nothing from then on: after as many rounds as `records_left` says
+/// nothing is open.
+pub fn what_is_open_ends_in_service<W: PeerWire>()
+    ensures lively { (c : Setup) (files : Side → FileMap) (now : Stations) → AreJoined c
+        → HaveServed W.steps c files now → (s : Side)
+        → IsLively (served_at s now).kept.station.entity.state }
+    ensures policy { (c : Setup) (files : Side → FileMap) (now : Stations) → AreJoined c
+        → HaveServed W.steps c files now → (s : Side)
+        → (served_at s now).kept.station.entity.state.config.policy
+        ≡ (setup_of s c).entity.policy }
+    ensures ends { (c : Setup) (files : Side → FileMap) (now : Stations) → AreJoined c
+        → HaveServed W.steps c files now → (s : Side) → GivesUp (setup_of s c).entity.policy
+        → (n : ℕ) (alone : EntityState)
+        → AreRounds n (served_at s now).kept.station.entity.state alone
+        → records_left (setup_of s c).entity.policy.limits
+        (table_of (served_at s now).kept.station).records ≤ n → NoneOpen alone.table.records }
+{
+    what_comes_up_was_put_in_once();
+    an_entity_keeps_the_truth();
+    an_entity_goes_on();
+    an_entity_sends_the_truth();
+    an_entity_may_forget();
+    an_entity_is_never_silent();
+    an_entity_alone_ends();
+}
+
 /// What left a spool as sent lies in the inbox of the other station, where a clerk is the user: at
 /// any moment of any life of its station, and at each later one, whatever was lost, repeated or
-/// late, and whichever station started anew. It was put under its own name, the put was accepted,
-/// and the station was told that it is complete; so the other station has it under that name, or a
-/// file that was completed later under the same one.
+/// late, and whichever station started anew. For each file that left there is a put of its own: it
+/// was put under its own name, the put was accepted, and the station was told that it is complete.
+/// So the other station has published it in one of its lives, and under that name had it as this
+/// life ended, or has it now, or a file that was completed later in this life under the same name.
 pub fn what_left_the_spool_lies_in_the_inbox<S: Spool, W: PeerWire>()
     ensures { (c : Setup) (files : Side → FileMap) (mid now : Stations) (more : ℕ) → AreJoined c
         → HaveServed W.steps c files mid → Times (Goes W.steps c) more mid now → (s : Side)
         (old new : ClerkState S)
         → Chain (ClerkSteps S.sent S.failed) (served_at s mid).calls old new
-        → old.asked ≡ None → old.files ≡ [] → (name : List ℕ) → Contains (S.sent new.spool) name
-        → Contains (S.sent old.spool) name ⊎ IsDelivered s name now }
+        → old.asked ≡ None → old.files ≡ [] → (left : List (List ℕ))
+        × (S.sent new.spool ≡ S.sent old.spool ++ left) × AreDelivered s left now }
 {
-    what_is_sent_was_heard_complete::<S>();
     what_comes_up_was_put_in_once();
     an_entity_keeps_the_truth();
     an_entity_goes_on();

@@ -33,7 +33,7 @@ use Rattle.cfdp_station.specs.Taking.{HearsAll, TakesFrame}
 use Rattle.cfdp_station.proofs.AnyOrder.{TruthLaws, all_sound, one_goes}
 use Rattle.any_order.specs.Calls.{Call, Puts, Asks, Tells, Polls, Fills, Gives, Receives as receives, Refuses, Restarts, Does, DoesCall, End, IsOneLife, StartsAnew, entity_of, lives}
 use Rattle.any_order.specs.Promise.{found}
-use Rattle.any_order.proofs.Kept.{IsKept, Moves, SaysSo}
+use Rattle.any_order.proofs.Kept.{KeepsLife, Moves, SaysSo}
 use Rattle.any_order.proofs.Link.{receives_behind}
 use Rattle.any_order.proofs.Puts.{finds_by_id, finds_last}
 
@@ -61,7 +61,7 @@ goes_same old new e =
     subst (λ (x : EntityState). GoesOn old x) (sym e)
     (record { gained = []; told = sym (append-nil old.table.told); gone = refl; sources = refl; stands = refl; config = refl; next = omega arith })
 
-goes_both : (first second third : EntityState) → GoesOn first second → GoesOn second third → GoesOn first third
+pub goes_both : (first second third : EntityState) → GoesOn first second → GoesOn second third → GoesOn first third
 goes_both first second third g h = record {
   gained = g.gained ++ h.gained;
   told = h.told ∙ ap (λ l. l ++ h.gained) g.told ∙ append_assoc first.table.told g.gained h.gained;
@@ -147,7 +147,7 @@ module _ (laws : EntityLaws) where
   served_kept p heard first stored old new is sound = subst (λ (e : EntityState). IsSound p heard first e) (sym is) (laws.served_by p heard first stored old sound)
 
   pub call_moves : TruthLaws → (call : Call) (c t : StationConfig) (first : FileMap) (puts puts_then : List user.Put) (old theirs new : End) → c.receives ≡ t.sends →
-      IsKept c t first puts old theirs → DoesCall call c old theirs new puts puts_then → Moves t old theirs new puts puts_then ⊎ Anew c old new puts puts_then
+      KeepsLife c t first puts old theirs → DoesCall call c old theirs new puts puts_then → Moves t old theirs new puts puts_then ⊎ Anew c old new puts puts_then
   call_moves truth (Puts source destination id) c t first puts puts_then old theirs new link k (accepts, keeps, d) =
       inl (
       let e : EntityState = entity_of old in

@@ -36,14 +36,13 @@ SaysSo p own told text = (h : Header) (v : Content) → SpellsPdu h v text → S
 abbrev pub this_life : End → Life
 this_life e = record { first = e.first; calls = e.sent }
 
--- What holds of its lives before: what was completed and told then was heard, and the inbox as this life began was made by that.
-pub record IsPast (own : ℕ) (puts : List Put) (first begun : FileMap) (told : List Indication) (heard : List (List ℕ)) : Type 0 where
-  pub inbox : begun ≡ inbox_after (found puts) first (completions own told)
+-- What holds of its lives before: what was completed and told then was heard.
+pub record IsPast (own : ℕ) (puts : List Put) (told : List Indication) (heard : List (List ℕ)) : Type 0 where
   pub caused : (id : TransactionId) → Contains (completions own told) id → (put : Put) × ((found puts id ≡ Some put) × HeardInFull put heard)
   pub was_told : (id : TransactionId) → IsToldComplete own told id → SomePdu (SaysComplete id) heard
 
--- What holds of a station, set up so, whose inbox had these files at first, beside another one.
-pub record IsKept (c t : StationConfig) (first : FileMap) (puts : List Put) (mine theirs : End) : Type 0 where
+-- What holds of a station, set up so, whose inbox had these files as its life began, beside another one.
+pub record KeepsLife (c t : StationConfig) (begun : FileMap) (puts : List Put) (mine theirs : End) : Type 0 where
   pub each : (k : ℕ) → k < length (lives mine) → IsLife c.sends c.capacity (life_at (lives mine) k)
   pub sending : DoesAll mine.sent (both_counted_from mine.first (first_down c.sends c.capacity)) mine.station.down
   pub apart : AreApart (lives mine)
@@ -52,9 +51,8 @@ pub record IsKept (c t : StationConfig) (first : FileMap) (puts : List Put) (min
   pub received : ReceivesAll (map (octets_coming (lives theirs)) mine.came) (first_up t.sends) mine.station.up [] mine.heard
   pub own : (entity_of mine).config.entity ≡ c.entity.entity
   pub peer : (entity_of mine).config.peer ≡ c.entity.peer
-  pub begun : FileMap
   pub entity : IsSound (found puts) (heard_ever mine) begun (entity_of mine)
-  pub past : IsPast c.entity.entity puts first begun mine.told_before (heard_ever mine)
+  pub past : IsPast c.entity.entity puts mine.told_before (heard_ever mine)
   pub sent_before : (pdu : List ℕ) → Contains mine.heard_before pdu → WasPut (lives theirs) pdu
   pub truth : (pdu : List ℕ) → WasPut (lives mine) pdu → SaysSo (found puts) c.entity.entity (told_ever mine) pdu
   pub numbers : (p : Put) → Contains puts p → p.id.source ≡ c.entity.entity → p.id.number < (entity_of mine).next
@@ -136,25 +134,22 @@ in_either (z ∷ xs) ys x (suc k, low, e) = behind z xs ys x (in_either xs ys x 
     behind z xs ys x (inr c) = inr c
 
 -- ids that name the same puts
-inbox_same : (p q : TransactionId → Option Put) (first : FileMap) (ids : List TransactionId) → ((id : TransactionId) → Contains ids id → p id ≡ q id) → inbox_after p first ids ≡ inbox_after q first ids
+pub inbox_same : (p q : TransactionId → Option Put) (first : FileMap) (ids : List TransactionId) → ((id : TransactionId) → Contains ids id → p id ≡ q id) → inbox_after p first ids ≡ inbox_after q first ids
 inbox_same p q first [] same = refl
 inbox_same p q first (id ∷ ids) same =
     ap (λ put. inbox_after p (overwritten first put) ids) (same id (0, omega arith, refl))
     ∙ inbox_same p q (overwritten first (q id)) ids (λ other c. same other (suc c.0, (let k = c.0 in let low : k < length ids = c.1 in omega arith), c.2))
 
 -- the past stays what it was, where more is put and heard
-past_more : (own : ℕ) (puts puts_then : List Put) (first begun : FileMap) (told : List Indication) (heard more : List (List ℕ)) → FindsMore (found puts) (found puts_then) →
-    IsPast own puts first begun told heard → IsPast own puts_then first begun told (heard ++ more)
-past_more own puts puts_then first begun told heard more finds past = record {
-  inbox =
-      past.inbox
-      ∙ inbox_same (found puts) (found puts_then) first (completions own told) (λ id c. let k = past.caused id c in k.1.0 ∙ sym (finds id k.0 k.1.0));
+past_more : (own : ℕ) (puts puts_then : List Put) (told : List Indication) (heard more : List (List ℕ)) → FindsMore (found puts) (found puts_then) →
+    IsPast own puts told heard → IsPast own puts_then told (heard ++ more)
+past_more own puts puts_then told heard more finds past = record {
   caused = λ id c. let k = past.caused id c in (k.0, (finds id k.0 k.1.0, HeardInFull-append k.0 heard more k.1.1));
   was_told = λ id t. SomePdu-append_left (SaysComplete id) heard more (past.was_told id t);
 }
 
 -- ---- what was heard was put in at the other end
-pub heard_put : Grounds → (c t : StationConfig) (first there : FileMap) (puts : List Put) (mine theirs : End) → IsJoinedTo c t → IsKept c t first puts mine theirs → IsKept t c there puts theirs mine → (x : List ℕ) →
+pub heard_put : Grounds → (c t : StationConfig) (first there : FileMap) (puts : List Put) (mine theirs : End) → IsJoinedTo c t → KeepsLife c t first puts mine theirs → KeepsLife t c there puts theirs mine → (x : List ℕ) →
     Contains (heard_ever mine) x → WasPut (lives theirs) x
 heard_put grounds c t first there puts mine theirs joined k o x among = elim (in_either mine.heard_before mine.heard x among) [
   | inl before ↦ k.sent_before x before
@@ -168,7 +163,7 @@ heard_put grounds c t first there puts mine theirs joined k o x among = elim (in
 
 -- ---- the other station, while more is put, and more is done with this one's sending ends
 pub stays : Grounds → (c t : StationConfig) (there : FileMap) (puts puts_then : List Put) (old theirs new : End) → FindsMore (found puts) (found puts_then) → Grow (lives old) (lives new) →
-    IsKept t c there puts theirs old → ((p : Put) → Contains puts_then p → p.id.source ≡ t.entity.entity → p.id.number < (entity_of theirs).next) → IsKept t c there puts_then theirs new
+    KeepsLife t c there puts theirs old → ((p : Put) → Contains puts_then p → p.id.source ≡ t.entity.entity → p.id.number < (entity_of theirs).next) → KeepsLife t c there puts_then theirs new
 stays grounds c t there puts puts_then old theirs new finds grows o numbers = record {
   each = o.each;
   sending = o.sending;
@@ -179,13 +174,12 @@ stays grounds c t there puts puts_then old theirs new finds grows o numbers = re
       subst (λ (l : List (List ℕ)). ReceivesAll l (first_up c.sends) theirs.station.up [] theirs.heard) (sym (octets_grown c.sends (lives old) (lives new) theirs.came grows o.coming)) o.received;
   own = o.own;
   peer = o.peer;
-  begun = o.begun;
   entity =
-      subst (λ (l : List (List ℕ)). IsSound (found puts_then) l o.begun (entity_of theirs)) (append-nil (heard_ever theirs))
-      (grounds.more (found puts) (found puts_then) (heard_ever theirs) [] o.begun (entity_of theirs) finds o.entity);
+      subst (λ (l : List (List ℕ)). IsSound (found puts_then) l there (entity_of theirs)) (append-nil (heard_ever theirs))
+      (grounds.more (found puts) (found puts_then) (heard_ever theirs) [] there (entity_of theirs) finds o.entity);
   past =
-      subst (λ (l : List (List ℕ)). IsPast t.entity.entity puts_then there o.begun theirs.told_before l) (append-nil (heard_ever theirs))
-      (past_more t.entity.entity puts puts_then there o.begun theirs.told_before (heard_ever theirs) [] finds o.past);
+      subst (λ (l : List (List ℕ)). IsPast t.entity.entity puts_then theirs.told_before l) (append-nil (heard_ever theirs))
+      (past_more t.entity.entity puts puts_then theirs.told_before (heard_ever theirs) [] finds o.past);
   sent_before = λ pdu among. put_grown (lives old) (lives new) pdu grows (o.sent_before pdu among);
   truth = λ pdu was. says_more (found puts) (found puts_then) t.entity.entity (told_ever theirs) (told_ever theirs) pdu finds (λ id done. done) (o.truth pdu was);
   numbers = numbers;
@@ -193,7 +187,7 @@ stays grounds c t there puts puts_then old theirs new finds grows o numbers = re
 
 -- ---- the station at which something is done
 module _ (grounds : Grounds) (c t : StationConfig) (first there : FileMap) (puts puts_then : List Put) (old theirs new : End) (joined : IsJoinedTo c t)
-    (k : IsKept c t first puts old theirs) (o : IsKept t c there puts theirs old) (m : Moves t old theirs new puts puts_then) where
+    (k : KeepsLife c t first puts old theirs) (o : KeepsLife t c there puts theirs old) (m : Moves t old theirs new puts puts_then) where
   finds : FindsMore (found puts) (found puts_then)
   finds = subst (λ (l : List Put). FindsMore (found puts) (found l)) (sym m.accepted) (finds_more puts m.added)
 
@@ -254,16 +248,16 @@ module _ (grounds : Grounds) (c t : StationConfig) (first there : FileMap) (puts
         says = λ h v spelled. subst (λ (n : ℕ). SaysTruth n (found puts_then) h.id v) peer (truth_more t.entity.entity (found puts) (found puts_then) h.id v finds (o.truth x was h v spelled).0);
       }
 
-  entity : IsSound (found puts_then) (heard_ever new) k.begun (entity_of new)
+  entity : IsSound (found puts_then) (heard_ever new) first (entity_of new)
   entity =
-      let before : IsSound (found puts_then) (heard_ever old ++ m.more) k.begun (entity_of old) = grounds.more (found puts) (found puts_then) (heard_ever old) m.more k.begun (entity_of old) finds k.entity in
-      subst (λ (l : List (List ℕ)). IsSound (found puts_then) l k.begun (entity_of new)) (sym all_heard) (m.kept (heard_ever old ++ m.more) k.begun comes_true before)
+      let before : IsSound (found puts_then) (heard_ever old ++ m.more) first (entity_of old) = grounds.more (found puts) (found puts_then) (heard_ever old) m.more first (entity_of old) finds k.entity in
+      subst (λ (l : List (List ℕ)). IsSound (found puts_then) l first (entity_of new)) (sym all_heard) (m.kept (heard_ever old ++ m.more) first comes_true before)
 
-  past : IsPast c.entity.entity puts_then first k.begun new.told_before (heard_ever new)
+  past : IsPast c.entity.entity puts_then new.told_before (heard_ever new)
   past =
-      subst (λ (l : List (List ℕ)). IsPast c.entity.entity puts_then first k.begun new.told_before l) (sym all_heard)
-      (subst (λ (l : List Indication). IsPast c.entity.entity puts_then first k.begun l (heard_ever old ++ m.more)) (sym m.one_life.told_before)
-      (past_more c.entity.entity puts puts_then first k.begun old.told_before (heard_ever old) m.more finds k.past))
+      subst (λ (l : List (List ℕ)). IsPast c.entity.entity puts_then new.told_before l) (sym all_heard)
+      (subst (λ (l : List Indication). IsPast c.entity.entity puts_then l (heard_ever old ++ m.more)) (sym m.one_life.told_before)
+      (past_more c.entity.entity puts puts_then old.told_before (heard_ever old) m.more finds k.past))
 
   all_told : told_ever new ≡ told_ever old ++ m.goes.gained
   all_told = ap (λ l. l ++ (entity_of new).table.told) m.one_life.told_before ∙ ap (λ l. old.told_before ++ l) m.goes.told ∙ sym (append_assoc old.told_before (entity_of old).table.told m.goes.gained)
@@ -287,7 +281,7 @@ module _ (grounds : Grounds) (c t : StationConfig) (first there : FileMap) (puts
             says_more (found puts) (found puts_then) c.entity.entity (told_ever old) (told_ever new) x finds tells (k.truth x was)
         | inr now ↦
             let said : SaysSo (found puts) c.entity.entity (entity_of old).table.told x =
-            subst (λ (n : ℕ). SaysSo (found puts) n (entity_of old).table.told x) k.own (m.says (found puts) (heard_ever old) k.begun k.entity lane x now) in
+            subst (λ (n : ℕ). SaysSo (found puts) n (entity_of old).table.told x) k.own (m.says (found puts) (heard_ever old) first k.entity lane x now) in
             says_more (found puts) (found puts_then) c.entity.entity (entity_of old).table.told (told_ever new) x finds
             (λ id done. tells id (tells_front c.entity.entity old.told_before (entity_of old).table.told id done)) said
       ]
@@ -319,7 +313,7 @@ module _ (grounds : Grounds) (c t : StationConfig) (first there : FileMap) (puts
         | inr now ↦ (m.numbered p now).1
       ]
 
-  pub kept_mine : IsKept c t first puts_then new theirs
+  pub kept_mine : KeepsLife c t first puts_then new theirs
   kept_mine = record {
     each = each;
     sending = sending;
@@ -329,7 +323,6 @@ module _ (grounds : Grounds) (c t : StationConfig) (first there : FileMap) (puts
     received = received;
     own = ap (λ e. e.entity) m.goes.config ∙ k.own;
     peer = ap (λ e. e.peer) m.goes.config ∙ k.peer;
-    begun = k.begun;
     entity = entity;
     past = past;
     sent_before = λ pdu among. k.sent_before pdu (subst (λ (l : List (List ℕ)). Contains l pdu) m.one_life.heard_before among);
@@ -345,5 +338,50 @@ module _ (grounds : Grounds) (c t : StationConfig) (first there : FileMap) (puts
         | inr now ↦ absurd (joined.apart (sym of_theirs ∙ (m.numbered p now).0 ∙ k.own))
       ]
 
-  pub kept_theirs : IsKept t c there puts_then theirs new
+  pub kept_theirs : KeepsLife t c there puts_then theirs new
   kept_theirs = stays grounds c t there puts puts_then old theirs new finds grows o others_numbers
+
+-- ---- an inbox over all lives
+-- The same of a station whose inbox had these files at first, and as each of its lives began what it had as the one before ended.
+pub record IsKept (c t : StationConfig) (first : FileMap) (puts : List Put) (mine theirs : End) : Type 0 where
+  pub begun : FileMap
+  pub life : KeepsLife c t begun puts mine theirs
+  pub inbox : begun ≡ inbox_after (found puts) first (completions c.entity.entity mine.told_before)
+
+-- its inbox as this life began was made by the same puts, where more are found
+inbox_more : (c t : StationConfig) (first begun : FileMap) (puts puts_then : List Put) (mine theirs new : End) → FindsMore (found puts) (found puts_then) → KeepsLife c t begun puts mine theirs →
+    new.told_before ≡ mine.told_before → begun ≡ inbox_after (found puts) first (completions c.entity.entity mine.told_before) →
+    begun ≡ inbox_after (found puts_then) first (completions c.entity.entity new.told_before)
+inbox_more c t first begun puts puts_then mine theirs new finds k same inbox =
+    inbox
+    ∙ inbox_same (found puts) (found puts_then) first (completions c.entity.entity mine.told_before) (λ id done. let q = k.past.caused id done in q.1.0 ∙ sym (finds id q.0 q.1.0))
+    ∙ ap (λ (l : List Indication). inbox_after (found puts_then) first (completions c.entity.entity l)) (sym same)
+
+-- the other station, as `stays`
+pub kept_stays : Grounds → (c t : StationConfig) (there : FileMap) (puts puts_then : List Put) (old theirs new : End) → FindsMore (found puts) (found puts_then) → Grow (lives old) (lives new) →
+    IsKept t c there puts theirs old → ((p : Put) → Contains puts_then p → p.id.source ≡ t.entity.entity → p.id.number < (entity_of theirs).next) → IsKept t c there puts_then theirs new
+kept_stays grounds c t there puts puts_then old theirs new finds grows o numbers = record {
+  begun = o.begun;
+  life = stays grounds c t o.begun puts puts_then old theirs new finds grows o.life numbers;
+  inbox = inbox_more t c there o.begun puts puts_then theirs old theirs finds o.life refl o.inbox;
+}
+
+-- both, as something is done at one
+module _ (grounds : Grounds) (c t : StationConfig) (first there : FileMap) (puts puts_then : List Put) (old theirs new : End) (joined : IsJoinedTo c t)
+    (k : IsKept c t first puts old theirs) (o : IsKept t c there puts theirs old) (m : Moves t old theirs new puts puts_then) where
+  more_found : FindsMore (found puts) (found puts_then)
+  more_found = finds grounds c t k.begun o.begun puts puts_then old theirs new joined k.life o.life m
+
+  pub both_mine : IsKept c t first puts_then new theirs
+  both_mine = record {
+    begun = k.begun;
+    life = kept_mine grounds c t k.begun o.begun puts puts_then old theirs new joined k.life o.life m;
+    inbox = inbox_more c t first k.begun puts puts_then old theirs new more_found k.life m.one_life.told_before k.inbox;
+  }
+
+  pub both_theirs : IsKept t c there puts_then theirs new
+  both_theirs = record {
+    begun = o.begun;
+    life = kept_theirs grounds c t k.begun o.begun puts puts_then old theirs new joined k.life o.life m;
+    inbox = inbox_more t c there o.begun puts puts_then theirs old theirs more_found o.life refl o.inbox;
+  }

@@ -29,7 +29,7 @@ use Rattle.cfdp_station.proofs.AnyOrder.{TruthLaws}
 use Rattle.any_order.specs.Calls.{AreJoined, At, Call, DoesCall, End, Event, Happen, Happens, IsNew, One, Two, Pair, Setup, Side, StartsAnew, at, entity_of, lives, numbered_from, other, setup_of}
 use Rattle.any_order.specs.Promise.{HasSent, HoldsAt, IsTold, completed, found, heard_ever, own, told_ever}
 use Rattle.any_order.proofs.Calls.{Anew, EntityLaws, call_moves}
-use Rattle.any_order.proofs.Kept.{Grounds, IsJoinedTo, IsKept, IsPast, Moves, SaysSo, TellsAll, heard_put, in_either, kept_mine, kept_theirs, says_more, stays, tells_behind, this_life}
+use Rattle.any_order.proofs.Kept.{Grounds, IsJoinedTo, IsKept, IsPast, KeepsLife, SaysSo, TellsAll, both_mine, both_theirs, heard_put, in_either, says_more, stays, tells_behind, this_life}
 use Rattle.any_order.proofs.Lives.{Grow, WasPut, apart_more, apart_one, count_lives, each_life, grow_more}
 
 pub record Laws : Type 0 where
@@ -59,20 +59,15 @@ none_in : {X : Type 0} (x : X) → Contains [] x → ⊥
 none_in x c = let k = c.0 in let low : k < 0 = c.1 in omega arith
 
 -- ---- all its lives up to now
-module _ (c t : StationConfig) (first : FileMap) (puts : List Put) (mine theirs : End) (k : IsKept c t first puts mine theirs) where
+module _ (c t : StationConfig) (begun : FileMap) (puts : List Put) (mine theirs : End) (k : KeepsLife c t begun puts mine theirs) where
   abbrev own_told : List Indication
   own_told = (entity_of mine).table.told
 
   all_done : completions c.entity.entity (told_ever mine) ≡ completions c.entity.entity mine.told_before ++ completions (entity_of mine).config.entity own_told
   all_done = completions-append c.entity.entity mine.told_before own_told ∙ ap (λ n. completions c.entity.entity mine.told_before ++ completions n own_told) (sym k.own)
 
-  pub whole : IsPast c.entity.entity puts first (entity_of mine).table.files (told_ever mine) (heard_ever mine)
+  pub whole : IsPast c.entity.entity puts (told_ever mine) (heard_ever mine)
   whole = record {
-    inbox =
-        k.entity.knows.inbox
-        ∙ ap (λ (f : FileMap). inbox_after (found puts) f (completions (entity_of mine).config.entity own_told)) k.past.inbox
-        ∙ sym (inbox_after-append (found puts) first (completions c.entity.entity mine.told_before) (completions (entity_of mine).config.entity own_told))
-        ∙ ap (inbox_after (found puts) first) (sym all_done);
     caused = λ id done.
         elim (in_either (completions c.entity.entity mine.told_before) (completions (entity_of mine).config.entity own_told) id (subst (λ (l : List TransactionId). Contains l id) all_done done)) [
           | inl before ↦ k.past.caused id before
@@ -85,10 +80,23 @@ module _ (c t : StationConfig) (first : FileMap) (puts : List Put) (mine theirs 
         ];
   }
 
+  -- its inbox, by what it had as this life began
+  pub life_inbox : (entity_of mine).table.files ≡ inbox_after (found puts) begun (completions c.entity.entity own_told)
+  life_inbox = k.entity.knows.inbox ∙ ap (λ n. inbox_after (found puts) begun (completions n own_told)) k.own
+
+  -- and by what it had at first
+  pub whole_inbox : (first : FileMap) → begun ≡ inbox_after (found puts) first (completions c.entity.entity mine.told_before) →
+      (entity_of mine).table.files ≡ inbox_after (found puts) first (completions c.entity.entity (told_ever mine))
+  whole_inbox first inbox =
+      k.entity.knows.inbox
+      ∙ ap (λ (f : FileMap). inbox_after (found puts) f (completions (entity_of mine).config.entity own_told)) inbox
+      ∙ sym (inbox_after-append (found puts) first (completions c.entity.entity mine.told_before) (completions (entity_of mine).config.entity own_told))
+      ∙ ap (inbox_after (found puts) first) (sym all_done)
+
 -- ---- nothing was done
-pub new_kept : Laws → (c t : StationConfig) (count : ℕ) (sources files : FileMap) (puts : List Put) (mine theirs : End) → IsConfig c.entity → c.receives ≡ t.sends → IsNew c count sources files mine →
-    puts ≡ [] → IsKept c t files puts mine theirs
-new_kept laws c t count sources files puts mine theirs valid link is none =
+pub new_life : Laws → (c t : StationConfig) (count : ℕ) (sources files : FileMap) (puts : List Put) (mine theirs : End) → IsConfig c.entity → c.receives ≡ t.sends → IsNew c count sources files mine →
+    puts ≡ [] → KeepsLife c t files puts mine theirs
+new_life laws c t count sources files puts mine theirs valid link is none =
     let all : lives mine ≡ this_life mine ∷ [] = ap (λ l. l ++ this_life mine ∷ []) is.lives_before in
     let sending : DoesAll mine.sent (both_counted_from mine.first (first_down c.sends c.capacity)) mine.station.down =
     subst (λ (l : List DownCall). DoesAll l (both_counted_from mine.first (first_down c.sends c.capacity)) mine.station.down) (sym is.sent)
@@ -104,10 +112,9 @@ new_kept laws c t count sources files puts mine theirs valid link is none =
           subst (λ (l : List ComingOf). ReceivesAll (map (octets_coming (lives theirs)) l) (first_up t.sends) mine.station.up [] mine.heard) (sym is.came) (is.up ∙ ap first_up link, is.heard);
       own = ap (λ e. e.config.entity) is.entity;
       peer = ap (λ e. e.config.peer) is.entity;
-      begun = files;
       entity = subst (λ (e : EntityState). IsSound (found puts) (heard_ever mine) files e) (sym is.entity) (laws.first (found puts) (heard_ever mine) sources files c.entity valid);
-      past = subst (λ (l : List Indication). IsPast c.entity.entity puts files files l (heard_ever mine)) (sym is.told_before)
-          (record { inbox = refl; caused = λ id done. absurd (none_in id done); was_told = λ id t. absurd (none_in _ t.1) });
+      past = subst (λ (l : List Indication). IsPast c.entity.entity puts l (heard_ever mine)) (sym is.told_before)
+          (record { caused = λ id done. absurd (none_in id done); was_told = λ id t. absurd (none_in _ t.1) });
       sent_before = λ pdu among. absurd (none_in pdu (subst (λ (l : List (List ℕ)). Contains l pdu) is.heard_before among));
       truth = λ pdu was.
           absurd (nothing_put (this_life mine) (lives mine) pdu all is.sent was);
@@ -120,9 +127,50 @@ new_kept laws c t count sources files puts mine theirs valid link is none =
         (λ lane among. none_in pdu (subst (λ (l : List DownCall). Contains (puts_of lane l) pdu) none among)) was.life (subst (λ (l : List Life). was.life < length l) one was.one) was.lane
         (subst (λ (l : List Life). Contains (puts_of was.lane (life_at l was.life).calls) pdu) one was.among)
 
+pub new_kept : Laws → (c t : StationConfig) (count : ℕ) (sources files : FileMap) (puts : List Put) (mine theirs : End) → IsConfig c.entity → c.receives ≡ t.sends → IsNew c count sources files mine →
+    puts ≡ [] → IsKept c t files puts mine theirs
+new_kept laws c t count sources files puts mine theirs valid link is none = record {
+  begun = files;
+  life = new_life laws c t count sources files puts mine theirs valid link is none;
+  inbox = subst (λ (l : List Indication). files ≡ inbox_after (found puts) files (completions c.entity.entity l)) (sym is.told_before) refl;
+}
+
 -- ---- a start
+-- A station was made anew, as `StartsAnew` has it, but with any files to send and in its inbox.
+pub record BeginsWith (first number : ℕ) (sources files : FileMap) (c : StationConfig) (old new : End) : Type 0 where
+  pub valid : IsConfig (numbered_from number c.entity)
+  pub entity : entity_of new ≡ first_entity sources files (numbered_from number c.entity)
+  pub unused : (entity_of old).next ≤ number
+  pub down : new.station.down ≡ both_counted_from first (first_down c.sends c.capacity)
+  pub up : new.station.up ≡ first_up c.receives
+  pub counted : new.first ≡ first
+  pub apart : (lane : Lane) → old.first + length (made_of lane old.sent) < first
+  pub sent : new.sent ≡ []
+  pub came : new.came ≡ []
+  pub heard : new.heard ≡ []
+  pub lives_before : new.lives_before ≡ lives old
+  pub told_before : new.told_before ≡ told_ever old
+  pub heard_before : new.heard_before ≡ heard_ever old
+
+with_its : (first number : ℕ) (c : StationConfig) (old new : End) → StartsAnew first number c old new → BeginsWith first number (entity_of old).table.sources (entity_of old).table.files c old new
+with_its first number c old new a = record {
+  valid = a.valid;
+  entity = a.entity;
+  unused = a.unused;
+  down = a.down;
+  up = a.up;
+  counted = a.counted;
+  apart = a.apart;
+  sent = a.sent;
+  came = a.came;
+  heard = a.heard;
+  lives_before = a.lives_before;
+  told_before = a.told_before;
+  heard_before = a.heard_before;
+}
+
 module _ (laws : Laws) (c t : StationConfig) (first there : FileMap) (puts : List Put) (old theirs new : End) (joined : IsJoinedTo c t) (link : c.receives ≡ t.sends)
-    (k : IsKept c t first puts old theirs) (o : IsKept t c there puts theirs old) (counted number : ℕ) (a : StartsAnew counted number c old new) where
+    (k : KeepsLife c t first puts old theirs) (o : KeepsLife t c there puts theirs old) (counted number : ℕ) (sources files : FileMap) (a : BeginsWith counted number sources files c old new) where
   all_lives : lives new ≡ lives old ++ this_life new ∷ []
   all_lives = ap (λ l. l ++ this_life new ∷ []) a.lives_before
 
@@ -142,8 +190,8 @@ module _ (laws : Laws) (c t : StationConfig) (first there : FileMap) (puts : Lis
       subst (λ (l : List Indication). TellsAll c.entity.entity (told_ever old) (l ++ (entity_of new).table.told)) (sym a.told_before)
       (tells_behind c.entity.entity (told_ever old) (entity_of new).table.told)
 
-  pub kept_anew : IsKept c t first puts new theirs
-  kept_anew = record {
+  pub life_anew : KeepsLife c t files puts new theirs
+  life_anew = record {
     each = subst (λ (l : List Life). (i : ℕ) → i < length l → IsLife c.sends c.capacity (life_at l i)) (sym all_lives)
         (each_life (λ i l. IsLife c.sends c.capacity l) (lives old) (this_life new) k.each (record { now = new.station.down; does = sending_anew }));
     sending = sending_anew;
@@ -155,13 +203,12 @@ module _ (laws : Laws) (c t : StationConfig) (first there : FileMap) (puts : Lis
         subst (λ (l : List ComingOf). ReceivesAll (map (octets_coming (lives theirs)) l) (first_up t.sends) new.station.up [] new.heard) (sym a.came) (a.up ∙ ap first_up link, a.heard);
     own = ap (λ e. e.config.entity) a.entity;
     peer = ap (λ e. e.config.peer) a.entity;
-    begun = (entity_of old).table.files;
     entity =
-        subst (λ (e : EntityState). IsSound (found puts) (heard_ever new) (entity_of old).table.files e) (sym a.entity)
-        (laws.first (found puts) (heard_ever new) (entity_of old).table.sources (entity_of old).table.files (numbered_from number c.entity) a.valid);
+        subst (λ (e : EntityState). IsSound (found puts) (heard_ever new) files e) (sym a.entity)
+        (laws.first (found puts) (heard_ever new) sources files (numbered_from number c.entity) a.valid);
     past =
-        subst (λ (l : List Indication). IsPast c.entity.entity puts first (entity_of old).table.files l (heard_ever new)) (sym a.told_before)
-        (subst (λ (l : List (List ℕ)). IsPast c.entity.entity puts first (entity_of old).table.files (told_ever old) l) (sym heard_same) (whole c t first puts old theirs k));
+        subst (λ (l : List Indication). IsPast c.entity.entity puts l (heard_ever new)) (sym a.told_before)
+        (subst (λ (l : List (List ℕ)). IsPast c.entity.entity puts (told_ever old) l) (sym heard_same) (whole c t first puts old theirs k));
     sent_before = λ pdu among. heard_put laws.grounds c t first there puts old theirs joined k o pdu (subst (λ (l : List (List ℕ)). Contains l pdu) a.heard_before among);
     truth = λ pdu was.
         subst (λ (ls : List Life). (i : ℕ) → i < length ls → (lane : Lane) → Contains (puts_of lane (life_at ls i).calls) pdu → SaysSo (found puts) c.entity.entity (told_ever new) pdu) (sym all_lives)
@@ -176,7 +223,7 @@ module _ (laws : Laws) (c t : StationConfig) (first there : FileMap) (puts : Lis
         omega (arith, low, up, is);
   }
 
-  pub theirs_anew : IsKept t c there puts theirs new
+  pub theirs_anew : KeepsLife t c there puts theirs new
   theirs_anew = stays laws.grounds c t there puts puts old theirs new (λ id put f. f) grows_anew o o.numbers
 
 -- ---- a call more
@@ -184,18 +231,35 @@ pub record BothKept (c t : StationConfig) (first there : FileMap) (puts : List P
   pub mine_kept : IsKept c t first puts mine theirs
   pub theirs_kept : IsKept t c there puts theirs mine
 
+-- a start with the files that the inbox had
+both_anew : Laws → (c t : StationConfig) (first there : FileMap) (puts : List Put) (old theirs new : End) → IsJoinedTo c t → c.receives ≡ t.sends → IsKept c t first puts old theirs →
+    IsKept t c there puts theirs old → (counted number : ℕ) → StartsAnew counted number c old new → BothKept c t first there puts new theirs
+both_anew laws c t first there puts old theirs new joined link k o counted number a =
+    let its : BeginsWith counted number (entity_of old).table.sources (entity_of old).table.files c old new = with_its counted number c old new a in
+    record {
+      mine_kept = record {
+        begun = (entity_of old).table.files;
+        life = life_anew laws c t k.begun o.begun puts old theirs new joined link k.life o.life counted number (entity_of old).table.sources (entity_of old).table.files its;
+        inbox =
+            whole_inbox c t k.begun puts old theirs k.life first k.inbox ∙ ap (λ (l : List Indication). inbox_after (found puts) first (completions c.entity.entity l)) (sym a.told_before);
+      };
+      theirs_kept = record {
+        begun = o.begun;
+        life = theirs_anew laws c t k.begun o.begun puts old theirs new joined link k.life o.life counted number (entity_of old).table.sources (entity_of old).table.files its;
+        inbox = o.inbox;
+      };
+    }
+
 pub call_kept : Laws → (call : Call) (c t : StationConfig) (first there : FileMap) (puts puts_then : List Put) (old theirs new : End) → IsJoinedTo c t → c.receives ≡ t.sends → IsKept c t first puts old theirs →
     IsKept t c there puts theirs old → DoesCall call c old theirs new puts puts_then → BothKept c t first there puts_then new theirs
-call_kept laws call c t first there puts puts_then old theirs new joined link k o does = elim (call_moves laws.entity laws.truth call c t first puts puts_then old theirs new link k does) [
+call_kept laws call c t first there puts puts_then old theirs new joined link k o does = elim (call_moves laws.entity laws.truth call c t k.begun puts puts_then old theirs new link k.life does) [
   | inl m ↦ record {
-    mine_kept = kept_mine laws.grounds c t first there puts puts_then old theirs new joined k o m;
-    theirs_kept = kept_theirs laws.grounds c t first there puts puts_then old theirs new joined k o m;
+    mine_kept = both_mine laws.grounds c t first there puts puts_then old theirs new joined k o m;
+    theirs_kept = both_theirs laws.grounds c t first there puts puts_then old theirs new joined k o m;
   }
   | inr a ↦
-      subst (λ (l : List Put). BothKept c t first there l new theirs) (sym a.1.1.1) (record {
-        mine_kept = kept_anew laws c t first there puts old theirs new joined link k o a.0 a.1.0 a.1.1.0;
-        theirs_kept = theirs_anew laws c t first there puts old theirs new joined link k o a.0 a.1.0 a.1.1.0;
-      })
+      subst (λ (l : List Put). BothKept c t first there l new theirs) (sym a.1.1.1)
+      (both_anew laws c t first there puts old theirs new joined link k o a.0 a.1.0 a.1.1.0)
 ]
 
 happens_kept : Laws → (c : Setup) (firsts : Firsts) (event : Event) (old new : Pair) → AreJoined c → Happens c event old new → AreKept c firsts old → AreKept c firsts new
@@ -222,8 +286,8 @@ happen_kept laws c firsts (event ∷ events) old new joined (mid, here, rest) k 
     happen_kept laws c firsts events mid new joined rest (happens_kept laws c firsts event old mid joined here k)
 
 -- ---- what holds
-module _ (laws : Laws) (c t : StationConfig) (first there : FileMap) (puts : List Put) (mine theirs : End) (joined : IsJoinedTo c t) (k : IsKept c t first puts mine theirs)
-    (o : IsKept t c there puts theirs mine) where
+module _ (laws : Laws) (c t : StationConfig) (first there : FileMap) (puts : List Put) (mine theirs : End) (joined : IsJoinedTo c t) (k : KeepsLife c t first puts mine theirs)
+    (o : KeepsLife t c there puts theirs mine) where
   -- a Finished that was heard was sent by the other station, which completed the transaction
   its_completed : (id : TransactionId) → SomePdu (SaysComplete id) (heard_ever mine) → Contains (completions t.entity.entity (told_ever theirs)) id
   its_completed id heard =
@@ -243,18 +307,27 @@ module _ (laws : Laws) (c t : StationConfig) (first there : FileMap) (puts : Lis
   says_truth text sent h v spelled =
       subst (λ (n : ℕ). SaysTruth n (found puts) h.id v) (sym k.own) (k.truth text (record { life = sent.0; one = sent.1.0; lane = sent.1.1.0; among = sent.1.1.1 }) h v spelled).0
 
+-- what holds whatever files the inbox had as this life began
+pub caused_at : (c t : StationConfig) (begun : FileMap) (puts : List Put) (mine theirs : End) → KeepsLife c t begun puts mine theirs → (id : TransactionId) → Contains (completed mine) id →
+    (put : Put) × ((found puts id ≡ Some put) × HeardInFull put (heard_ever mine))
+caused_at c t begun puts mine theirs k id done =
+    (whole c t begun puts mine theirs k).caused id (subst (λ (n : ℕ). Contains (completions n (told_ever mine)) id) k.own done)
+
 pub all_hold : Laws → (c : Setup) (firsts : Firsts) (w : Pair) (s : Side) → AreJoined c → AreKept c firsts w → HoldsAt s (firsts s) w
 all_hold laws c firsts w s joined k =
     let mine = k s in
     let theirs : IsKept (setup_of (other s) c) (setup_of s c) (firsts (other s)) w.puts (at (other s) w) (at s w) =
     subst (λ (r : Side). IsKept (setup_of (other s) c) (setup_of r c) (firsts (other s)) w.puts (at (other s) w) (at r w)) (other_other s) (k (other s)) in
-    let past = whole (setup_of s c) (setup_of (other s) c) (firsts s) w.puts (at s w) (at (other s) w) mine in
+    let d : StationConfig = setup_of s c in
+    let t : StationConfig = setup_of (other s) c in
     record {
-      inbox = past.inbox ∙ ap (λ n. inbox_after (found w.puts) (firsts s) (completions n (told_ever (at s w)))) (sym mine.own);
-      once = λ id. (let o = mine.entity.once.once id in omega (arith, o));
-      caused = λ id done. past.caused id (subst (λ (n : ℕ). Contains (completions n (told_ever (at s w))) id) mine.own done);
-      told = is_told laws (setup_of s c) (setup_of (other s) c) (firsts s) (firsts (other s)) w.puts (at s w) (at (other s) w) (joined_to c s joined) mine theirs;
-      truth = says_truth laws (setup_of s c) (setup_of (other s) c) (firsts s) (firsts (other s)) w.puts (at s w) (at (other s) w) (joined_to c s joined) mine theirs;
+      inbox =
+          whole_inbox d t mine.begun w.puts (at s w) (at (other s) w) mine.life (firsts s) mine.inbox
+          ∙ ap (λ n. inbox_after (found w.puts) (firsts s) (completions n (told_ever (at s w)))) (sym mine.life.own);
+      once = λ id. (let o = mine.life.entity.once.once id in omega (arith, o));
+      caused = caused_at d t mine.begun w.puts (at s w) (at (other s) w) mine.life;
+      told = is_told laws d t mine.begun theirs.begun w.puts (at s w) (at (other s) w) (joined_to c s joined) mine.life theirs.life;
+      truth = says_truth laws d t mine.begun theirs.begun w.puts (at s w) (at (other s) w) (joined_to c s joined) mine.life theirs.life;
     }
   where
     other_other : (s : Side) → other (other s) ≡ s

@@ -46,6 +46,21 @@ pub record IsTold (mine theirs : End) (id : TransactionId) : Type 0 where
   pub heard : SomePdu (SaysComplete id) (heard_ever mine)
   pub completed : Contains (completed theirs) id
 
+-- Each put that was completed was heard in full.
+abbrev pub CausedAt : Side → Pair → Type 0
+CausedAt s w = (id : TransactionId) → Contains (completed (at s w)) id →
+    (put : Put) × ((found w.puts id ≡ Some put) × HeardInFull put (heard_ever (at s w)))
+
+-- Where it was told complete as a sender, so it is.
+abbrev pub ToldAt : Side → Pair → Type 0
+ToldAt s w = (id : TransactionId) → IsToldComplete (own (at s w)) (told_ever (at s w)) id →
+    IsTold (at s w) (at (other s) w) id
+
+-- What it said of a file is true.
+abbrev pub TruthAt : Side → Pair → Type 0
+TruthAt s w = (text : List ℕ) → HasSent (at s w) text → (h : Header) (v : Content) →
+    SpellsPdu h v text → SaysTruth (own (at s w)) (found w.puts) h.id v
+
 -- What holds of a station whose inbox had these files at first: its inbox is those, overwritten in
 -- order of the complete indications there, over all its lives, by the files of the puts that they
 -- name; in one life no transaction was finished twice; each put that was completed was heard in
@@ -54,10 +69,6 @@ pub record HoldsAt (s : Side) (first : FileMap) (w : Pair) : Type 0 where
   pub inbox : (entity_of (at s w)).table.files
       ≡ inbox_after (found w.puts) first (completed (at s w))
   pub once : FinishedOnce (entity_of (at s w)).table.told
-  pub caused : (id : TransactionId) → Contains (completed (at s w)) id →
-      (put : Put) × ((found w.puts id ≡ Some put) × HeardInFull put (heard_ever (at s w)))
-  pub told : (id : TransactionId) →
-      IsToldComplete (own (at s w)) (told_ever (at s w)) id →
-      IsTold (at s w) (at (other s) w) id
-  pub truth : (text : List ℕ) → HasSent (at s w) text → (h : Header) (v : Content) →
-      SpellsPdu h v text → SaysTruth (own (at s w)) (found w.puts) h.id v
+  pub caused : CausedAt s w
+  pub told : ToldAt s w
+  pub truth : TruthAt s w

@@ -1,4 +1,4 @@
--- Whatever is called at two stations, each has something to do for all that is open.
+-- Whatever is called at two stations, each has something to do for all that is open. Exported: what one call keeps.
 use Rattle.std.proofs.Common.{◌≡◌, inl, inr, ℕ, List, [], ◌∷◌, refl, sym, ap, subst, ◌∙◌}
 use Rattle.cfdp_header.specs.declared.value.TransactionId.{TransactionId}
 use Rattle.cfdp_header.specs.Files.{FileMap}
@@ -48,10 +48,10 @@ pub record Holds (policy : Policy) (e : EntityState) : Type 0 where
   pub lively : IsLively e
   pub policy_is : e.config.policy ≡ policy
 
-same-holds : (policy : Policy) (old new : EntityState) → new ≡ old → Holds policy old → Holds policy new
+pub same-holds : (policy : Policy) (old new : EntityState) → new ≡ old → Holds policy old → Holds policy new
 same-holds policy old new is h = subst (Holds policy) (sym is) h
 
-on-holds : (policy : Policy) (old new : EntityState) → GoesOn old new → IsLively new → Holds policy old → Holds policy new
+pub on-holds : (policy : Policy) (old new : EntityState) → GoesOn old new → IsLively new → Holds policy old → Holds policy new
 on-holds policy old new on k h = record { lively = k; policy_is = ap (λ (c : EntityConfig). c.policy) on.config ∙ h.policy_is }
 
 module _ (laws : EntityLaws) (policy : Policy) where
@@ -69,7 +69,7 @@ module _ (laws : EntityLaws) (policy : Policy) where
   same-counted : (old new : Counted) → new ≡ old → Holds policy old.state → Holds policy new.state
   same-counted old new same h = same-holds policy old.state new.state (ap (λ (c : Counted). c.state) same) h
 
-  first-holds : (sources files : FileMap) (config : EntityConfig) (e : EntityState) → IsConfig config → config.policy ≡ policy → e ≡ first_entity sources files config → Holds policy e
+  pub first-holds : (sources files : FileMap) (config : EntityConfig) (e : EntityState) → IsConfig config → config.policy ≡ policy → e ≡ first_entity sources files config → Holds policy e
   first-holds sources files config e valid same is =
       subst (Holds policy) (sym is) (record { lively = laws.first sources files config valid; policy_is = same })
 
@@ -87,7 +87,7 @@ module _ (laws : EntityLaws) (c : StationConfig) (old theirs new : End) (puts pu
   polled-holds Full m h = same-counted laws c.entity.policy old.station.entity new.station.entity m.1 h
   polled-holds SourceFailed m h = same-holds c.entity.policy (served Refused (turn (entity_of old)) (entity_of old)) (entity_of new) m.0.served (served-holds laws c.entity.policy Refused (entity_of old) h)
 
-  call-holds : (call : Call) → DoesCall call c old theirs new puts puts_then → Before → After
+  pub call-holds : (call : Call) → DoesCall call c old theirs new puts puts_then → Before → After
   call-holds (Puts source destination id) d h = on-holds c.entity.policy (entity_of old) (entity_of new) (laws.put_on source destination id (entity_of old) (entity_of new) d.0)
       (laws.put source destination id (entity_of old) (entity_of new) d.0 h.lively) h
   call-holds (Asks request id) d h = on-holds c.entity.policy (entity_of old) (entity_of new) (laws.called_on request id (entity_of old) (entity_of new) d.0)

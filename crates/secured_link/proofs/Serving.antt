@@ -403,12 +403,12 @@ module _ {W : Type 0} (Steps : W → WireCall → W → Type 0) (Calls : KeeperC
   deed_moves LetsGo c theirs old new puts puts_then s (does, wire, sealed) =
       let (station, lets, is, all) = does in
       (does, still theirs old new _ s is refl refl refl refl wire sealed)
-  deed_moves Turns c theirs old new puts puts_then s (turn, calls, has, all) =
+  deed_moves Turns c theirs old new puts puts_then s (turn, same, all) =
       let t = turn_moves c.receives old.served.has theirs old new s turn in
-      ((t.0, calls, has, all), t.1)
-  deed_moves Stops c theirs old new puts puts_then s (ends, calls, has, all) =
+      ((t.0, same, all), t.1)
+  deed_moves Stops c theirs old new puts puts_then s (ends, same, all) =
       let t = early_moves c.receives old.served.has theirs old new s ends in
-      ((t.0, calls, has, all), t.1)
+      ((t.0, same, all), t.1)
   deed_moves (Starts first number) c theirs old new puts puts_then s (st, all) =
       let anew = st.starts in (
         (anew, all),

@@ -149,12 +149,10 @@ module _ {W : Type 0} (Steps : W → WireCall → W → Type 0) (Calls : KeeperC
       → (old new : SecuredEnd W) → (puts puts_then : List Put) → Type 0
   DoesSecured Turns c theirs old new puts puts_then =
       TakesSecuredTurn old.served.has theirs.sealed old new
-      × (new.served.calls ≡ old.served.calls) × (new.served.has ≡ old.served.has)
-      × (puts_then ≡ puts)
+      × (new.served ≡ record old.served { kept = new.served.kept }) × (puts_then ≡ puts)
   DoesSecured Stops c theirs old new puts puts_then =
       EndsSecuredEarly old.served.has theirs.sealed old new
-      × (new.served.calls ≡ old.served.calls) × (new.served.has ≡ old.served.has)
-      × (puts_then ≡ puts)
+      × (new.served ≡ record old.served { kept = new.served.kept }) × (puts_then ≡ puts)
   DoesSecured (Starts first number) c theirs old new puts puts_then =
       StartsSecured first number c old new × (puts_then ≡ puts)
   DoesSecured deed c theirs old new puts puts_then =

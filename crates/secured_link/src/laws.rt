@@ -4,7 +4,7 @@ ghost use Rattle.std.specs.Prelude.{map, Contains, IfSome, IsTrue, None, Ok, Som
 ghost use Rattle.aos_frame.specs.Counts.{frame_counts};
 ghost use Rattle.aos_frame.specs.declared.config.LinkConfig.{LinkConfig};
 ghost use Rattle.any_link.specs.Passing.{Comes, EndRead, with_sent};
-ghost use Rattle.any_link.specs.Promise.{IsDelivered, KeepPromise};
+ghost use Rattle.any_link.specs.Promise.{AreDelivered, KeepPromise};
 ghost use Rattle.any_link.specs.Serving.{Goes, HaveServed, Served, StartsAnew, served_at};
 ghost use Rattle.any_order.specs.Calls.{AreJoined, Setup, Side};
 ghost use Rattle.any_order.specs.Kept.{EndKept, last_at, with_last};
@@ -196,7 +196,7 @@ pub fn what_is_sealed_is_accepted()
 /// asks of them. Nothing is asked of what the network does.
 pub fn stations_over_secured_wires_keep_the_promise<W: PeerWire, K: Keeper>()
     ensures { (c : Setup) (files : Side → FileMap) (now : SecuredPair W) → AreJoined c
-        → HaveServedSecured W.steps K.calls c files now → KeepPromise files (stations_of now) }
+        → HaveServedSecured W.steps K.calls c files now → KeepPromise c files (stations_of now) }
 {
     service_over_secured_wires_is_service::<W, K>();
     stations_keep_the_promise_in_any_order::<SecuredWire<W, K>>();
@@ -211,8 +211,8 @@ pub fn what_left_the_spool_lies_beyond_secured_wires<S: Spool, W: PeerWire, K: K
         → Times (GoesSecured W.steps K.calls c) more mid now → (s : Side)
         (old new : ClerkState S)
         → Chain (ClerkSteps S.sent S.failed) (served_at s (stations_of mid)).calls old new
-        → old.asked ≡ None → old.files ≡ [] → (name : List ℕ) → Contains (S.sent new.spool) name
-        → Contains (S.sent old.spool) name ⊎ IsDelivered s name (stations_of now) }
+        → old.asked ≡ None → old.files ≡ [] → (left : List (List ℕ))
+        × (S.sent new.spool ≡ S.sent old.spool ++ left) × AreDelivered s left (stations_of now) }
 {
     service_over_secured_wires_is_service::<W, K>();
     what_left_the_spool_lies_in_the_inbox::<S, SecuredWire<W, K>>();

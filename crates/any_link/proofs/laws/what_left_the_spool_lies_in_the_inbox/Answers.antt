@@ -1,7 +1,6 @@
-use Rattle.std.proofs.Common.{List, sym, subst, inl, inr, ⊎_elim}
+use Rattle.std.proofs.Common.{List, sym, subst}
 use Rattle.cfdp_service.specs.Calls.{Chain, UserCall}
 use Rattle.cfdp_service.specs.Clerk.{ClerkSteps}
-use Rattle.any_link.specs.Promise.{IsDelivered}
 use Rattle.any_link.specs.Serving.{served_at}
 use Rattle.any_link.proofs.Doing.{AllLaws}
 use Rattle.any_link.proofs.Reaching.{calls_so, delivered_so, served_so, shade_all, went_so}
@@ -32,11 +31,11 @@ returns g c =
     } in
     let gains : GoesOnLaws = record { ticked = on.ticked; heard = on.heard; dropped = on.dropped; served = on.served } in
     let all : AllLaws = record { laws = laws; gains = gains; forgets = c.an_entity_may_forget.ensures.some } in
-    λ config files mid now more joined served went s old new chain asked none name has.
+    λ config files mid now more joined served went s old new chain asked none.
     let begun = served_so g.W.Wire.steps config files mid served in
     let then = went_so g.W.Wire.steps config more mid now went begun.1 in
     let calls : Chain (ClerkSteps g.S.Spool.sent g.S.Spool.failed) (served_at s (shade_all g.W.Wire.steps config mid)).calls old new =
     subst (λ (l : List UserCall). Chain (ClerkSteps g.S.Spool.sent g.S.Spool.failed) l old new) (sym (calls_so g.W.Wire.steps config s mid)) chain in
-    ⊎_elim (λ before. inl before) (λ (d : IsDelivered s name (shade_all g.W.Wire.steps config now)). inr (delivered_so g.W.Wire.steps config s name now d))
-    (spooled g.W.Wire.steps all config files joined g.S.Spool.sent g.S.Spool.failed c.what_is_sent_was_heard_complete.ensures (shade_all g.W.Wire.steps config mid) (shade_all g.W.Wire.steps config now) more begun.0 then.0
-    s old new calls asked none name has)
+    let left = spooled g.W.Wire.steps all config joined g.S.Spool.sent g.S.Spool.failed files (shade_all g.W.Wire.steps config mid) (shade_all g.W.Wire.steps config now) more begun.0 then.0
+    s old new calls asked none in
+    (left.0, left.1, delivered_so g.W.Wire.steps config s left.0 now left.2)
