@@ -4,7 +4,7 @@ A line of .ci/refused-edits is `CRATE/NAME.edit SUM`. It says that `.ci/edits` t
 that the prover refused it over contents with this checksum. The checksum is of the edit's own file;
 of the sources, specs, proofs and line of crates.txt of its crate and of each crate below that; and
 of what the verdicts on all edits rest on, which `.ci/edits` passes (the kit, and how it judges). A
-checksum doesn't depend on the folder's path or on the files' times.
+checksum doesn't depend on lines that are comments, on the folder's path or on the files' times.
 """
 import datetime
 import glob
@@ -75,6 +75,12 @@ def with_below(crate, crates):
     return sorted(found)
 
 
+def without_comments(path):
+    """What a file says to the prover: all its lines but those that are comments."""
+    mark = b"--" if path.endswith(".antt") else b"//"
+    return [it for it in octets_of(path).split(b"\n") if not it.lstrip().startswith(mark)]
+
+
 def sum_of_files(folder):
     """A checksum of what a crate's verdicts rest on in its own folder."""
     found = []
@@ -82,7 +88,7 @@ def sum_of_files(folder):
         for at, folders, names in os.walk(f"{folder}/{part}"):
             folders.sort()
             paths = [f"{at}/{it}" for it in sorted(names)]
-            found += [(os.path.relpath(it, folder), sum_of(octets_of(it))) for it in paths]
+            found += [(os.path.relpath(it, folder), sum_of(without_comments(it))) for it in paths]
     return sum_of(found)
 
 

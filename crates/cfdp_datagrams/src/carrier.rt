@@ -1,6 +1,6 @@
 //! What a datagram between a station and its peer carries: an AOS frame, a Space Packet, or a PDU.
 //!
-//! A station sends and takes AOS frames. Where its peer knows no frames, a [`CarrierWire`] lies
+//! A station sends and takes AOS frames. If its peer knows no frames, a [`CarrierWire`] lies
 //! between the station's port and the wire of datagrams: of the frames that leave it takes the
 //! PDUs, and each of them leaves in a datagram of its own; of the datagrams that come it makes the
 //! frames in which the peer's PDUs would have come. So the station, and all that is proved of it,
@@ -26,7 +26,7 @@ pub enum Carrier {
 }
 
 impl Carrier {
-    /// How a datagram has one PDU; `None` where it is a frame, which may have parts of several.
+    /// How a datagram has one PDU; `None` if it is a frame, which may have parts of several.
     pub fn of_pdus(self) -> Option<PduCarrier>
         ensures { result ≡ pdu_carrier self }
     {

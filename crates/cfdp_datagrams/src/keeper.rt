@@ -5,7 +5,7 @@ use frame_security::{LinkKeys, Refusal};
 use secured_wire::Keeper;
 
 /// The keeper of a station's secured wire. It notes accepted numbers in the state file, brings the
-/// keys that the operator has read anew, and counts what is refused.
+/// keys that the operator has read again, and counts what is refused.
 #[derive(Drop)]
 pub struct StationKeeper<'a, 'n> {
     numbers: &'a SharedNumbers<'n>,

@@ -1,5 +1,5 @@
 //! The datagrams between a station and its peer: what one carries, and the UDP socket that they go
-//! over, which keeps the rate, waits where nothing is to be done, and sends and takes beacons. The
+//! over, which keeps the rate, waits if there is nothing to do, and sends and receives beacons. The
 //! keeper of a secured wire, which notes accepted numbers in the station's state file.
 //!
 //! Tested by `tests/rows/stations.rows`, `tests/stations.py` and `tests/relay.py`, through the

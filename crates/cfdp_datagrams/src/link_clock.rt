@@ -1,10 +1,10 @@
-//! The time of a link, which a station is told.
+//! The time of a link, which is the time of its station.
 ghost use Rattle.std.specs.Prelude.{◌≡◌, ◌+◌, ◌-◌, ◌^◌, ◌<◌, ◌≤◌, if◌then◌else◌, min, max};
 
 use crate::pacer::SECOND;
 
 /// By how much the time of the link goes on at once, at most, in nanoseconds. More passes between
-/// two looks at the clock only where the process didn't run: it was stopped, or its machine slept.
+/// two looks at the clock only if the process didn't run: it was stopped, or its machine slept.
 /// What the peer sent meanwhile couldn't come, so no timer is to expire for want of it.
 pub const MOST_STEP: u64 = 10 * SECOND;
 

@@ -10,7 +10,7 @@ pub const SECOND: u64 = 1_000_000_000;
 /// in nanoseconds since the start.
 #[derive(Clone, Copy)]
 pub struct Pacer {
-    /// How long a frame takes; 0 where any number may leave.
+    /// How long a frame takes; 0 if any number may leave.
     frame_time: u64,
     /// By how much frames may be ahead of their times.
     slack: u64,
@@ -32,7 +32,7 @@ impl Pacer {
         }
     }
 
-    /// How long it is from this time on until a frame may leave; 0 where one may now.
+    /// How long it is from this time on until a frame may leave; 0 if one may now.
     pub fn wait(&self, now: u64) -> u64
         ensures wait { result ≡ self.now.due - self.now.slack - now }
         ensures may { (result ≡ 0) ↔ (self.now.due ≤ now + self.now.slack) }
@@ -51,7 +51,7 @@ impl Pacer {
 }
 
 /// However many frames leave, each when it might, the last one does so no sooner behind the first
-/// than all between them take at the rate, but for the slack.
+/// than all between them take at the rate, except for the slack.
 pub fn a_rate_is_kept()
     ensures { KeepsRate }
 {}

@@ -29,14 +29,14 @@ const MOST_IN_TURN: u32 = 64;
 /// The time, in nanoseconds, after which a turn takes no more: files are published meanwhile.
 const MOST_TURN_TIME: u64 = 10 * MILLISECOND;
 
-/// The longest wait, in nanoseconds, where timers run in milliseconds: so late one fires at most.
+/// The longest wait, in nanoseconds, if timers run in milliseconds: so late one fires at most.
 const MOST_REST: u64 = 50 * MILLISECOND;
 
-/// By how much the time that a station is told may lag while datagrams wait in the socket: what
+/// By how much the time of a station may lag while datagrams wait in the socket: what
 /// came in time is taken before a timer expires for want of it.
 const MOST_LAG: u64 = 2 * SECOND;
 
-/// Where so many datagrams came in a turn before none was left, the peer sends many, and more come
+/// If so many datagrams came in a turn before none was left, the peer sends many, and more come
 /// soon.
 const MANY: u32 = 4;
 
@@ -47,7 +47,7 @@ const GATHERING: u64 = 50;
 /// The octets of a datagram for which room is asked beside those of its frame.
 const DATAGRAM_COST: u64 = 768;
 
-/// The unit of the time that a station is told, in which its timers are set.
+/// The unit of the time of a station, in which its timers are set.
 #[derive(Clone, Copy, PartialEq, Eq)]
 pub enum Unit {
     /// Whole seconds: a timer fires less than a second late.
@@ -94,22 +94,22 @@ pub struct Pace {
     pub receives: LinkConfig,
     /// What a datagram is.
     pub carrier: Carrier,
-    /// What it tells its peer of how it is set up.
+    /// What it says to its peer of how it is set up.
     pub beacon: Beacon,
-    /// The unit of the time that it tells the station.
+    /// The unit of the time that it gives to the station.
     pub unit: Unit,
 }
 
 /// A UDP socket at an address of this machine, connected to the peer's: the system drops what comes
 /// from others.
 ///
-/// It waits as it is asked for what came, and only where nothing was sent and nothing came since it
+/// It waits as it is asked for what came, and only if nothing was sent and nothing came since it
 /// was asked before: until a datagram comes, a frame may leave, a command may have come, or the
 /// second is over by its clock. A frame that the system has no room for is kept, and none may leave
 /// until it has gone.
 ///
 /// While the link is down by plan nothing leaves, what comes is thrown away, and the time that the
-/// station is told stands still.
+/// station gets stands still.
 #[derive(Drop)]
 pub struct PeerSocket<'a, 'n> {
     rt: &'a HostRuntime,
@@ -120,21 +120,21 @@ pub struct PeerSocket<'a, 'n> {
     pacer: Pacer,
     start: Instant,
     clock: LinkClock,
-    // A frame that the system had no room for, and how many octets it has; 0 where there is none.
+    // A frame that the system had no room for, and how many octets it has; 0 if there is none.
     kept: Vec<u8>,
     kept_len: usize,
-    // The frame that tells the peer how this station is set up.
+    // The frame that says to the peer how this station is set up.
     beacon: Vec<u8>,
     // Times in nanoseconds since the start: until when no frame may leave, and when it sent its
     // beacon last.
     blocked_until: u64,
     beacon_sent: Option<u64>,
     // Times of the link, in nanoseconds: since when it has been silent, and when nothing waited in
-    // the socket last. And what time the station was told, in its unit.
+    // the socket last. And which time the station got last, in its unit.
     quiet_since: u64,
     drained: u64,
     told: u64,
-    // Whether a transaction was open when that was told last.
+    // Whether a transaction was open when that was asked last.
     was_open: bool,
     // How many datagrams came in this turn, when the first of them did, and whether it has sent or
     // waited in it. Whether nothing waited in the socket when the turn before ended.
@@ -293,7 +293,7 @@ impl<'a, 'n> PeerSocket<'a, 'n> {
             .saturating_add(AFTER_FAILURE.saturating_mul(MILLISECOND));
     }
 
-    /// Sends the frame that was kept, if there is one. False where it still can't go.
+    /// Sends the frame that was kept, if there is one. Returns `false` if it still can't go.
     fn sends_kept(&mut self) -> bool {
         if self.kept_len == 0 {
             return true;
@@ -323,8 +323,8 @@ impl<'a, 'n> PeerSocket<'a, 'n> {
         }
     }
 
-    /// Tells the peer how this station is set up, where the peer seems to be set up otherwise and
-    /// wasn't told within a second.
+    /// Sends the peer a beacon if the peer seems to be set up otherwise and got none within a
+    /// second.
     fn tell_peer(&mut self) {
         if self.pace.carrier != Carrier::Frames
             || !self.exchange.differs.get()
@@ -352,8 +352,8 @@ impl<'a, 'n> PeerSocket<'a, 'n> {
             || self.came > 0 && now.saturating_sub(self.came_first) >= MOST_TURN_TIME
     }
 
-    /// Notes that one frame more leaves. False if that can't be noted: then none leaves for a
-    /// second.
+    /// Notes that one frame more leaves. Returns `false` if that can't be noted: then none leaves
+    /// for a second.
     fn covers_next(&mut self, now: u64) -> bool {
         let stop = self.numbers.covers_next().err();
         self.exchange.no_counts.set(stop);
@@ -363,7 +363,7 @@ impl<'a, 'n> PeerSocket<'a, 'n> {
         stop.is_none()
     }
 
-    /// Notes that a datagram came at this time, or was told to be lost.
+    /// Notes that a datagram arrived at this time, or that the network reported a lost one.
     fn counts(&mut self, now: u64) {
         if self.came == 0 {
             self.came_first = now;
@@ -421,12 +421,12 @@ impl<'a, 'n> PeerSocket<'a, 'n> {
         }
     }
 
-    /// The system, asked at this time, gave no datagram, for this cause. Where nothing waits in the
+    /// The system, asked at this time, gave no datagram, for this cause. If nothing waits in the
     /// socket and nothing was sent or came in this turn, it waits before it is asked once more.
     ///
     /// # Errors
     ///
-    /// `WireFault` where it is to be asked once more.
+    /// `WireFault` if the system must be asked once more.
     fn receives_none(&mut self, kind: ErrorKind, now: u64) -> Result<(), WireFault> {
         if is_report(kind) {
             self.counts(now);
@@ -452,7 +452,7 @@ impl<'a, 'n> PeerSocket<'a, 'n> {
     }
 
     /// Whether nothing waited in the socket when the turn before ended, and nothing was sent since:
-    /// it waits then, without being told once more that nothing does.
+    /// it waits then, and doesn't ask once more whether something does.
     fn may_wait(&self) -> bool {
         self.is_drained && !self.has_sent && self.came == 0
     }
@@ -506,7 +506,7 @@ impl<'a, 'n> PeerSocket<'a, 'n> {
         let _ = thread::sleep(self.rt, Duration::from_millis(AFTER_FAILURE));
     }
 
-    /// How long it is until a frame may leave; 0 where one may now.
+    /// How long it is until a frame may leave; 0 if one may now.
     fn until_ready(&self, now: u64) -> u64 {
         self.pacer
             .wait(now)
@@ -553,7 +553,7 @@ fn send_past_reports(
     (socket.send(octets), reports)
 }
 
-/// The time in nanoseconds since the start; the last one where the clock can't be read.
+/// The time in nanoseconds since the start; the last one if the clock can't be read.
 fn nanoseconds(rt: &HostRuntime, start: Instant, last: u64) -> u64 {
     match start.elapsed(rt) {
         Ok(since) => u64::try_from(since.as_nanos()).unwrap_or(u64::MAX),
@@ -659,7 +659,7 @@ impl Wire for PeerSocket<'_, '_> {
 impl PeerWire for PeerSocket<'_, '_> {
     /// The whole seconds since the start, or milliseconds, in which the link wasn't down by plan
     /// and the process ran. While datagrams wait in the socket it is the time at which none did, at
-    /// most two seconds late. Where the clock can't be read it stands still.
+    /// most two seconds late. If the clock can't be read it stands still.
     fn now(&mut self) -> u64 {
         let drained = self.drained.max(self.link_time().saturating_sub(MOST_LAG));
         self.told = self.told.max(drained / self.pace.unit.nanoseconds());

@@ -9,7 +9,7 @@ use std::fs::{DirEntry, FileType};
 use std::marker::Model;
 use std::{fs, io};
 
-/// The exit status where a folder failed.
+/// The exit status if a folder failed.
 const DEVICE: u8 = 3;
 
 /// What the name of a part file begins with. Behind it come the two numbers of its transaction.
@@ -35,7 +35,7 @@ impl HeldFolder {
     ///
     /// # Errors
     ///
-    /// The exit status, where it can't be had, which was told on standard error.
+    /// The exit status if it can't be had; standard error says why.
     pub fn take(rt: &HostRuntime, path: &str) -> Result<HeldFolder, u8>
         ensures { IfOk result (λ held. held ≡ path.now) }
     {

@@ -1,4 +1,4 @@
-//! The files of an inbox, where a file that came may not take the place of another, nor be longer
+//! The files of an inbox in which a received file may not take the place of another, nor be longer
 //! than a limit.
 ghost use Rattle.std.specs.Prelude.{◌≡◌, false, true};
 ghost use Rattle.cfdp_files.specs.InboxFolder.{MayBeNamed};
@@ -10,11 +10,11 @@ use std::io;
 use std::io::{ErrorKind, Read, Seek, SeekFrom, Write};
 
 /// A file of an inbox. It knows the place in it at which the next octet is written, and goes there
-/// only where that is another one: what comes in order is written by one call of the system each.
+/// only if that is another one: what comes in order is written by one call of the system each.
 #[derive(Drop)]
 pub struct InboxFile {
     file: File,
-    /// `None` where it isn't known.
+    /// `None` if it isn't known.
     place: Option<u64>,
 }
 
@@ -87,7 +87,7 @@ impl OpenFile for InboxFile {
 
 /// The files of the system, for an inbox that replaces files, or keeps those that are there.
 ///
-/// Where it keeps them, a rename is a link, which the system refuses where anything has that name,
+/// If it keeps them, a rename is a link, which the system refuses if anything has that name,
 /// and then the removal of the old name: both names are of one whole file meanwhile, so nothing
 /// partial is seen, and there is no time between a look and a rename in which another program could
 /// make a file of that name. So the file system needs to have links.
@@ -104,7 +104,7 @@ pub struct InboxFiles<'a> {
 }
 
 impl<'a> InboxFiles<'a> {
-    /// Those of the system. Where it doesn't replace, no rename takes a name that is there; and
+    /// Those of the system. If it doesn't replace, no rename takes a name that is there; and
     /// none gives a name to a file of more than `most_size` octets, unless that is 0.
     pub fn new(rt: &'a HostRuntime, replaces: bool, most_size: u64) -> InboxFiles<'a> {
         InboxFiles {
@@ -200,7 +200,7 @@ impl Files for InboxFiles<'_> {
         self.rt.copy(from, to)
     }
 
-    /// Where the old name can't be removed behind the link, the file has both: it is there under
+    /// If the old name can't be removed behind the link, the file has both: it is there under
     /// the new one, and the next start removes the other.
     fn rename(&self, from: &str, to: &str) -> io::Result<()> {
         let made = self.made.check(from, &self.rt.symlink_metadata(from)?)?;

@@ -9,9 +9,9 @@ const RANDOM_BITS: u32 = 42;
 const BELOW_RANDOM: u32 = 20;
 
 /// Returns the least number of a station's first transaction, for numbers of so many octets: the
-/// microseconds since 1970, or 0 if these don't fit. A new station, of which no file says what it
-/// used, adds a random number if its numbers have 8 octets. So numbers that were used don't come
-/// back where the clock does, and strangers don't guess them.
+/// microseconds since 1970, or 0 if these don't fit. A new station, which
+/// has no file of what it used, adds a random number if its numbers have 8 octets. So used numbers
+/// don't come back if the clock does, and strangers don't guess them.
 pub fn least_number(rt: &HostRuntime, width: u64, is_new: bool) -> u64 {
     let clock = clock_number(rt, width);
     if is_new && width >= 8 {

@@ -12,7 +12,7 @@ pub struct Identity {
 }
 
 impl Identity {
-    /// Returns that of what the system told of.
+    /// Returns the identity of what the system found.
     pub fn of(found: &Metadata) -> Identity {
         Identity {
             device: found.dev(),
@@ -64,7 +64,7 @@ pub fn check_plain(found: &Metadata) -> io::Result<()> {
 ///
 /// # Errors
 ///
-/// That of the system if it can't tell what is at one of them.
+/// The system's, if it can't say what is at one of them.
 pub fn is_same_folder(rt: &HostRuntime, one: &str, other: &str) -> io::Result<bool> {
     let (one, other) = (fs::metadata(rt, one)?, fs::metadata(rt, other)?);
     Ok(Identity::of(&one) == Identity::of(&other))

@@ -42,7 +42,7 @@ pub struct Taken {
 }
 
 impl Reserved {
-    /// What is reserved where no station has run.
+    /// What is reserved if no station has run.
     pub const NOTHING: Reserved = Reserved {
         numbers: 1,
         frames: 0,
@@ -60,7 +60,7 @@ impl Reserved {
     }
 
     /// Returns what a start takes that reserves a number for each of so many puts: from the one on
-    /// that is said, or else behind all that were reserved before and not below the least.
+    /// that is said, or otherwise after all that were reserved before and not below the least.
     /// `None` if so many numbers, or one frame more, can't be counted.
     pub fn begin(self, said: Option<u64>, least: u64, puts: u64) -> Option<Taken>
         ensures begins { IfSome result (Begins self said least puts) }
@@ -82,7 +82,7 @@ impl Reserved {
         })
     }
 
-    /// Returns what must be reserved before a frame of this count leaves: the same as now where the
+    /// Returns what must be reserved before a frame of this count leaves: the same as now if the
     /// count is below what is reserved. `None` if no more can be counted.
     pub fn covering(self, count: u64) -> Option<Reserved>
         ensures covers { IfSome result (Covers self count) }

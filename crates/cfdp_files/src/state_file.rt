@@ -1,5 +1,5 @@
 //! The numbers that a station has reserved, in a small file, so that none comes back when it is
-//! killed and started anew.
+//! killed and restarted.
 ghost use Rattle.std.specs.Prelude.{◌≡◌, ◌+◌, ◌-◌, ◌^◌, ◌<◌, ◌≤◌, Some, IfOk, IfSome, IsSomeAnd};
 ghost use Rattle.std.specs.Prelude.{OnErr, OnOk, min, unwrap_or};
 
@@ -18,7 +18,7 @@ use std::{fmt, fs, io};
 /// The most octets of the file that are read: more than it has.
 const MOST_OCTETS: u64 = 4096;
 
-/// How many transaction numbers are reserved at a time, where they have four octets or more.
+/// How many transaction numbers are reserved at a time, if they have four octets or more.
 const NUMBERS: u64 = 1024;
 
 /// Why a file can't be used.
@@ -95,8 +95,8 @@ pub struct StateFile<'a> {
 }
 
 impl<'a> StateFile<'a> {
-    /// Takes the file at this path, which is made where there is none, and reserves a number for
-    /// each put: from the given one on, or else behind all that were reserved before and not below
+    /// Takes the file at this path, which is made if there is none, and reserves a number for
+    /// each put: from the given one on, or otherwise after all reserved ones and not below
     /// [`least_number`].
     ///
     /// # Errors
@@ -134,11 +134,11 @@ impl<'a> StateFile<'a> {
         Ok((state, taken.beginning))
     }
 
-    /// Notes that frames up to this count may leave, where that wasn't noted before.
+    /// Notes that frames up to this count may leave, if that wasn't noted before.
     ///
     /// # Errors
     ///
-    /// `StateError` where it can't be noted.
+    /// `StateError` if it can't be noted.
     pub fn covers(&mut self, count: u64) -> Result<(), StateError>
         ensures covered { OnOk result (count < self.new.reserved.frames) }
         ensures numbers { self.new.numbers_end ≡ self.old.numbers_end }
@@ -148,11 +148,11 @@ impl<'a> StateFile<'a> {
     }
 
     /// Notes that the peer's frame with this sequence number is handed on, and so many more ahead of
-    /// it, where that wasn't noted before.
+    /// it, if that wasn't noted before.
     ///
     /// # Errors
     ///
-    /// `StateError` where it can't be noted.
+    /// `StateError` if it can't be noted.
     pub fn accepts(&mut self, number: u64, ahead: u64) -> Result<(), StateError>
         ensures covered { OnOk result
             (IsSomeAnd self.new.reserved.accepted (λ reserved. number ≤ reserved)) }
@@ -165,7 +165,7 @@ impl<'a> StateFile<'a> {
     ///
     /// # Errors
     ///
-    /// `StateError` where it can't be noted.
+    /// `StateError` if it can't be noted.
     pub fn settles(&mut self, last: Option<u64>) -> Result<(), StateError>
         ensures exact { OnOk result (self.new.reserved.accepted ≡ last) }
         ensures numbers { self.new.numbers_end ≡ self.old.numbers_end }
@@ -235,7 +235,7 @@ fn is_missing(rt: &HostRuntime, path: &str, error: &io::Error) -> bool {
     error.kind() == ErrorKind::NotFound && fs::symlink_metadata(rt, path).is_err()
 }
 
-/// Fails unless this was found where that file was opened.
+/// Fails unless this was found when that file was opened.
 fn check_own(file: &File, found: &Metadata) -> Result<(), StateError> {
     if Identity::of(&file.metadata()?) == Identity::of(found) {
         return Ok(());
@@ -253,12 +253,12 @@ fn read(rt: &HostRuntime, file: &File) -> Result<Reserved, StateError> {
     }
 }
 
-/// Makes the file at a path, where there was none. It gets its name once it is whole, so that a
+/// Makes the file at a path, if there was none. It gets its name once it is whole, so that a
 /// crash leaves none that says nothing.
 ///
 /// # Errors
 ///
-/// `InUse` where another station makes it, or has made it by now; or what the system says.
+/// `InUse` if another station makes it, or has made it by now; or what the system says.
 fn made(rt: &HostRuntime, path: &str, reserved: Reserved) -> Result<File, StateError> {
     let part = part_of(rt, path)?;
     let file = written(rt, part.as_str(), None, reserved)?;
@@ -273,7 +273,7 @@ fn made(rt: &HostRuntime, path: &str, reserved: Reserved) -> Result<File, StateE
     Ok(file)
 }
 
-/// Gives a file a name that nothing has, by a link. Where the file system has no links, the name is
+/// Gives a file a name that nothing has, by a link. If the file system has no links, the name is
 /// made first and then replaced: a crash between both leaves an empty file.
 fn named(rt: &HostRuntime, part: &str, path: &str) -> io::Result<()> {
     match fs::hard_link(rt, part, path) {
@@ -329,7 +329,7 @@ fn written(
 ///
 /// # Errors
 ///
-/// `InUse` where another writes it; or what the system says, as `NotSeekable` for what is no file.
+/// `InUse` if another writes it; or what the system says, as `NotSeekable` for what is no file.
 fn remove_left(rt: &HostRuntime, part: &str, held: Option<&File>) -> Result<(), StateError> {
     let found = match fs::symlink_metadata(rt, part) {
         Ok(found) => found,
@@ -398,7 +398,7 @@ impl<'a> Reservation<'a> {
         })
     }
 
-    /// The number that is said, or else that of the clock, in no file.
+    /// The number that is said, or otherwise the clock's, in no file.
     pub fn by_clock(rt: &HostRuntime, said: Option<u64>) -> Reservation<'a> {
         let now = microseconds(rt);
         Reservation {
@@ -508,7 +508,7 @@ impl<'a> Reservation<'a> {
         Ok(())
     }
 
-    /// Notes that no later frame was handed on, so that a station that is started anew refuses none
+    /// Notes that no later frame was handed on, so that a station that is restarted refuses none
     /// that it hasn't received. It should be called once a second in which frames were accepted, and
     /// at the end.
     ///

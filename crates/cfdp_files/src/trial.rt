@@ -4,19 +4,19 @@ use std::fs::File;
 use std::io::{ErrorKind, Write};
 use std::{fs, io};
 
-/// The exit status where a folder failed.
+/// The exit status if a folder failed.
 const DEVICE: u8 = 3;
 
 /// What the trial writes: a block of most file systems.
 const TRIAL: [u8; 4096] = [0; 4096];
 
 /// Tries whether files can be written into the folder of an inbox: makes one in it, under a name
-/// that begins with a point, writes and flushes it, gives it a link where the inbox keeps files
+/// that begins with a point, writes and flushes it, gives it a link if the inbox keeps files
 /// that are there, and removes it.
 ///
 /// # Errors
 ///
-/// The exit status, where that can't be done, which was told on standard error.
+/// The exit status if that can't be done; standard error says why.
 pub fn try_folder(rt: &HostRuntime, path: &str, replaces: bool) -> Result<(), u8> {
     if let Err(error) = written(rt, path) {
         let _ = eprintln!(rt; "error: {path}: {}", cause_text(error.kind()));

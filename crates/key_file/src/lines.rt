@@ -1,7 +1,9 @@
 //! Lines of keys.
 ghost use Rattle.std.specs.Prelude.{◌≡◌, ◌↔◌, Some, IfOk, IfSome, OnOk, codes};
 ghost use Rattle.key_file.specs.declared.draft.Direction.TheVariants.{Send, Receive};
-ghost use Rattle.key_file.specs.Apart.{AreApart, IsDraft, IsSpi};
+ghost use Rattle.key_file.specs.Apart.{Adds, AreApart, IsDraft, IsSpi};
+ghost use Rattle.key_file.specs.declared.draft.Direction.{Direction as ADirection};
+ghost use Rattle.key_file.specs.Text.{AddsLine, AreWordsOf, IsFileOf, SayKey, SpellsSpi, before_comment, direction_word};
 
 use crate::draft::{Direction, Draft};
 use crate::fault::{KeyFileError, LineFault};
@@ -20,7 +22,8 @@ const MOST_SPI: u16 = 65_534;
 ///
 /// `Line` for the first line that is wrong; `NoSend` or `NoReceive` if a direction has no key.
 pub fn parse(text: &str) -> Result<LinkKeys, KeyFileError>
-    ensures { IfOk result AreApart }
+    ensures apart { IfOk result AreApart }
+    ensures says { IfOk result (IsFileOf text.now) }
 {
     let mut draft = Draft::EMPTY;
     let mut line: u64 = 0;
@@ -35,28 +38,63 @@ pub fn parse(text: &str) -> Result<LinkKeys, KeyFileError>
 
 /// Adds the key of a line, if it has one.
 fn add_line(draft: &mut Draft, line: &str) -> Result<(), LineFault>
-    ensures { IsDraft draft.old → OnOk result (IsDraft draft.new) }
+    ensures apart { IsDraft draft.old → OnOk result (IsDraft draft.new) }
+    ensures adds { OnOk result (AddsLine line.now draft.old draft.new) }
 {
-    let words = match line.split_once('#') {
-        Some((words, _comment)) => words,
-        None => line,
-    };
-    let mut words = words.split_whitespace();
-    let Some(spi) = words.next() else {
+    let Some((spi, direction, key)) = words_in(before_comment(line))? else {
         return Ok(());
+    };
+    let (direction, key) = key_in(spi, direction, key)?;
+    draft.add(direction, key)
+}
+
+/// Returns what a line says, without its comment.
+fn before_comment(line: &str) -> &str
+    ensures { result.now ≡ before_comment line.now }
+{
+    match line.split_once('#') {
+        Some((text, _comment)) => text,
+        None => line,
+    }
+}
+
+/// Returns the three words of a text; `None` if it has no word.
+///
+/// # Errors
+///
+/// `Words` if it has another number of words.
+fn words_in(text: &str) -> Result<Option<(&str, &str, &str)>, LineFault>
+    ensures { IfOk result (AreWordsOf text.now) }
+{
+    let mut words = text.split_whitespace();
+    let Some(spi) = words.next() else {
+        return Ok(None);
     };
     let (Some(direction), Some(key), None) = (words.next(), words.next(), words.next()) else {
         return Err(LineFault::Words);
     };
+    Ok(Some((spi, direction, key)))
+}
+
+/// Returns the key that three words say, and what it is for.
+///
+/// # Errors
+///
+/// `Spi`, `Direction` or `Key`, by the first word that says none.
+fn key_in(spi: &str, direction: &str, key: &str) -> Result<(Direction, NamedKey), LineFault>
+    ensures apart { IfOk result (λ entry. IsSpi entry.1.spi) }
+    ensures says { IfOk result (λ it. SayKey spi.now direction.now key.now it.0 it.1) }
+{
     let spi = parse_spi(spi).ok_or(LineFault::Spi)?;
     let direction = parse_direction(direction).ok_or(LineFault::Direction)?;
     let key = <[u8; 32] as FromHex>::from_hex(key).map_err(|_| LineFault::Key)?;
-    draft.add(direction, NamedKey { spi, key })
+    Ok((direction, NamedKey { spi, key }))
 }
 
 /// Returns the SPI that decimal digits spell.
 fn parse_spi(word: &str) -> Option<u16>
-    ensures { IfSome result IsSpi }
+    ensures apart { IfSome result IsSpi }
+    ensures spells { IfSome result (SpellsSpi word.now) }
 {
     if word.starts_with('+') {
         return None;
@@ -69,8 +107,7 @@ fn parse_spi(word: &str) -> Option<u16>
 
 /// Returns the direction that a word names.
 fn parse_direction(word: &str) -> Option<Direction>
-    ensures send { (result ≡ Some Send) ↔ (word.now ≡ codes "send") }
-    ensures receive { (result ≡ Some Receive) ↔ (word.now ≡ codes "receive") }
+    ensures { (d : ADirection) → (result ≡ Some d) ↔ (word.now ≡ direction_word d) }
 {
     match word {
         "send" => Some(Direction::Send),

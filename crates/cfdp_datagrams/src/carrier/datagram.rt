@@ -97,7 +97,7 @@ fn pdu_of_packet(apid: u16, header_len: u8, datagram: &[u8]) -> Result<&[u8], Ca
 ///
 /// # Errors
 ///
-/// `Empty` where nothing does.
+/// `Empty` if nothing does.
 fn behind_header(header_len: u8, body: &[u8]) -> Result<&[u8], CarrierDrop>
     ensures found { IfOk result (λ pdu. (header : List ℕ) × (length header ≡ header_len)
         × (body.now ≡ header ++ pdu.now)) }
@@ -125,7 +125,7 @@ pub fn lane_of(pdu: &[u8]) -> Lane
 }
 
 /// Writes the packet of a PDU, of this APID and with this count, into the first octets of `out`,
-/// and says how many they are; `None` where the PDU fits no packet, or one of both doesn't fit. Its
+/// and says how many they are; `None` if the PDU fits no packet, or one of both doesn't fit. Its
 /// data field is put together in `body`.
 pub fn put_pdu(
     form: PacketForm,
@@ -146,7 +146,7 @@ pub fn put_pdu(
 }
 
 /// Writes a secondary header of so many octets, all zero, and a PDU behind it into the first
-/// octets, and says how many they are; `None` where they don't fit.
+/// octets, and says how many they are; `None` if they don't fit.
 fn put_body(header_len: u8, pdu: &[u8], out: &mut [u8]) -> Option<usize>
     ensures within { IfSome result (λ len. len ≤ length out.new) }
     ensures some { header_len + length pdu.now ≤ length out.old → IsSome result }
@@ -162,8 +162,8 @@ fn put_body(header_len: u8, pdu: &[u8], out: &mut [u8]) -> Option<usize>
 }
 
 /// Writes the packet with this data field, of this APID and with this count, into the first octets,
-/// and says how many they are; `None` where the field fits no packet, or the packet not into the
-/// octets. In front of the field's PDU stands the secondary header, if there is one.
+/// and says how many they are; `None` if the field fits no packet, or the packet not into the
+/// octets. Before the field's PDU stands the secondary header, if there is one.
 fn put_packet(form: PacketForm, apid: u16, count: u16, body: &[u8], out: &mut [u8]) -> Option<usize>
     ensures within { IfSome result (λ len. len ≤ length out.new) }
     ensures some { (pdu : List ℕ) → body.now ≡ replicate form.secondary_header 0 ++ pdu →

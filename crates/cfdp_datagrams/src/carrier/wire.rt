@@ -104,7 +104,7 @@ impl Conversion {
     ///
     /// # Errors
     ///
-    /// `WireFault` where there was no memory for one of them: it is lost, and so are those behind it
+    /// `WireFault` if there was no memory for one of them: it is lost, and so are those behind it
     /// in the frame, and the one that the frame began.
     fn take_frame(&mut self, frame: &[u8]) -> Result<(), WireFault>
         ensures { TakesFrame frame.now self.old self.new }
@@ -122,7 +122,7 @@ impl Conversion {
     ///
     /// # Errors
     ///
-    /// That of the wire, or `WireFault` where the PDU fits no packet: it is lost.
+    /// That of the wire, or `WireFault` if the PDU fits no packet: it is lost.
     fn send_first<W: Wire>(&mut self, wire: &mut W) -> Result<(), WireFault>
         ensures none { self.old.queue ≡ [] → (self.new ≡ self.old) × (wire.new ≡ wire.old) }
         ensures first { (pdu : List ℕ) (rest : List (List ℕ)) → self.old.queue ≡ pdu ∷ rest →
@@ -168,7 +168,7 @@ impl Conversion {
     }
 
     /// Writes the next frame for the station to the front of a buffer, and answers how many octets
-    /// it has; `None` where none waits, or the buffer is shorter: nothing changed then.
+    /// it has; `None` if none waits, or the buffer is shorter: nothing changed then.
     fn next_frame(&mut self, buffer: &mut [u8]) -> Option<usize>
         ensures within { IfSome result (λ len. len ≤ length buffer.new) }
         ensures gives { IfSome result (λ len. GivesFrame (take len buffer.new) self.old self.new) }
@@ -226,7 +226,7 @@ fn conversion_of(
 #[derive(Drop)]
 pub struct CarrierWire<'a, W: PeerWire> {
     wire: W,
-    // `None` where the datagrams are the frames.
+    // `None` if the datagrams are the frames.
     conversion: Option<Conversion>,
     // What came last, and how often such was dropped.
     datagram: Vec<u8>,
@@ -255,7 +255,7 @@ impl<'a, W: PeerWire> CarrierWire<'a, W> {
     ///
     /// # Errors
     ///
-    /// `AllocError` only where one of its buffers was refused.
+    /// `AllocError` only if one of its buffers was refused.
     pub fn new(
         alloc: Global,
         carrier: Carrier,
@@ -276,7 +276,7 @@ impl<'a, W: PeerWire> CarrierWire<'a, W> {
         })
     }
 
-    /// Whether a datagram may leave now. Where the wire was ready it isn't asked again before one
+    /// Whether a datagram may leave now. If the wire was ready it isn't asked again before one
     /// has left, or the turn is over.
     fn may_leave(&mut self) -> bool
         ensures { MayLeave W.steps result self.old self.new }
@@ -304,7 +304,7 @@ impl<'a, W: PeerWire> CarrierWire<'a, W> {
     ///
     /// # Errors
     ///
-    /// `WireFault` where it is lost.
+    /// `WireFault` if it is lost.
     fn send_first(&mut self) -> Result<(), WireFault>
         ensures { (c : ConversionState) (pdu : List ℕ) (rest : List (List ℕ)) →
             self.old.conversion ≡ Some c → c.queue ≡ pdu ∷ rest → self.old.has_leave ≡ true →
@@ -322,7 +322,7 @@ impl<'a, W: PeerWire> CarrierWire<'a, W> {
     ///
     /// # Errors
     ///
-    /// `WireFault` where one of them is lost.
+    /// `WireFault` if one of them is lost.
     fn send_waiting(&mut self) -> Result<(), WireFault>
         ensures { SendsOut W.steps self.old self.new }
     {
