@@ -28,7 +28,7 @@ use Rattle.any_order.proofs.Puts.{finds_by_id}
 use Rattle.cfdp_port.specs.Calls.{WireCall}
 use Rattle.cfdp_port.specs.Port.{table_of}
 use Rattle.cfdp_service.specs.Calls.{Asks, Chain, heard_by}
-use Rattle.cfdp_service.specs.Clerk.{ClerkState, ClerkSteps}
+use Rattle.cfdp_service.specs.Clerk.{ClerkState, ClerkSteps, IsAccepted}
 use Rattle.any_link.specs.Promise.{AreDelivered, IsSent, Lies, completed_by, own_of, told_by}
 use Rattle.any_link.specs.Serving.{InboxLife, Stations, inboxes, served_at}
 use Rattle.any_link.proofs.Standing.{Goes, HaveServed, KeepPromise}
@@ -189,7 +189,11 @@ all_puts P (l ∷ left) each =
     either one rest put (suc k, low, e) = rest.each put (k, omega (arith, low), e)
 
 module _ {W : Type 0} (Steps : W → WireCall → W → Type 0) (all : AllLaws) (c : Setup) (joined : AreJoined c) where
-  was_sent : (mid : Stations) (s : Side) (own : ℕ) (l : Left) → AreKnown c mid → WasSent own (served_at s mid).calls l → PutOf (λ put. IsSent s put.source put mid) l
+  -- a put that was wished and accepted in this life, and told complete
+  abbrev SentBy : Stations → Side → Put → Type 0
+  SentBy mid s put = IsSent s put.source put mid × IsAccepted (served_at s mid).calls put.source put.id
+
+  was_sent : (mid : Stations) (s : Side) (own : ℕ) (l : Left) → AreKnown c mid → WasSent own (served_at s mid).calls l → PutOf (SentBy mid s) l
   was_sent mid s own l k d =
       let a = d.accepted in
       let names = a.wishes.names in
@@ -200,15 +204,19 @@ module _ {W : Type 0} (Steps : W → WireCall → W → Type 0) (all : AllLaws) 
         put = it.put;
         source = it.source ∙ a.wishes.source;
         its_id = it.its_id;
-        holds = record {
-          is_put = ap (λ i. found mid.puts i) it.its_id ∙ it.is_put;
-          source = refl;
-          destination = it.destination ∙ a.wishes.destination ∙ sym (it.source ∙ a.wishes.source);
-          told = (
-            ap (λ i. i.source) it.its_id ∙ it.of_own ∙ sym (own_so c s mid k.held),
-            subst (λ (i : TransactionId). Contains (told_by (served_at s mid)) (delivered i)) (sym it.its_id) (known.told (delivered l.id) d.told.1),
-          );
-        };
+        holds = (
+          record {
+            is_put = ap (λ i. found mid.puts i) it.its_id ∙ it.is_put;
+            source = refl;
+            destination = it.destination ∙ a.wishes.destination ∙ sym (it.source ∙ a.wishes.source);
+            told = (
+              ap (λ i. i.source) it.its_id ∙ it.of_own ∙ sym (own_so c s mid k.held),
+              subst (λ (i : TransactionId). Contains (told_by (served_at s mid)) (delivered i)) (sym it.its_id) (known.told (delivered l.id) d.told.1),
+            );
+          },
+          subst (λ (n : List ℕ). IsAccepted (served_at s mid).calls n it.put.id) (sym (it.source ∙ a.wishes.source))
+              (subst (λ (i : TransactionId). IsAccepted (served_at s mid).calls l.name i) (sym it.its_id) a),
+        );
       }
 
   -- no transaction was heard finished twice in this life
@@ -221,14 +229,14 @@ module _ {W : Type 0} (Steps : W → WireCall → W → Type 0) (all : AllLaws) 
 
   pub spooled : {S : Type 0} (sent failed : S → List (List ℕ)) (files : Side → FileMap) (mid now : Stations) (more : ℕ) → HaveServed Steps c files mid →
       Times (Goes Steps c) more mid now → (s : Side) (old new : ClerkState S) → Chain (ClerkSteps sent failed) (served_at s mid).calls old new → old.asked ≡ None → old.files ≡ [] →
-      (left : List (List ℕ)) × (sent new.spool ≡ sent old.spool ++ left) × AreDelivered s left now
+      (left : List (List ℕ)) × (sent new.spool ≡ sent old.spool ++ left) × AreDelivered s (served_at s mid).calls left now
   spooled sent failed files mid now more served went s old new chain asked none =
       let k : AreKnown c mid = served_known Steps all c joined files mid served in
       let then : AreKnown c now = went_known Steps all c joined more mid now went k in
       let t : Tracks sent failed old (served_at s mid).calls new = tracks_all sent failed (served_at s mid).calls old new chain asked none in
-      let puts : PutsOf (λ put. IsSent s put.source put mid) t.left = all_puts (λ put. IsSent s put.source put mid) t.left (λ l has. was_sent mid s old.own l k (t.each l has)) in
+      let puts : PutsOf (SentBy mid s) t.left = all_puts (SentBy mid s) t.left (λ l has. was_sent mid s old.own l k (t.each l has)) in
       let still : (put : Put) → Contains puts.puts put → IsSent s put.source put now =
-      (λ (put : Put) (has : Contains puts.puts put). went_sent Steps all c joined s put.source put more mid now went k.held (puts.each put has)) in (
+      (λ (put : Put) (has : Contains puts.puts put). went_sent Steps all c joined s put.source put more mid now went k.held (puts.each put has).0) in (
         names_of t.left,
         t.gone,
         record {
@@ -239,6 +247,7 @@ module _ {W : Type 0} (Steps : W → WireCall → W → Type 0) (all : AllLaws) 
               let few : of_id id t.left ≤ count_by (is_finished id) (heard_by (served_at s mid).calls) = t.few id in
               let once : count_by (is_finished id) (heard_by (served_at s mid).calls) ≤ 1 = heard_once mid s k id in
               omega (arith, same, few, once);
+          accepted = λ put has. (puts.each put has).1;
           sent = still;
           lie = λ put has. sent_lies all c joined now then.held files s put.source put (still put has);
         },

@@ -21,6 +21,8 @@ use Rattle.cfdp_port.specs.Asking as asking
 use Rattle.cfdp_port.specs.Asking.{CountsFrom, FailsToLook, LooksAt}
 use Rattle.cfdp_port.specs.Calls.{WireCall}
 use Rattle.cfdp_port.specs.Port.{table_of}
+use Rattle.cfdp_service.specs.Calls.{UserCall}
+use Rattle.cfdp_service.specs.Clerk.{IsAccepted}
 use Rattle.cfdp_service.specs.declared.wish.Reply.{Reply}
 use Rattle.cfdp_service.specs.declared.wish.Reply.TheVariants as replies
 use Rattle.cfdp_service.specs.declared.wish.Wish.{Wish}
@@ -296,11 +298,12 @@ module _ {W : Type 0} (Steps : W → WireCall → W → Type 0) where
     lies_so One put w l = record { life = l.life; one_of = l.one_of; before = l.before; behind = l.behind; is = l.is; last = l.last; among = l.among; is_put = l.is_put; name = l.name; file = l.file }
     lies_so Two put w l = record { life = l.life; one_of = l.one_of; before = l.before; behind = l.behind; is = l.is; last = l.last; among = l.among; is_put = l.is_put; name = l.name; file = l.file }
 
-    pub delivered_so : (s : Side) (names : List (List ℕ)) (w : Stations) → promise.AreDelivered s names (shade_all w) → promise.AreDelivered s names w
-    delivered_so s names w d = record {
+    pub delivered_so : (s : Side) (calls asked : List UserCall) (names : List (List ℕ)) (w : Stations) → asked ≡ calls → promise.AreDelivered s asked names (shade_all w) → promise.AreDelivered s calls names w
+    delivered_so s calls asked names w same d = record {
       puts = d.puts;
       named = d.named;
       apart = d.apart;
+      accepted = λ put has. subst (λ (l : List UserCall). IsAccepted l put.source put.id) same (d.accepted put has);
       sent = λ put has. sent_so s put.source put w (d.sent put has);
       lie = λ put has. lies_so (other s) put w (d.lie put has);
     }

@@ -18,6 +18,8 @@ use Rattle.any_order.specs.Calls.{End, Pair, Setup, Side, at, entity_of, lives, 
 use Rattle.any_order.specs.Kept.{IsOf}
 use Rattle.any_order.specs.Promise.{CausedAt, HasSent, ToldAt, TruthAt, found}
 use Rattle.cfdp_port.specs.Port.{table_of}
+use Rattle.cfdp_service.specs.Calls.{UserCall}
+use Rattle.cfdp_service.specs.Clerk.{IsAccepted}
 use Rattle.any_link.specs.Serving.{InboxLife, Served, Stations, inboxes, kept_sending, served_at}
 
 -- its entity
@@ -110,11 +112,14 @@ pub record Lies (s : Side) (put : Put) (w : Stations) : Type 0 where
   pub name : last.destination ≡ put.destination
   pub file : get life.files put.destination ≡ Some last.octets
 
--- Files of these names were sent from this side, and lie at the other one: there is a put of each,
--- in this order, and no two of these puts are of one transaction.
-pub record AreDelivered (s : Side) (names : List (List ℕ)) (w : Stations) : Type 0 where
+-- Files of these names were sent from this side, by these calls of its user, and lie at the other
+-- side: there is a put of each, in this order, which was wished and accepted by these calls; and no
+-- two of these puts are of one transaction.
+pub record AreDelivered (s : Side) (calls : List UserCall) (names : List (List ℕ)) (w : Stations)
+    : Type 0 where
   pub puts : List Put
   pub named : map (λ put. put.source) puts ≡ names
   pub apart : (id : TransactionId) → count_by (λ put. same_id put.id id) puts ≤ 1
+  pub accepted : (put : Put) → Contains puts put → IsAccepted calls put.source put.id
   pub sent : (put : Put) → Contains puts put → IsSent s put.source put w
   pub lie : (put : Put) → Contains puts put → Lies (other s) put w

@@ -150,9 +150,9 @@ pub fn what_is_open_ends_in_service<W: PeerWire>()
 
 /// What left a spool as sent lies in the inbox of the other station, where a clerk is the user: at
 /// any moment of any life of its station, and at each later one, whatever was lost, repeated or
-/// late, and whichever station started anew. For each file that left there is a put of its own: it
-/// was put under its own name, the put was accepted, and the station was told that it is complete.
-/// So the other station has published it in one of its lives, and under that name had it as this
+/// late, and whichever station started anew. For each file that left there is a put of its own: in
+/// this life it was put under its own name, the put was accepted, and the station was told that it
+/// is complete. So the other station has published it in one of its lives, and under that name had it as this
 /// life ended, or has it now, or a file that was completed later in this life under the same name.
 pub fn what_left_the_spool_lies_in_the_inbox<S: Spool, W: PeerWire>()
     ensures { (c : Setup) (files : Side → FileMap) (mid now : Stations) (more : ℕ) → AreJoined c
@@ -160,7 +160,7 @@ pub fn what_left_the_spool_lies_in_the_inbox<S: Spool, W: PeerWire>()
         (old new : ClerkState S)
         → Chain (ClerkSteps S.sent S.failed) (served_at s mid).calls old new
         → old.asked ≡ None → old.files ≡ [] → (left : List (List ℕ))
-        × (S.sent new.spool ≡ S.sent old.spool ++ left) × AreDelivered s left now }
+        × (S.sent new.spool ≡ S.sent old.spool ++ left) × AreDelivered s (served_at s mid).calls left now }
 {
     what_comes_up_was_put_in_once();
     an_entity_keeps_the_truth();

@@ -212,7 +212,8 @@ pub fn what_left_the_spool_lies_beyond_secured_wires<S: Spool, W: PeerWire, K: K
         (old new : ClerkState S)
         → Chain (ClerkSteps S.sent S.failed) (served_at s (stations_of mid)).calls old new
         → old.asked ≡ None → old.files ≡ [] → (left : List (List ℕ))
-        × (S.sent new.spool ≡ S.sent old.spool ++ left) × AreDelivered s left (stations_of now) }
+        × (S.sent new.spool ≡ S.sent old.spool ++ left)
+        × AreDelivered s (served_at s (stations_of mid)).calls left (stations_of now) }
 {
     service_over_secured_wires_is_service::<W, K>();
     what_left_the_spool_lies_in_the_inbox::<S, SecuredWire<W, K>>();

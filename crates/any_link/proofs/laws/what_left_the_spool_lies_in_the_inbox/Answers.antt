@@ -38,4 +38,4 @@ returns g c =
     subst (λ (l : List UserCall). Chain (ClerkSteps g.S.Spool.sent g.S.Spool.failed) l old new) (sym (calls_so g.W.Wire.steps config s mid)) chain in
     let left = spooled g.W.Wire.steps all config joined g.S.Spool.sent g.S.Spool.failed files (shade_all g.W.Wire.steps config mid) (shade_all g.W.Wire.steps config now) more begun.0 then.0
     s old new calls asked none in
-    (left.0, left.1, delivered_so g.W.Wire.steps config s left.0 now left.2)
+    (left.0, left.1, delivered_so g.W.Wire.steps config s (served_at s mid).calls (served_at s (shade_all g.W.Wire.steps config mid)).calls left.0 now (calls_so g.W.Wire.steps config s mid) left.2)
