@@ -1,16 +1,21 @@
 //! The laws, each the contract of a function that does nothing.
-ghost use Rattle.std.specs.Prelude.{◌≡◌, ◌≤◌, ◌++◌, ℕ, List, [], None, Option, IsTrue};
+ghost use Rattle.std.specs.Prelude.{◌≡◌, ◌+◌, ◌<◌, ◌≤◌, ◌%◌, ◌++◌, ℕ, List, [], length, None};
+ghost use Rattle.std.specs.Prelude.{Option, IsTrue, true};
+ghost use Rattle.aos_frame.specs.Counts.{frame_counts};
 ghost use Rattle.aos_frame.specs.declared.config.Lane.{Lane};
 ghost use Rattle.aos_frame.specs.declared.config.LinkConfig.{LinkConfig};
 ghost use Rattle.cfdp_header.specs.Files.{FileMap};
 ghost use Rattle.cfdp_directives.specs.User.Put.{Put};
+ghost use Rattle.cfdp_entity.specs.Config.{IsConfig};
 ghost use Rattle.cfdp_entity.specs.Entity.{EntityState};
 ghost use Rattle.cfdp_endings.specs.Entity.{AreRounds, GivesUp, IsLively, NoneOpen, records_left};
+ghost use Rattle.cfdp_station.specs.New.{IsNewAt};
 ghost use Rattle.cfdp_station.specs.Station.{StationState};
 ghost use Rattle.cfdp_station.specs.Transmitting.{Times, Transmits};
 ghost use Rattle.cfdp_station.specs.declared.config.StationConfig.{StationConfig};
-ghost use Rattle.any_order.specs.Calls.{AreJoined, Call, Setup, Side, setup_of};
-ghost use Rattle.any_order.specs.Kept.{EndKept, Makes};
+ghost use Rattle.any_order.specs.Calls.{AreJoined, Call, Setup, Side, numbered_from, setup_of};
+ghost use Rattle.any_order.specs.Kept.{EndKept, Makes, frames_in};
+ghost use Rattle.cfdp_port.specs.Asking.{CountsFrom};
 ghost use Rattle.cfdp_port.specs.Passing.{frames_came};
 ghost use Rattle.cfdp_port.specs.PeerTurn.{TakesInPart};
 ghost use Rattle.cfdp_port.specs.Port.{PortState, port_state, table_of};
@@ -23,8 +28,8 @@ ghost use Rattle.shown_sources.specs.Shown.{AreAsLong};
 ghost use Rattle.any_link.specs.Passing.{Comes, EndRead, EndsEarly, TakesTurn, with_given};
 ghost use Rattle.any_link.specs.Promise.{AreDelivered, KeepPromise};
 ghost use Rattle.any_link.specs.Serving.{Fulfils, Goes, HaveServed, IsFree, IsPrepared, Leads};
-ghost use Rattle.any_link.specs.Serving.{MayFind, Stations, kept_sending, served_at, served_on};
-ghost use Rattle.any_link.specs.Serving.{with_has};
+ghost use Rattle.any_link.specs.Serving.{MayFind, Served, StartsAnew, Stations, kept_sending};
+ghost use Rattle.any_link.specs.Serving.{served_at, served_on, with_has};
 
 use cfdp_endings::{an_entity_alone_ends, an_entity_is_never_silent};
 use cfdp_entity::{
@@ -96,6 +101,22 @@ pub fn what_is_done_between_turns_is_deeds<W: PeerWire>()
         IsPrepared calls (served_at s old).has now (served_at s old).kept.station station
         → (puts : List Put)
         × Leads W.steps c s old (with_has now (served_on station calls (served_at s old))) puts }
+{}
+
+/// Each new station may be what a station becomes at a start, whatever files it has to send and its
+/// inbox says that it has, if its numbers are apart from those before: so an inbox over a folder,
+/// which says at a start that it published nothing, meets what is asked of a start.
+pub fn a_new_station_starts_anew()
+    ensures { (c : StationConfig) (count first number : ℕ) (old : Served)
+        (sources files has : FileMap) (fresh station : StationState)
+        → IsConfig (numbered_from number c.entity)
+        → IsNewAt (record c { entity = numbered_from number c.entity }) true sources files fresh
+        → CountsFrom count fresh station → count % frame_counts ≡ first % frame_counts
+        → old.kept.station.entity.state.next ≤ number
+        → ((lane : Lane)
+        → old.kept.latest.first + length (frames_in lane old.kept.latest) < first)
+        → AreAsLong sources has → (new : Served) × StartsAnew first number c old new
+        × (new.kept.station ≡ station) × (new.begun ≡ files) × (new.has ≡ has) }
 {}
 
 /// Two stations in service keep the promise of delivery in whatever order and however often their
