@@ -17,15 +17,19 @@ MEMBERS = {
     "eof-sent": ["transaction"],
     "metadata": ["transaction", "size"],
     "eof-recv": ["transaction"],
-    "finished": ["transaction", "condition", "meaning", "delivery", "status"],
-    "suspended": ["transaction", "condition", "meaning"],
+    "finished": [
+        "transaction", "condition", "condition_name", "meaning", "delivery", "status",
+    ],
+    "suspended": ["transaction", "condition", "condition_name", "meaning"],
     "resumed": ["transaction"],
-    "fault": ["transaction", "condition", "meaning"],
-    "abandoned": ["transaction", "condition", "meaning"],
+    "fault": ["transaction", "condition", "condition_name", "meaning"],
+    "abandoned": ["transaction", "condition", "condition_name", "meaning"],
     "progress": ["transaction", "octets"],
     "put": ["line", "answer", "meaning"],
     "change": ["answer", "meaning"],
     "file": ["name", "outcome"],
+    "note": ["topic", "text"],
+    "error": ["topic", "text"],
     "complete": ["complete", "asked"],
 }
 
@@ -71,6 +75,7 @@ def object_mistakes(text, own, has_time):
             yield f"the time: {line}"
         if event != "counters":
             known = {"time", "station", "event", *MEMBERS.get(event, ["none"]), *NAMES}
+            known |= {"transaction"} if event == "error" else set()
             if not known >= set(it) - {"meaning"} or not set(MEMBERS.get(event, [])) <= set(it):
                 yield f"its members: {line}"
         if not line.isascii() or re.search("[<>&']", line):

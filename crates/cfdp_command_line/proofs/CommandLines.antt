@@ -123,6 +123,7 @@ plain = record {
   control = None;
   console = None;
   console_token = None;
+  console_host = None;
   puts = [];
   sets = [];
   shown = nothing;

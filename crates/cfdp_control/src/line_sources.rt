@@ -1,16 +1,17 @@
 //! Where commands come from: lines, and the console.
-use crate::cause::address_cause;
+use crate::cause::{address_cause, is_malformed};
 use crate::connection::Connection;
 use crate::line::{LineFault, Speaker};
 use crate::standard_input::StandardInput;
+use crate::stream::{Listener, Stream, socket_path, unix_listener};
 use crate::web_door::WebDoor;
 use cfdp_console::{Answer, Ask};
 use cfdp_exchange::Watched;
+use cfdp_report::cause_text;
 use libc::net::POLLIN;
 use std::alloc::AllocError;
 use std::io::ErrorKind;
-use std::net::{SocketAddr, TcpListener, TcpStream, ToSocketAddrs};
-use std::os::fd::AsRawFd;
+use std::net::{SocketAddr, TcpListener, ToSocketAddrs};
 use std::time::Instant;
 use std::{fmt, io};
 
@@ -42,8 +43,20 @@ const GIVES_WAY: &str =
 pub enum ControlError {
     /// Others than this machine could reach it, and whoever reaches it commands the station.
     NotLoopback,
+    /// No Unix socket can be had at the path.
+    Socket(io::Error),
     /// Something stands against it, as that it is in use.
     System(io::Error),
+}
+
+impl ControlError {
+    /// Returns `true` if no address is written so: it is a mistake of whoever gave it.
+    pub fn is_mistake(&self) -> bool {
+        match self {
+            ControlError::NotLoopback | ControlError::Socket(_) => false,
+            ControlError::System(error) => is_malformed(error.kind()),
+        }
+    }
 }
 
 impl From<io::Error> for ControlError {
@@ -66,6 +79,7 @@ impl fmt::Display for ControlError {
                 "must be an address of this machine alone, 127.0.0.1 or [::1], since whoever \
                  reaches it commands the station",
             ),
+            ControlError::Socket(error) => f.write_str(cause_text(error.kind())),
             ControlError::System(error) => f.write_str(address_cause(error.kind())),
         }
     }
@@ -78,7 +92,7 @@ pub struct LineSources<'a> {
     rt: &'a HostRuntime,
     start: Option<Instant>,
     standard: Option<StandardInput>,
-    listener: Option<TcpListener>,
+    listener: Option<Listener>,
     connections: Vec<Connection>,
     door: Option<WebDoor<'a>>,
     // How many connections there were so far, and until when none is taken.
@@ -124,10 +138,10 @@ impl<'a> LineSources<'a> {
         })
     }
 
-    /// The control address, with its port; `None` where there is none.
+    /// The control address, with its port; `None` where there is none, or it is a Unix socket.
     pub fn control_address(&self) -> Option<SocketAddr> {
         match &self.listener {
-            Some(listener) => listener.local_addr().ok(),
+            Some(listener) => listener.tcp_address(),
             None => None,
         }
     }
@@ -253,7 +267,7 @@ impl<'a> LineSources<'a> {
         if let Some(listener) = &self.listener
             && self.hears(self.now())
         {
-            watched.watch(listener.as_raw_fd(), POLLIN);
+            watched.watch(listener.fd(), POLLIN);
         }
         for connection in self.connections.iter() {
             let (fd, events) = connection.watched();
@@ -312,7 +326,7 @@ impl<'a> LineSources<'a> {
             return;
         }
         match listener.accept() {
-            Ok((stream, _)) => self.takes_in(stream, now),
+            Ok(stream) => self.takes_in(stream, now),
             Err(error) => {
                 if !is_passing(error.kind()) {
                     self.deaf_until = now.saturating_add(AFTER_FAILURE);
@@ -323,11 +337,10 @@ impl<'a> LineSources<'a> {
 
     /// Has one more connection. Where eight may send lines already, the one of them that is idle
     /// the longest is told so, and closed; where none is idle for a second, the new one is.
-    fn takes_in(&mut self, stream: TcpStream, now: u64) {
-        if stream.set_nonblocking(true).is_err() {
+    fn takes_in(&mut self, stream: Stream, now: u64) {
+        if stream.never_waits().is_err() {
             return;
         }
-        let _ = stream.set_nodelay(true);
         self.numbered = self.numbered.saturating_add(1);
         let mut connection = Connection::new(self.rt.alloc(), self.numbered, stream, now);
         if self.open_count() >= MOST_OPEN && !self.closes_idle(now) {
@@ -409,8 +422,11 @@ pub(crate) fn is_passing(kind: ErrorKind) -> bool {
     )
 }
 
-/// What takes connections at an address of this machine alone.
-fn listener(rt: &HostRuntime, address: &str) -> Result<TcpListener, ControlError> {
+/// What takes connections at an address of this machine alone, or at a Unix socket.
+fn listener(rt: &HostRuntime, address: &str) -> Result<Listener, ControlError> {
+    if let Some(path) = socket_path(address) {
+        return unix_listener(rt, path).map_err(ControlError::Socket);
+    }
     let Some(address) = address.to_socket_addrs(rt)?.next() else {
         return Err(ControlError::System(io::Error::from(ErrorKind::AddrNotAvailable)));
     };
@@ -419,5 +435,5 @@ fn listener(rt: &HostRuntime, address: &str) -> Result<TcpListener, ControlError
     }
     let listener = TcpListener::bind(rt, address)?;
     listener.set_nonblocking(true)?;
-    Ok(listener)
+    Ok(Listener::Tcp(listener))
 }

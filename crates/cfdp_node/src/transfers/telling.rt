@@ -1,5 +1,6 @@
 //! Stores in folders that say on standard error why a call failed, and one who looks on at turns.
 use crate::transfers::fault::fault_text;
+use crate::transfers::teller::Teller;
 use cfdp_files::InboxFiles;
 use cfdp_header::TransactionId;
 use cfdp_port::{Lookout, Passed};
@@ -9,7 +10,6 @@ use cfdp_store::{FolderInbox, FolderOutbox, Inbox, NoInbox, Outbox, SeekingOutbo
 use cfdp_watch::{Onlooker, Progress, Reception};
 use station_pair::Side;
 use std::alloc::AllocError;
-use std::cell::Cell;
 
 /// One who looks on at the turns, and says how far the transfer is.
 #[derive(Drop)]
@@ -68,8 +68,7 @@ pub struct TellingInbox<'a> {
     rt: &'a HostRuntime,
     folder: &'a str,
     inbox: FolderInbox<InboxFiles<'a>>,
-    /// Whether it said so.
-    told: &'a Cell<bool>,
+    teller: Teller<'a>,
     progress: &'a Progress<'a>,
     reception: Reception<'a>,
 }
@@ -77,7 +76,7 @@ pub struct TellingInbox<'a> {
 impl<'a> TellingInbox<'a> {
     /// An inbox over this folder, which is there. Where it `replaces`, a file that comes takes the
     /// place of the one that has its name; else it is refused, and the other stays. One of more
-    /// than `most_size` octets is refused, unless that is 0. It sets `told` once it said so.
+    /// than `most_size` octets is refused, unless that is 0.
     ///
     /// # Errors
     ///
@@ -87,7 +86,7 @@ impl<'a> TellingInbox<'a> {
         folder: &'a str,
         replaces: bool,
         most_size: u64,
-        told: &'a Cell<bool>,
+        teller: Teller<'a>,
         progress: &'a Progress<'a>,
     ) -> Result<TellingInbox<'a>, AllocError> {
         let files = InboxFiles::new(rt, replaces, most_size);
@@ -95,7 +94,7 @@ impl<'a> TellingInbox<'a> {
             rt,
             folder,
             inbox: FolderInbox::new(files, rt.alloc(), folder)?,
-            told,
+            teller,
             progress,
             reception: Reception::new(rt.alloc(), progress),
         })
@@ -106,10 +105,13 @@ impl<'a> TellingInbox<'a> {
         if answer.is_err()
             && let Some(fault) = self.inbox.fault()
         {
-            self.begins_to_tell();
             let (folder, cause) = (self.folder, fault_text(fault));
             let TransactionId { source, number } = id;
-            let _ = eprintln!(self.rt; "error: {folder}: {cause} (transaction {source}:{number})");
+            let text = format!(in self.rt.alloc();
+                "{folder}: {cause} (transaction {source}:{number})"
+            );
+            self.progress.ends();
+            self.teller.fails("inbox", Some(id), text);
         }
     }
 
@@ -118,18 +120,14 @@ impl<'a> TellingInbox<'a> {
         if answer.is_err()
             && let Some(fault) = self.inbox.fault()
         {
-            self.begins_to_tell();
             let (folder, name, cause) = (self.folder, Name(name), fault_text(fault));
             let TransactionId { source, number } = id;
-            let _ = eprintln!(self.rt;
-                "error: {folder}/{name}: {cause} (transaction {source}:{number})"
+            let text = format!(in self.rt.alloc();
+                "{folder}/{name}: {cause} (transaction {source}:{number})"
             );
+            self.progress.ends();
+            self.teller.fails("inbox", Some(id), text);
         }
-    }
-
-    fn begins_to_tell(&self) {
-        self.told.set(true);
-        self.progress.ends();
     }
 }
 
@@ -179,35 +177,27 @@ impl<'a> Inbox for TellingInbox<'a> {
 pub struct TellingNoInbox<'a> {
     rt: &'a HostRuntime,
     inbox: NoInbox,
-    /// Whether something was said.
-    told: &'a Cell<bool>,
-    progress: &'a Progress<'a>,
+    teller: Teller<'a>,
 }
 
 impl<'a> TellingNoInbox<'a> {
-    /// It sets `told` once it said so.
-    pub fn new(
-        rt: &'a HostRuntime,
-        told: &'a Cell<bool>,
-        progress: &'a Progress<'a>,
-    ) -> TellingNoInbox<'a> {
+    /// One that says so by this teller.
+    pub fn new(rt: &'a HostRuntime, teller: Teller<'a>) -> TellingNoInbox<'a> {
         TellingNoInbox {
             rt,
             inbox: NoInbox::new(),
-            told,
-            progress,
+            teller,
         }
     }
 
     /// Says that a file came, where that wasn't said: the first one, of this transaction.
     fn tell(&self, id: TransactionId) {
         if self.inbox.failures() == 0 {
-            self.told.set(true);
-            self.progress.yields();
             let TransactionId { source, number } = id;
-            let _ = eprintln!(self.rt;
-                "error: a file arrived, but there is no --inbox (transaction {source}:{number})"
+            let text = format!(in self.rt.alloc();
+                "a file arrived, but there is no --inbox (transaction {source}:{number})"
             );
+            self.teller.fails("no-inbox", Some(id), text);
         }
     }
 }
@@ -251,36 +241,31 @@ pub struct TellingOutbox<'a> {
     rt: &'a HostRuntime,
     folder: &'a str,
     outbox: FolderOutbox<&'a HostRuntime>,
-    /// Whether it said so.
-    told: &'a Cell<bool>,
-    progress: &'a Progress<'a>,
+    teller: Teller<'a>,
 }
 
 impl<'a> TellingOutbox<'a> {
-    /// One over this outbox of this folder. It sets `told` once it said so.
+    /// One over this outbox of this folder, which says so by this teller.
     pub fn over(
         rt: &'a HostRuntime,
         folder: &'a str,
         outbox: FolderOutbox<&'a HostRuntime>,
-        told: &'a Cell<bool>,
-        progress: &'a Progress<'a>,
+        teller: Teller<'a>,
     ) -> TellingOutbox<'a> {
         TellingOutbox {
             rt,
             folder,
             outbox,
-            told,
-            progress,
+            teller,
         }
     }
 
     /// Says why the last call failed, which was of this file.
     fn tell(&self, name: &[u8]) {
         if let Some(fault) = self.outbox.fault() {
-            self.told.set(true);
-            self.progress.yields();
             let (folder, cause) = (self.folder, fault_text(fault));
-            let _ = eprintln!(self.rt; "error: {folder}/{}: {cause}", Name(name));
+            let text = format!(in self.rt.alloc(); "{folder}/{}: {cause}", Name(name));
+            self.teller.fails("outbox", None, text);
         }
     }
 }

@@ -1,0 +1,95 @@
+//! What an operator was told since the start, by topics.
+use cfdp_exchange::{Note, NoteKind};
+use std::alloc::{AllocError, Global};
+
+/// A note holds for so many seconds after it was told last. What goes on is told once a minute.
+const HOLDS: u64 = 90;
+
+/// What an operator was told last on a topic.
+#[derive(Drop)]
+pub struct Noted {
+    pub kind: NoteKind,
+    pub topic: &'static str,
+    /// What was told last.
+    pub text: String,
+    /// How often something was told on this topic, up to 2^64 - 1.
+    pub count: u64,
+    /// When that was last, in seconds since the start.
+    pub second: u64,
+}
+
+impl Noted {
+    /// Returns `true` if it was told so lately that it may still be so.
+    pub fn holds(&self, second: u64) -> bool {
+        second <= self.second.saturating_add(HOLDS)
+    }
+}
+
+/// What an operator was told since the start: the last note on each topic, and how many there were.
+#[derive(Drop)]
+pub struct NotedTopics {
+    alloc: Global,
+    topics: Vec<Noted>,
+    notes: u64,
+    errors: u64,
+}
+
+impl NotedTopics {
+    /// Returns the topics before the first note.
+    pub fn new(alloc: Global) -> NotedTopics {
+        NotedTopics {
+            alloc,
+            topics: Vec::new(alloc),
+            notes: 0,
+            errors: 0,
+        }
+    }
+
+    /// Returns the last note on each topic.
+    pub fn topics(&self) -> &[Noted] {
+        self.topics.as_slice()
+    }
+
+    /// Returns how many notes there were that are no errors.
+    pub fn notes(&self) -> u64 {
+        self.notes
+    }
+
+    /// Returns how many errors there were.
+    pub fn errors(&self) -> u64 {
+        self.errors
+    }
+
+    /// Counts a note that was told in this second since the start. If there is no memory for its
+    /// text, the topic keeps the text before.
+    pub fn counts(&mut self, note: &Note, second: u64) {
+        match note.kind {
+            NoteKind::Note => self.notes = self.notes.saturating_add(1),
+            NoteKind::Error => self.errors = self.errors.saturating_add(1),
+        }
+        for noted in self.topics.iter_mut() {
+            if noted.topic == note.topic && noted.kind == note.kind {
+                noted.count = noted.count.saturating_add(1);
+                noted.second = second;
+                if let Ok(text) = String::from_str(self.alloc, note.text.as_str()) {
+                    noted.text = text;
+                }
+                return;
+            }
+        }
+        if let Ok(noted) = first(self.alloc, note, second) {
+            let _ = self.topics.push(noted);
+        }
+    }
+}
+
+/// The first note on its topic.
+fn first(alloc: Global, note: &Note, second: u64) -> Result<Noted, AllocError> {
+    Ok(Noted {
+        kind: note.kind,
+        topic: note.topic,
+        text: String::from_str(alloc, note.text.as_str())?,
+        count: 1,
+        second,
+    })
+}
