@@ -194,6 +194,14 @@ def number_mistakes():
         yield f"the header has the answers {sorted(numbers)}, specs/Codes.antt has {sorted(wanted)}"
 
 
+def release_mistakes():
+    """Where the header belongs to another release than the crate for Rust."""
+    header = re.search(r'#define CFDP_RELEASE "(.*)"', text_of(f"{C}/cfdp.h"))[1]
+    crate = re.search(r'^version = "(.*)"', text_of(f"{RUST}/Cargo.toml"), re.M)[1]
+    if header != crate:
+        yield f"cfdp.h is of release {header}, the crate for Rust of {crate}"
+
+
 def name_mistakes(archive):
     """Where the archive defines other names, or wants others, than the header says."""
     if not shutil.which("nm"):
@@ -451,6 +459,7 @@ class Bindings:
         yield "the header, ffi.rs and the crate", declaration_mistakes()
         yield "const in the header", constancy_mistakes()
         yield "the numbers of the answers", number_mistakes()
+        yield "one release", release_mistakes()
         yield "the archive's names", name_mistakes(self.archive)
         yield "every export is called in C", uncalled_mistakes()
         yield from self.header_runs()

@@ -38,7 +38,10 @@ extern "C" {
 /* The number of this interface. It grows by one wherever a call, a struct or a number changes. */
 #define CFDP_VERSION 6
 
-/* That of the library that the program was linked with. */
+/* The release that this header belongs to (docs/EMBEDDING.md, "Versions"). */
+#define CFDP_RELEASE "1.0.0-rc.1"
+
+/* Returns the number of the interface of the library that the program is linked with. */
 uint32_t cfdp_version(void);
 
 /* What a call answers; cfdp_answer_text has it in words. */
