@@ -11,8 +11,8 @@ Compares cfdp.h and ffi.rs with the crate's sources, and the archive's names wit
 that docs/EMBEDDING.md shows with bindings/c/tests/guide.c; compiles the headers, the examples,
 calls.c and what stands in bindings/*/tests without warnings; runs them, also under AddressSanitizer
 and valgrind; looks at headers and examples by cppcheck's MISRA addon; and makes the pages of the
-crate for Rust. Where a machine hasn't one of the compilers or checkers, a line says so. The last
-line is 'N passed, M failed'.
+crate for Rust, runs their examples and clippy. Where a machine hasn't one of the compilers or
+checkers, a line says so. The last line is 'N passed, M failed'.
 """
 import os
 import re
@@ -29,6 +29,10 @@ SECONDS = 1200
 sys.path.insert(0, HERE)
 sys.dont_write_bytecode = True
 import stations
+
+# The edition of the wrapper in Rust, and the version of clippy that was answered: another one says
+# other things.
+EDITION, CLIPPY = "2021", "clippy 0.1.95"
 
 STRICT = ["-Wall", "-Wextra", "-Wpedantic", "-Werror", f"-I{C}"]
 C99 = ["cc", "-std=c99", "-O2", *STRICT]
@@ -142,7 +146,7 @@ def in_crate():
 def in_ffi():
     """The functions that ffi.rs declares, and its structs."""
     text = text_of(f"{RUST}/src/ffi.rs")
-    declared = re.search(r'unsafe extern "C" \{(.*?)\n\}', text, re.S)[1]
+    declared = re.search(r'\nextern "C" \{(.*?)\n\}', text, re.S)[1]
     functions = {}
     for name, words, result in re.findall(r"fn (\w+)\(([^)]*)\)(?: -> (\w+))?;", declared):
         functions[name] = (rust_words(re.sub(r"\s+", " ", words), False), result or "()")
@@ -502,7 +506,7 @@ class Bindings:
 
     def rust_program(self, source, made, *flags):
         """The commands that build a program in Rust, and where it then lies."""
-        rustc = ["rustc", "--edition", "2024", "-O", "-D", "warnings"]
+        rustc = ["rustc", "--edition", EDITION, "-O", "-D", "warnings"]
         library, made = f"{self.room}/libcfdp.rlib", f"{self.room}/{made}"
         folder = os.path.dirname(self.archive)
         wrapper = ["--crate-type", "rlib", "--crate-name", "cfdp", f"{RUST}/src/lib.rs"]
@@ -539,7 +543,7 @@ class Bindings:
             it.write("fn shared<T: Sync>() {}\nfn main() { shared::<cfdp::Station>() }\n")
         library, _ = self.rust_program("examples/transfer.rs", "shared_rs")[0]
         yield from run_mistakes(library)
-        words = ["rustc", "--edition", "2024", "--emit", "metadata", "--out-dir", self.room]
+        words = ["rustc", "--edition", EDITION, "--emit", "metadata", "--out-dir", self.room]
         words += ["--extern", f"cfdp={self.room}/libcfdp.rlib", source]
         said = [*run_mistakes(words)]
         if not said or "cannot be shared between threads" not in said[0]:
@@ -551,16 +555,27 @@ class Bindings:
         if not os.path.isdir(folder):
             shutil.copytree(RUST, folder, ignore=shutil.ignore_patterns("target", "Cargo.lock"))
         how = {**os.environ, **how}
-        yield from run_mistakes(["cargo", *words, "--offline"], cwd=folder, env=how)
+        words = ["cargo", words[0], "--offline", *words[1:]]
+        yield from run_mistakes(words, cwd=folder, env=how)
 
     def cargo_runs(self):
-        """The pages of the crate, and what its build says where the archive lacks."""
+        """The pages of the crate, their examples, what clippy says, and what its build says where
+        the archive lacks."""
         if not shutil.which("cargo"):
             print("no cargo: the pages of the crate aren't made")
             return
         where = {"CFDP_LIB": os.path.dirname(self.archive)}
         pages = self.cargo_mistakes(["doc", "--no-deps"], RUSTDOCFLAGS="-D warnings", **where)
         yield "cargo doc", pages
+        yield "the examples of the pages", self.cargo_mistakes(["test", "--doc"], **where)
+        words = ["cargo", "clippy", "--version"]
+        has = subprocess.run(words, capture_output=True, text=True, check=False)
+        if has.stdout.startswith(CLIPPY):
+            lints = ["--", "-W", "clippy::pedantic", "-D", "warnings"]
+            words = ["clippy", "--all-targets", *lints]
+            yield "clippy::pedantic", self.cargo_mistakes(words, **where)
+        else:
+            print(f"no {CLIPPY}: clippy doesn't look at the wrapper")
         said = [*self.cargo_mistakes(["check"], CFDP_LIB=f"{self.room}/nowhere")]
         told = ["make it by `.ci/archive`" in it for it in said]
         yield "a build without the archive", [] if told == [True] else [f"cargo says {said}"]
