@@ -7,10 +7,12 @@
     tests/bindings.py --after 'A passed, B failed'    counts these in the last line
     tests/bindings.py --figures             tells what the archive takes, no more
 
-Compares cfdp.h and ffi.rs with the crate's sources, and the archive's names with them; compiles the
-header, the examples, calls.c and what stands in bindings/*/tests without warnings; runs them, also
-under AddressSanitizer and valgrind; and makes the pages of the crate for Rust. Where a machine
-hasn't one of the compilers or checkers, a line says so. The last line is 'N passed, M failed'.
+Compares cfdp.h and ffi.rs with the crate's sources, and the archive's names with them, and the code
+that docs/EMBEDDING.md shows with bindings/c/tests/guide.c; compiles the headers, the examples,
+calls.c and what stands in bindings/*/tests without warnings; runs them, also under AddressSanitizer
+and valgrind; looks at headers and examples by cppcheck's MISRA addon; and makes the pages of the
+crate for Rust, runs their examples and clippy. Where a machine hasn't one of the compilers or
+checkers, a line says so. The last line is 'N passed, M failed'.
 """
 import os
 import re
@@ -27,6 +29,10 @@ SECONDS = 1200
 sys.path.insert(0, HERE)
 sys.dont_write_bytecode = True
 import stations
+
+# The edition of the wrapper in Rust, and the version of clippy that was answered: another one says
+# other things.
+EDITION, CLIPPY = "2021", "clippy 0.1.95"
 
 STRICT = ["-Wall", "-Wextra", "-Wpedantic", "-Werror", f"-I{C}"]
 C99 = ["cc", "-std=c99", "-O2", *STRICT]
@@ -69,7 +75,8 @@ def c_type(text, place):
     found = re.fullmatch(r"(const )?(\w+) ?(\*?) ?(\w*)", text.strip())
     is_const, name, is_pointer = found[1], found[2], found[3]
     if is_pointer and name == "void":
-        return "pointer"
+        # octets that a call only reads
+        return "&u8" if is_const else "pointer"
     # A handle is taken apart and put together by every call, so that Rust has to lend it whole;
     # for C it is const where the call leaves it as it was (`constancy_mistakes`).
     is_const = is_const and name != "cfdp_station"
@@ -139,7 +146,7 @@ def in_crate():
 def in_ffi():
     """The functions that ffi.rs declares, and its structs."""
     text = text_of(f"{RUST}/src/ffi.rs")
-    declared = re.search(r'unsafe extern "C" \{(.*?)\n\}', text, re.S)[1]
+    declared = re.search(r'\nextern "C" \{(.*?)\n\}', text, re.S)[1]
     functions = {}
     for name, words, result in re.findall(r"fn (\w+)\(([^)]*)\)(?: -> (\w+))?;", declared):
         functions[name] = (rust_words(re.sub(r"\s+", " ", words), False), result or "()")
@@ -184,14 +191,87 @@ def constancy_mistakes():
 def number_mistakes():
     """Where the header has other numbers than specs/Codes.antt."""
     header = text_of(f"{C}/cfdp.h")
-    answers = header.split("cfdp_link")[0]
-    numbers = {int(it) for it in re.findall(r"^    CFDP_\w+ = (\d+),", answers, re.M)}
+    answers = header.split("/* ---- The standard's codes")[0]
+    numbers = {int(it) for it in re.findall(r"^    CFDP_\w+ = (\d+)\b", answers, re.M)}
     spec = text_of(f"{CRATE}/specs/Codes.antt")
     wanted = {int(it) for it in re.findall(r"^\w[\w. ]* = (\d+)$", spec, re.M)}
     # those of the frames that are received
     wanted |= {int(it) + 4 for it in re.findall(r"^link_number \S+ = (\d+)$", spec, re.M)}
+    # those of PDUs, from 50 on; no PDU is refused for a large file
+    wanted |= {50}
+    for path in ("cfdp_header/specs/Header.antt", "cfdp_directives/specs/Pdu/Faults.antt"):
+        refusals = re.findall(r"^(?:pdu_)?refusal_number (\w+) = (\d+)$", of_crates(path), re.M)
+        wanted |= {50 + int(it) for name, it in refusals if name != "LargeFile"}
     if numbers != wanted:
         yield f"the header has the answers {sorted(numbers)}, specs/Codes.antt has {sorted(wanted)}"
+
+
+# the codes of the header, by what the specs say of them
+CODES = {
+    "CONDITION": "NO_ERROR no_error ACK_LIMIT positive_ack_limit FILESTORE filestore_rejection "
+    "CHECKSUM file_checksum_failure FILE_SIZE file_size_error NAK_LIMIT nak_limit "
+    "INACTIVITY inactivity CHECKSUM_TYPE unsupported_checksum_type SUSPENDED suspend_request "
+    "CANCELLED cancel_request",
+    "CHECKSUM": "MODULAR modular PROXIMITY_1 proximity CASTAGNOLI castagnoli IEEE ieee NULL null",
+    "DELIVERY": "COMPLETE Complete INCOMPLETE Incomplete",
+    "FILE": "DISCARDED Discarded REJECTED Rejected RETAINED Retained UNREPORTED Unreported",
+    "STATUS": "UNDEFINED Undefined ACTIVE Active TERMINATED Terminated "
+    "UNRECOGNIZED Unrecognized",
+    "PDU": "FILE_DATA FileData EOF Eof FINISHED Finished ACK Ack METADATA Metadata NAK Nak "
+    "PROMPT Prompt KEEP_ALIVE KeepAlive",
+    "HANDLER": "CANCEL Cancel SUSPEND Suspend IGNORE Ignore ABANDON Abandon",
+}
+
+
+def of_crates(path):
+    return text_of(f"{TOP}/crates/{path}")
+
+
+def numbers_of_specs(kind):
+    """The numbers that the specs give to the codes of a kind, by their names there."""
+    codes = of_crates("cfdp_directives/specs/Pdu/Codes.antt")
+    if kind == "PDU":
+        said = r"^said_by h \((\w+) [^)]*\) =[^(]*\(pdu_of_kind (\d+) h\)"
+        return re.findall(said, of_crates("cfdp_c/specs/Told.antt"), re.M)
+    if kind == "HANDLER":
+        text = of_crates("cfdp_c/specs/Config.antt")
+        names = re.findall(r"(?:then|else) does\.(\w+)", text)
+        return [(name, place) for place, name in enumerate(names)]
+    plain = {"CONDITION": r"(\w+)", "CHECKSUM": r"(\w+)", "DELIVERY": r"delivery_code (\w+)"}
+    plain |= {"FILE": r"file_status_code (\w+)", "STATUS": r"transaction_status_code (\w+)"}
+    return re.findall(rf"^{plain[kind]} = (\d+)$", codes, re.M)
+
+
+def code_mistakes():
+    """Where a code of the header has another number than the specs give it."""
+    header = text_of(f"{C}/cfdp.h")
+    for kind, words in CODES.items():
+        given = {name: int(number) for name, number in numbers_of_specs(kind)}
+        words = words.split()
+        for name, meant in zip(words[::2], words[1::2]):
+            found = re.search(rf"^    CFDP_{kind}_{name} = (\d+)\b", header, re.M)
+            if not found or int(found[1]) != given.get(meant):
+                yield f"CFDP_{kind}_{name} is {found and found[1]}, {meant} is {given.get(meant)}"
+
+
+def release_mistakes():
+    """Where the header belongs to another release than the crate for Rust."""
+    header = re.search(r'#define CFDP_RELEASE "(.*)"', text_of(f"{C}/cfdp.h"))[1]
+    crate = re.search(r'^version = "(.*)"', text_of(f"{RUST}/Cargo.toml"), re.M)[1]
+    if header != crate:
+        yield f"cfdp.h is of release {header}, the crate for Rust of {crate}"
+
+
+def guide_mistakes():
+    """Blocks of the guide that the test in C hasn't, line by line."""
+    program = re.sub(r"\s+", " ", text_of(f"{C}/tests/guide.c"))
+    blocks = re.findall(r"(?:^(?: {4}.*)?\n)+", text_of(f"{TOP}/docs/EMBEDDING.md"), re.M)
+    shown = [re.sub(r"\s+", " ", it).strip() for it in blocks if ";" in it]
+    if not shown:
+        yield "the guide shows no code"
+    for it in shown:
+        if it not in program:
+            yield f"bindings/c/tests/guide.c hasn't: {it}"
 
 
 def name_mistakes(archive):
@@ -205,8 +285,7 @@ def name_mistakes(archive):
     functions = {*in_header(0)[0]}
     if {it for it in defined if it.startswith("cfdp_")} != functions:
         yield f"the archive defines {sorted(defined ^ functions)} and the header doesn't, or not so"
-    allowed = {"rattle_alloc", "rattle_realloc", "rattle_dealloc"}
-    allowed |= {"rattle_errno", "rattle_set_errno"}
+    allowed = {*re.findall(r"\b(rattle_\w+)\(", plain(text_of(f"{C}/cfdp_hooks.h")))}
     allowed |= {"memcpy", "memmove", "memset", "memcmp", "bcmp"}
     # for stations with folders
     allowed |= {"open", "read", "write", "pread", "lseek", "ftruncate", "fsync", "fdatasync"}
@@ -227,6 +306,57 @@ def uncalled_mistakes():
     for name in in_header(0)[0]:
         if not re.search(rf"\b{name}\(", text):
             yield f"no test in C calls {name}"
+
+
+# ---- MISRA C:2012, as far as cppcheck's addon looks
+
+# The version that the list of exceptions was written with: another one finds others.
+CPPCHECK = "Cppcheck 2.10"
+
+
+def exceptions():
+    """The rules that a file may break, of bindings/c/misra.txt: each with the file."""
+    for line in text_of(f"{C}/misra.txt").splitlines():
+        head, _, reason = line.partition(": ")
+        if re.match(r"\d+\.\d+ ", line):
+            rule, *files = head.split()
+            yield from ((rule, it) for it in files if reason)
+
+
+def breaches(path):
+    """The rules that a file breaks, and those that the headers break which it includes."""
+    words = ["cppcheck", "--addon=misra", "--std=c99", "--language=c", "--quiet", f"-I{C}"]
+    words += ["--template={file}:{line}: {id}", path]
+    ran = subprocess.run(words, capture_output=True, text=True, timeout=SECONDS, check=False)
+    told = ran.stdout + ran.stderr
+    found = re.findall(r"^(\S+?):(\d+): misra-c2012-(\d+\.\d+)$", told, re.M)
+    other = [it for it in told.splitlines() if not re.search(r": misra-c2012-[\d.]+$", it)]
+    return {(rule, os.path.relpath(file, C)) for file, _, rule in found}, other
+
+
+def misra_mistakes():
+    """Rules that are broken without a reason, and reasons without a breach."""
+    found, files = set(), ["heap.c", "errno.c", "pool.c"]
+    files += [f"examples/{it}" for it in sorted(os.listdir(f"{C}/examples"))]
+    for it in files:
+        broken, other = breaches(f"{C}/{it}")
+        found |= broken
+        yield from other
+    allowed = {*exceptions()}
+    for rule, file in sorted(found - allowed):
+        yield f"{file} breaks rule {rule} of MISRA C:2012"
+    for rule, file in sorted(allowed - found):
+        yield f"misra.txt: {file} doesn't break rule {rule}"
+
+
+def misra_runs():
+    """The headers and the examples, looked at."""
+    words = ["cppcheck", "--version"]
+    has = shutil.which("cppcheck") and subprocess.run(words, capture_output=True, text=True)
+    if not has or has.stdout.strip() != CPPCHECK:
+        print(f"no {CPPCHECK}: nothing is looked at by its MISRA addon")
+        return
+    yield "MISRA C:2012, by cppcheck", misra_mistakes()
 
 
 # ---- compiling and running
@@ -317,6 +447,8 @@ class Bindings:
         example = [f"{C}/examples/transfer.c", f"{C}/heap.c"]
         forgetting = [f"{C}/tests/forgetting.c"]
         pool = [f"{C}/tests/in_a_pool.c", f"{C}/pool.c"]
+        pools = [f"{C}/tests/pools.c", f"{C}/pool.c"]
+        guide = [f"{C}/tests/guide.c", f"{C}/pool.c"]
         folders = [f"{C}/tests/folders.c", f"{C}/heap.c"]
         securing = [f"{C}/tests/securing.c", f"{C}/heap.c"]
         for name, flags, front in checkers(self.room):
@@ -328,9 +460,13 @@ class Bindings:
             yield f"forgetting.c{name}", self.c_mistakes(C99, forgetting, flags, front, rounds)
             puts = ["200"] if front else []
             yield f"in_a_pool.c{name}", self.c_mistakes(C99, pool, flags, front, puts)
+            alone = ["-DCFDP_POOL=16", *flags]
+            yield f"pools.c{name}", self.c_mistakes(C99, pools, alone, front, [])
             words = [self.empty_folder()]
             yield f"folders.c{name}", self.c_mistakes(C99, folders, flags, front, words)
             yield f"securing.c{name}", self.c_mistakes(C99, securing, flags, front, [])
+            words = [self.empty_folder()]
+            yield f"guide.c{name}", self.c_mistakes(C99, guide, flags, front, words)
         yield "the example folders.c", self.folders_mistakes()
         yield "folders.c in a pool", self.pool_mistakes()
         stack = [f"{C}/tests/stack.c", f"{C}/heap.c"]
@@ -343,18 +479,34 @@ class Bindings:
             yield "securing.c as C++", self.c_mistakes(CPP, securing, [], [], [])
             yield "forgetting.c as C++", self.c_mistakes(CPP, forgetting, [], [], [])
             yield "in_a_pool.c as C++", self.c_mistakes(CPP, pool, [], [], ["200"])
+            yield "pools.c as C++", self.c_mistakes(CPP, pools, ["-DCFDP_POOL=16"], [], [])
         else:
             print("no c++: nothing is compiled as C++")
 
     def header_runs(self):
-        """The header alone, by both languages."""
+        """The headers alone, by both languages, and the one without texts."""
         for what, words in (("C99", [*C99, "-x", "c"]), ("C++17", [*CPP, "-x", "c++"])):
             if shutil.which(words[0]):
-                yield f"cfdp.h as {what}", run_mistakes([*words, "-fsyntax-only", f"{C}/cfdp.h"])
+                for name in ("cfdp.h", "cfdp_hooks.h", "pool.h"):
+                    checks = [*words, "-fsyntax-only", f"{C}/{name}"]
+                    yield f"{name} as {what}", run_mistakes(checks)
+        if shutil.which("cc"):
+            yield "cfdp.h without texts", self.textless_mistakes()
+
+    def textless_mistakes(self):
+        """What is wrong where the header's texts are left out: a program can't have them."""
+        source, made = f"{self.room}/textless.c", f"{self.room}/textless.o"
+        with open(source, "w", encoding="utf-8") as it:
+            it.write('#include "cfdp.h"\n#ifdef ASKS\n#define ASK cfdp_answer_text(0) != NULL\n')
+            it.write("#else\n#define ASK 1\n#endif\nint it(void)\n{\n    return ASK;\n}\n")
+        words = [*C99, "-c", source, "-o", made]
+        yield from run_mistakes(words, [*words, "-DCFDP_NO_TEXT"], [*words, "-DASKS"])
+        if not [*run_mistakes([*words, "-DCFDP_NO_TEXT", "-DASKS"])]:
+            yield "there are texts where CFDP_NO_TEXT is defined"
 
     def rust_program(self, source, made, *flags):
         """The commands that build a program in Rust, and where it then lies."""
-        rustc = ["rustc", "--edition", "2024", "-O", "-D", "warnings"]
+        rustc = ["rustc", "--edition", EDITION, "-O", "-D", "warnings"]
         library, made = f"{self.room}/libcfdp.rlib", f"{self.room}/{made}"
         folder = os.path.dirname(self.archive)
         wrapper = ["--crate-type", "rlib", "--crate-name", "cfdp", f"{RUST}/src/lib.rs"]
@@ -391,7 +543,7 @@ class Bindings:
             it.write("fn shared<T: Sync>() {}\nfn main() { shared::<cfdp::Station>() }\n")
         library, _ = self.rust_program("examples/transfer.rs", "shared_rs")[0]
         yield from run_mistakes(library)
-        words = ["rustc", "--edition", "2024", "--emit", "metadata", "--out-dir", self.room]
+        words = ["rustc", "--edition", EDITION, "--emit", "metadata", "--out-dir", self.room]
         words += ["--extern", f"cfdp={self.room}/libcfdp.rlib", source]
         said = [*run_mistakes(words)]
         if not said or "cannot be shared between threads" not in said[0]:
@@ -403,16 +555,27 @@ class Bindings:
         if not os.path.isdir(folder):
             shutil.copytree(RUST, folder, ignore=shutil.ignore_patterns("target", "Cargo.lock"))
         how = {**os.environ, **how}
-        yield from run_mistakes(["cargo", *words, "--offline"], cwd=folder, env=how)
+        words = ["cargo", words[0], "--offline", *words[1:]]
+        yield from run_mistakes(words, cwd=folder, env=how)
 
     def cargo_runs(self):
-        """The pages of the crate, and what its build says where the archive lacks."""
+        """The pages of the crate, their examples, what clippy says, and what its build says where
+        the archive lacks."""
         if not shutil.which("cargo"):
             print("no cargo: the pages of the crate aren't made")
             return
         where = {"CFDP_LIB": os.path.dirname(self.archive)}
         pages = self.cargo_mistakes(["doc", "--no-deps"], RUSTDOCFLAGS="-D warnings", **where)
         yield "cargo doc", pages
+        yield "the examples of the pages", self.cargo_mistakes(["test", "--doc"], **where)
+        words = ["cargo", "clippy", "--version"]
+        has = subprocess.run(words, capture_output=True, text=True, check=False)
+        if has.stdout.startswith(CLIPPY):
+            lints = ["--", "-W", "clippy::pedantic", "-D", "warnings"]
+            words = ["clippy", "--all-targets", *lints]
+            yield "clippy::pedantic", self.cargo_mistakes(words, **where)
+        else:
+            print(f"no {CLIPPY}: clippy doesn't look at the wrapper")
         said = [*self.cargo_mistakes(["check"], CFDP_LIB=f"{self.room}/nowhere")]
         told = ["make it by `.ci/archive`" in it for it in said]
         yield "a build without the archive", [] if told == [True] else [f"cargo says {said}"]
@@ -451,6 +614,10 @@ class Bindings:
         yield "the header, ffi.rs and the crate", declaration_mistakes()
         yield "const in the header", constancy_mistakes()
         yield "the numbers of the answers", number_mistakes()
+        yield "the standard's codes", code_mistakes()
+        yield "one release", release_mistakes()
+        yield "the guide's code", guide_mistakes()
+        yield from misra_runs()
         yield "the archive's names", name_mistakes(self.archive)
         yield "every export is called in C", uncalled_mistakes()
         yield from self.header_runs()

@@ -3,6 +3,7 @@
  * ends with the number of mistakes.
  * tests/bindings.py builds and runs it. */
 #include "cfdp.h"
+#include "cfdp_hooks.h"
 
 #include <stdio.h>
 #include <stdlib.h>
@@ -10,21 +11,12 @@
 
 /* ---- memory, of which the Nth growth is refused */
 
-typedef struct block {
-    bool is_there;
-    void *at;
-} block;
-
-block rattle_alloc(size_t size, size_t align);
-block rattle_realloc(void *at, size_t old_size, size_t size, size_t align);
-void rattle_dealloc(void *at);
-
 static long live, asked, refused_at;
 static char nothing;
 
-static block block_at(void *at)
+static rattle_block block_at(void *at)
 {
-    block it;
+    rattle_block it;
     it.is_there = at != NULL;
     it.at = at != NULL ? at : &nothing;
     return it;
@@ -35,14 +27,14 @@ static bool is_refused(void)
     return ++asked == refused_at;
 }
 
-block rattle_alloc(size_t size, size_t align)
+rattle_block rattle_alloc(size_t size, size_t align)
 {
     void *at = is_refused() || align > 16 ? NULL : malloc(size != 0 ? size : 1);
     live += at != NULL;
     return block_at(at);
 }
 
-block rattle_realloc(void *at, size_t old_size, size_t size, size_t align)
+rattle_block rattle_realloc(void *at, size_t old_size, size_t size, size_t align)
 {
     (void)old_size;
     return block_at(is_refused() || align > 16 ? NULL : realloc(at, size != 0 ? size : 1));
@@ -592,7 +584,8 @@ static void put_into_words(void)
                    && strcmp(cfdp_answer_text(two), cfdp_answer_text(255)) == 0);
     for (one = CFDP_BAD_SIZE; one <= CFDP_BAD_RECEIVES_ERROR_CONTROL; one++)
         IS(strcmp(cfdp_answer_text(one), cfdp_answer_text(255)) != 0, 1);
-    IS(strcmp(cfdp_answer_text(CFDP_BAD_PDU + 1), cfdp_answer_text(255)) != 0, 1);
+    for (one = CFDP_DECODE_SHORT; one <= CFDP_DECODE_CONDITION; one++)
+        IS(strcmp(cfdp_answer_text(one), cfdp_answer_text(255)) != 0, one != CFDP_BAD_PDU + 6);
 }
 
 /* Each cause has words of its own and the count of its field, and another number has neither. */
@@ -852,9 +845,23 @@ static void decodes(void)
     IS(it.kind, 0);
     IS(it.data_len, 1);
     IS(it.crc, 1);
-    decoded("3200071300010000000100020000000068D4A0", CFDP_BAD_PDU + 3);
-    it = decoded("2000", CFDP_BAD_PDU + 1);
-    IS(it.kind, 0);
+    decoded("3200071300010000000100020000000068D4A0", CFDP_DECODE_CRC);
+    it = decoded("2000", CFDP_DECODE_SHORT);
+    IS(it.kind, CFDP_PDU_FILE_DATA);
+}
+
+/* A PDU for each refusal. */
+static void refused_pdus(void)
+{
+    decoded("0000021300010000000100020980", CFDP_DECODE_VERSION);
+    decoded("200002130001000000010002098000", CFDP_DECODE_LENGTH);
+    decoded("2400021300010000000100020980", CFDP_DECODE_UNACKNOWLEDGED);
+    decoded("2000021300010000000100020380", CFDP_DECODE_DIRECTIVE);
+    decoded("20000113000100000001000209", CFDP_DECODE_TRUNCATED);
+    decoded("200003130001000000010002098000", CFDP_DECODE_TRAILING);
+    decoded("28000413000100000001000205020605", CFDP_DECODE_TLV);
+    decoded("20000A13000100000001000204C00000000000000000", CFDP_DECODE_CONDITION);
+    IS(CFDP_DECODE_CRC, CFDP_BAD_PDU + 3);
 }
 
 /* ---- frames with all fields, and PDUs with a CRC */
@@ -1194,6 +1201,7 @@ int main(void)
     filled();
     strayed();
     decodes();
+    refused_pdus();
     guarded(2);
     guarded(3);
     guarded_alone();

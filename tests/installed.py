@@ -23,7 +23,8 @@ TOP = os.path.dirname(HERE)
 SECONDS = 1200
 
 WANTED = """
-bin/cfdp_node include/cfdp.h lib/libcfdp_c.a lib/libcfdp_heap.a lib/pkgconfig/cfdp.pc
+bin/cfdp_node include/cfdp.h include/cfdp_hooks.h lib/libcfdp_c.a lib/libcfdp_heap.a
+lib/pkgconfig/cfdp.pc
 lib/systemd/system/cfdp-station-watch@.service lib/systemd/system/cfdp-station-watch@.timer
 lib/systemd/system/cfdp-station@.service share/cfdp/errno.c share/cfdp/folders.c
 share/cfdp/cfdp-alerts.yml share/cfdp/cfdp-dashboard.json share/cfdp/cfdp-run

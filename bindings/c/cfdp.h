@@ -15,9 +15,9 @@
  * 3. One call at a time on a handle. Another thread may go on with it, ordered behind the one
  *    before by a lock, or by a start or a join of a thread. Calls on different handles may run side
  *    by side, if malloc may. No call from a signal handler.
- * 4. The program links malloc, realloc and free by rattle_alloc, rattle_realloc and rattle_dealloc,
- *    and errno by rattle_errno and rattle_set_errno (docs/EMBEDDING.md), and has 32 KiB of stack
- *    for a call; 64 KiB for one on a handle with folders.
+ * 4. The program defines the functions of cfdp_hooks.h, by heap.c and errno.c or others
+ *    (docs/EMBEDDING.md), and has 32 KiB of stack for a call; 64 KiB for one on a handle with
+ *    folders.
  *
  * There is nothing else to keep to: every value of every number is answered, every frame and every
  * PDU is taken, and a call on a closed handle answers CFDP_CLOSED. Where the answer isn't CFDP_OK,
@@ -29,7 +29,6 @@
 #include <stdbool.h>
 #include <stddef.h>
 #include <stdint.h>
-#include <string.h>
 
 #ifdef __cplusplus
 extern "C" {
@@ -38,7 +37,10 @@ extern "C" {
 /* The number of this interface. It grows by one wherever a call, a struct or a number changes. */
 #define CFDP_VERSION 6
 
-/* That of the library that the program was linked with. */
+/* The release that this header belongs to (docs/EMBEDDING.md, "Versions"). */
+#define CFDP_RELEASE "0.1.0"
+
+/* Returns the number of the interface of the library that the program is linked with. */
 uint32_t cfdp_version(void);
 
 /* What a call answers; cfdp_answer_text has it in words. */
@@ -121,9 +123,94 @@ enum {
     CFDP_NOT_AUTHENTIC = 104, /* its MAC isn't right under the key */
     CFDP_REPLAYED = 105,      /* its sequence number isn't greater than the last one */
 
-    /* cfdp_decode: 50 and the number of the refusal (docs/FORMATS.md), 51 to 61 but 56 */
-    CFDP_BAD_PDU = 50
+    /* cfdp_decode: the first thing that is wrong with a PDU: CFDP_BAD_PDU and the number of the
+     * refusal in docs/FORMATS.md */
+    CFDP_BAD_PDU = 50,
+    CFDP_DECODE_SHORT = 51,          /* it has fewer octets than its header */
+    CFDP_DECODE_VERSION = 52,        /* the version in its header isn't 1 */
+    CFDP_DECODE_CRC = 53,            /* its CRC is wrong */
+    CFDP_DECODE_LENGTH = 54,         /* the length in its header isn't the length of its data */
+    CFDP_DECODE_UNACKNOWLEDGED = 55, /* it has unacknowledged mode (class 1) */
+    CFDP_DECODE_DIRECTIVE = 57,      /* its directive code is unknown */
+    CFDP_DECODE_TRUNCATED = 58,      /* a field runs past the end of its data */
+    CFDP_DECODE_TRAILING = 59,       /* octets follow its last field */
+    CFDP_DECODE_TLV = 60,            /* a TLV option is incomplete */
+    CFDP_DECODE_CONDITION = 61       /* its condition code is 12 or 13 */
 };
+
+/* ---- The standard's codes (CCSDS 727.0-B-5), as the structs below have them. */
+
+/* Condition codes: of an indication (condition), and of an EOF, a Finished or an ACK. */
+enum {
+    CFDP_CONDITION_NO_ERROR = 0,
+    CFDP_CONDITION_ACK_LIMIT = 1,         /* a positive ACK limit was reached */
+    CFDP_CONDITION_KEEP_ALIVE_LIMIT = 2,  /* read from a peer alone */
+    CFDP_CONDITION_TRANSMISSION_MODE = 3, /* read from a peer alone */
+    CFDP_CONDITION_FILESTORE = 4,         /* a filestore rejected something */
+    CFDP_CONDITION_CHECKSUM = 5,          /* the checksum of the file differs */
+    CFDP_CONDITION_FILE_SIZE = 6,         /* the size of the file differs */
+    CFDP_CONDITION_NAK_LIMIT = 7,         /* a NAK limit was reached */
+    CFDP_CONDITION_INACTIVITY = 8,        /* nothing was received for too long */
+    CFDP_CONDITION_CHECK_LIMIT = 10,      /* read from a peer alone */
+    CFDP_CONDITION_CHECKSUM_TYPE = 11,    /* the checksum type isn't supported */
+    CFDP_CONDITION_SUSPENDED = 14,        /* a user suspended the transaction */
+    CFDP_CONDITION_CANCELLED = 15         /* a user cancelled the transaction */
+};
+
+/* Delivery codes: of CFDP_FINISHED (delivery), and of a Finished. */
+enum {
+    CFDP_DELIVERY_COMPLETE = 0,
+    CFDP_DELIVERY_INCOMPLETE = 1
+};
+
+/* File status: of CFDP_FINISHED (status), and of a Finished. */
+enum {
+    CFDP_FILE_DISCARDED = 0, /* the receiver discarded it */
+    CFDP_FILE_REJECTED = 1,  /* the receiver's filestore rejected it */
+    CFDP_FILE_RETAINED = 2,  /* it is published */
+    CFDP_FILE_UNREPORTED = 3
+};
+
+/* Fault handlers: of cfdp_config (on_ack_limit, on_nak_limit, on_inactivity). */
+enum {
+    CFDP_HANDLER_CANCEL = 0,
+    CFDP_HANDLER_SUSPEND = 1,
+    CFDP_HANDLER_IGNORE = 2,
+    CFDP_HANDLER_ABANDON = 3
+};
+
+/* Checksum types: of cfdp_config (checksum), and of Metadata. */
+enum {
+    CFDP_CHECKSUM_MODULAR = 0,
+    CFDP_CHECKSUM_PROXIMITY_1 = 1, /* CRC-32 of Proximity-1 */
+    CFDP_CHECKSUM_CASTAGNOLI = 2,  /* CRC-32C */
+    CFDP_CHECKSUM_IEEE = 3,        /* CRC-32 of IEEE 802.3 */
+    CFDP_CHECKSUM_NULL = 15        /* none: the checksum is 0, and nobody compares it */
+};
+
+/* Kinds of PDUs: of cfdp_pdu (kind, acknowledged). Those of directives are their codes. */
+enum {
+    CFDP_PDU_FILE_DATA = 0,
+    CFDP_PDU_EOF = 4,
+    CFDP_PDU_FINISHED = 5,
+    CFDP_PDU_ACK = 6,
+    CFDP_PDU_METADATA = 7,
+    CFDP_PDU_NAK = 8,
+    CFDP_PDU_PROMPT = 9,
+    CFDP_PDU_KEEP_ALIVE = 12
+};
+
+/* Transaction status: of an ACK (status). */
+enum {
+    CFDP_STATUS_UNDEFINED = 0,
+    CFDP_STATUS_ACTIVE = 1,
+    CFDP_STATUS_TERMINATED = 2,
+    CFDP_STATUS_UNRECOGNIZED = 3
+};
+
+/* The lanes of a direction, a virtual channel each: of cfdp_control_field. */
+#define CFDP_LANE_DIRECTIVES false
+#define CFDP_LANE_FILE_DATA true
 
 /* ---- How a station is set up. */
 
@@ -160,11 +247,11 @@ typedef struct cfdp_config {
     uint16_t segment;         /* most octets of a file in a PDU, 1 to 4096 */
     uint8_t id_width;         /* octets of an entity id, 1 to 8 */
     uint8_t number_width;     /* octets of a sequence number, 1 to 8 */
-    uint8_t checksum;         /* 0 modular; CRC-32: 1 Proximity-1, 2 Castagnoli, 3 IEEE; 15 null */
+    uint8_t checksum;         /* a checksum type: CFDP_CHECKSUM_MODULAR and others */
     uint8_t eof_limit;        /* how often an EOF is sent again */
     uint8_t nak_limit;        /* .. a NAK */
     uint8_t finished_limit;   /* .. a Finished */
-    uint8_t on_ack_limit;     /* then: 0 cancel, 1 suspend, 2 ignore, 3 abandon */
+    uint8_t on_ack_limit;     /* then: a handler, CFDP_HANDLER_CANCEL and others */
     uint8_t on_nak_limit;
     uint8_t on_inactivity;
 } cfdp_config;
@@ -210,7 +297,7 @@ cfdp_answer cfdp_open(cfdp_station *station, const cfdp_config *config);
  * inbox as long as the handle is open. CFDP_OK, CFDP_ALREADY_OPEN, 70 to 99 as cfdp_open,
  * CFDP_NO_OUTBOX, CFDP_NO_INBOX, CFDP_INBOX_IN_USE or CFDP_NO_MEMORY. */
 cfdp_answer cfdp_open_folders(cfdp_station *station, const cfdp_config *config,
-                              const uint8_t *outbox, size_t outbox_len, const uint8_t *inbox,
+                              const void *outbox, size_t outbox_len, const void *inbox,
                               size_t inbox_len);
 
 /* Gives back all memory of the station. The handle is closed then; a closed one stays so. */
@@ -226,14 +313,14 @@ typedef struct cfdp_id {
 
 /* Copies a file into the outbox, under a name that it has no file of. It stays there until the
  * station is closed. CFDP_OK, CFDP_CLOSED, CFDP_IN_FOLDERS, CFDP_NAME_TAKEN or CFDP_NO_MEMORY. */
-cfdp_answer cfdp_add(cfdp_station *station, const uint8_t *name, size_t name_len,
-                     const uint8_t *octets, size_t octets_len);
+cfdp_answer cfdp_add(cfdp_station *station, const void *name, size_t name_len,
+                     const void *octets, size_t octets_len);
 
 /* Sends a file of the outbox, which the peer publishes under the name destination; *id is the
  * transaction. In a folder the file is looked for first. CFDP_OK, CFDP_CLOSED, 21 to 26 or
  * CFDP_NO_MEMORY; but for CFDP_OK no number is used. */
-cfdp_answer cfdp_put(cfdp_station *station, const uint8_t *source, size_t source_len,
-                     const uint8_t *destination, size_t destination_len, cfdp_id *id);
+cfdp_answer cfdp_put(cfdp_station *station, const void *source, size_t source_len,
+                     const void *destination, size_t destination_len, cfdp_id *id);
 
 /* Gives a transaction up, and tells the peer. CFDP_OK, CFDP_CLOSED, 31 to 34 or CFDP_NO_MEMORY;
  * but for CFDP_OK nothing has changed. So the three below. */
@@ -329,10 +416,10 @@ cfdp_answer cfdp_set_control_field(cfdp_station *station, uint32_t control);
 
 /* Takes a frame of either lane, of any length and with any octets. What can't be used of it is
  * dropped and counted. CFDP_OK or CFDP_CLOSED. */
-cfdp_answer cfdp_receive(cfdp_station *station, const uint8_t *frame, size_t len);
+cfdp_answer cfdp_receive(cfdp_station *station, const void *frame, size_t len);
 
 /* Tells what the operational control field says of the last frame that came and was one of a lane:
- * of that of file data where true, else of that of directives. A damaged frame is one of neither.
+ * CFDP_LANE_FILE_DATA or CFDP_LANE_DIRECTIVES. A damaged frame is one of neither.
  * CFDP_OK, CFDP_CLOSED, or CFDP_NOTHING where none came, or the frames that it receives have no
  * such field. */
 cfdp_answer cfdp_control_field(const cfdp_station *station, bool file_data, uint32_t *control);
@@ -403,47 +490,81 @@ static inline uint64_t cfdp_dropped(const cfdp_counts *counts, size_t drop)
 {
     uint64_t count = 0;
 
-    if (drop < CFDP_DROPS)
-        memcpy(&count, (const uint8_t *)&counts->frames + drop * sizeof count, sizeof count);
+    switch (drop) {
+    case 0: count = counts->frames.bad_length; break;
+    case 1: count = counts->frames.bad_version; break;
+    case 2: count = counts->frames.other_profile; break;
+    case 3: count = counts->frames.other_spacecraft; break;
+    case 4: count = counts->frames.other_channel; break;
+    case 5: count = counts->frames.only_idle; break;
+    case 6: count = counts->frames.resync; break;
+    case 7: count = counts->frames.bad_packet; break;
+    case 8: count = counts->frames.other_apid; break;
+    case 9: count = counts->frames.segmented; break;
+    case 10: count = counts->frames.no_memory; break;
+    case 11: count = counts->frames.damaged; break;
+    case 12: count = counts->pdus.too_short; break;
+    case 13: count = counts->pdus.bad_version; break;
+    case 14: count = counts->pdus.bad_crc; break;
+    case 15: count = counts->pdus.bad_length; break;
+    case 16: count = counts->pdus.unacknowledged; break;
+    case 17: count = counts->pdus.bad_directive; break;
+    case 18: count = counts->pdus.truncated; break;
+    case 19: count = counts->pdus.trailing; break;
+    case 20: count = counts->pdus.bad_tlv; break;
+    case 21: count = counts->pdus.bad_condition; break;
+    case 22: count = counts->pdus.wrong_direction; break;
+    case 23: count = counts->pdus.not_for_us; break;
+    case 24: count = counts->pdus.unknown; break;
+    case 25: count = counts->pdus.table_full; break;
+    case 26: count = counts->pdus.no_memory; break;
+    case 27: count = counts->pdus.no_file; break;
+    default: break;
+    }
     return count;
 }
 
-/* What one of them says, as a text that stays. */
+#ifndef CFDP_NO_TEXT
+/* What one of them says, as a text that stays. Where CFDP_NO_TEXT is defined before this header,
+ * no texts are part of the program: neither these nor those of cfdp_answer_text. */
 static inline const char *cfdp_drop_text(size_t drop)
 {
-    static const char *const texts[] = {
-        "wrong frame length",
-        "transfer frame version number must be 01",
-        "the replay flag or a reserved bit of the frame header is set",
-        "the frame has another spacecraft id",
-        "the frame is on another virtual channel",
-        "the frame holds only idle data",
-        "an incomplete packet was discarded",
-        "packet version number must be 0",
-        "the packet has another APID",
-        "the packet is a segment or has a secondary header",
-        "out of memory for the packets of a frame",
-        "the frame was damaged on the way",
-        "the PDU is shorter than its header",
-        "PDU version must be 1",
-        "the CRC of the PDU is wrong",
-        "the length in the PDU header is not the length of the data field",
-        "the PDU has unacknowledged mode (class 1)",
-        "unknown directive code",
-        "a field runs past the end of the data field",
-        "extra octets after the last field",
-        "a TLV option is incomplete",
-        "condition code must not be 12 or 13",
-        "the direction bit is wrong for this PDU",
-        "the PDU is not for this entity, or not from its peer",
-        "unknown transaction",
-        "the transaction table is full",
-        "out of memory for the PDU",
-        "a file name is empty",
-    };
+    const char *text = "unknown cause";
 
-    return drop < sizeof texts / sizeof texts[0] ? texts[drop] : "unknown cause";
+    switch (drop) {
+    case 0: text = "wrong frame length"; break;
+    case 1: text = "transfer frame version number must be 01"; break;
+    case 2: text = "the replay flag or a reserved bit of the frame header is set"; break;
+    case 3: text = "the frame has another spacecraft id"; break;
+    case 4: text = "the frame is on another virtual channel"; break;
+    case 5: text = "the frame holds only idle data"; break;
+    case 6: text = "an incomplete packet was discarded"; break;
+    case 7: text = "packet version number must be 0"; break;
+    case 8: text = "the packet has another APID"; break;
+    case 9: text = "the packet is a segment or has a secondary header"; break;
+    case 10: text = "out of memory for the packets of a frame"; break;
+    case 11: text = "the frame was damaged on the way"; break;
+    case 12: text = "the PDU is shorter than its header"; break;
+    case 13: text = "PDU version must be 1"; break;
+    case 14: text = "the CRC of the PDU is wrong"; break;
+    case 15: text = "the length in the PDU header is not the length of the data field"; break;
+    case 16: text = "the PDU has unacknowledged mode (class 1)"; break;
+    case 17: text = "unknown directive code"; break;
+    case 18: text = "a field runs past the end of the data field"; break;
+    case 19: text = "extra octets after the last field"; break;
+    case 20: text = "a TLV option is incomplete"; break;
+    case 21: text = "condition code must not be 12 or 13"; break;
+    case 22: text = "the direction bit is wrong for this PDU"; break;
+    case 23: text = "the PDU is not for this entity, or not from its peer"; break;
+    case 24: text = "unknown transaction"; break;
+    case 25: text = "the transaction table is full"; break;
+    case 26: text = "out of memory for the PDU"; break;
+    case 27: text = "a file name is empty"; break;
+    default: break;
+    }
+    return text;
 }
+#endif
 
 /* ---- Time, in any unit, from any start. */
 
@@ -476,9 +597,9 @@ typedef struct cfdp_indication {
     size_t source_len;      /* kind 3: octets of the name at the sender */
     size_t destination_len; /* kind 3: octets of the name at the receiver */
     uint8_t kind;
-    uint8_t condition;      /* kinds 5, 6, 8, 9: a condition code, 0 where all went well */
-    uint8_t delivery;       /* kind 5: 0 complete, 1 incomplete */
-    uint8_t status;         /* kind 5: 0 discarded, 1 rejected, 2 retained, 3 unreported */
+    uint8_t condition;      /* kinds 5, 6, 8, 9: CFDP_CONDITION_NO_ERROR and others */
+    uint8_t delivery;       /* kind 5: CFDP_DELIVERY_COMPLETE or .._INCOMPLETE */
+    uint8_t status;         /* kind 5: the status of the file, CFDP_FILE_RETAINED and others */
 } cfdp_indication;
 
 /* Octets that suffice for the names of every indication, and for the name of every file. */
@@ -517,7 +638,7 @@ cfdp_answer cfdp_read_file(const cfdp_station *station, size_t place, size_t off
 /* Removes the file of a name; the places of those behind it are one less then. Nothing else
  * changes, and a file that comes later under that name is published as ever. It needs no memory.
  * CFDP_OK, CFDP_CLOSED, CFDP_IN_FOLDERS, or CFDP_NOTHING where there is no file of that name. */
-cfdp_answer cfdp_remove_file(cfdp_station *station, const uint8_t *name, size_t name_len);
+cfdp_answer cfdp_remove_file(cfdp_station *station, const void *name, size_t name_len);
 
 /* ---- One PDU. */
 
@@ -529,21 +650,20 @@ typedef struct cfdp_pdu {
     size_t data_len;       /* octets of file data: the last ones of the PDU, but for its CRC */
     size_t pairs;          /* ranges that a NAK asks for */
     uint32_t checksum;     /* of an EOF */
-    uint8_t kind;          /* 0 file data, 4 EOF, 5 Finished, 6 ACK, 7 Metadata, 8 NAK, 9 Prompt,
-                              12 Keep Alive */
+    uint8_t kind;          /* CFDP_PDU_FILE_DATA and others */
     uint8_t toward_sender; /* 1 where it goes toward the file's sender */
     uint8_t condition;     /* of an EOF, a Finished or an ACK */
     uint8_t delivery;      /* of a Finished */
-    uint8_t status;        /* of the file (Finished) or the transaction (ACK) */
-    uint8_t acknowledged;  /* of an ACK: 4 an EOF, 5 a Finished */
-    uint8_t checksum_kind; /* of Metadata */
+    uint8_t status;        /* of the file (a Finished), or of the transaction (an ACK) */
+    uint8_t acknowledged;  /* of an ACK: CFDP_PDU_EOF or CFDP_PDU_FINISHED */
+    uint8_t checksum_kind; /* of Metadata: a checksum type */
     uint8_t keep_alive;    /* of a Prompt: 1 for a Keep Alive, 0 for a NAK */
     uint8_t large;         /* 1 where sizes and offsets have 8 octets, 0 where they have 4 */
     uint8_t crc;           /* 1 where the PDU ends in a CRC, of 2 octets, else 0 */
 } cfdp_pdu;
 
 /* Reads a PDU. CFDP_OK, or CFDP_BAD_PDU and the number of the first thing that is wrong. */
-cfdp_answer cfdp_decode(const uint8_t *pdu, size_t len, cfdp_pdu *out);
+cfdp_answer cfdp_decode(const void *pdu, size_t len, cfdp_pdu *out);
 
 /* ---- Frames that only the holder of a key can have sent (CCSDS 355.0-B-2; FORMATS.md).
  *
@@ -569,88 +689,112 @@ typedef struct cfdp_security {
 /* Seals a frame of len octets into out, which has as many as a frame of the link. Its operational
  * control field says control, if it has one. CFDP_OK, CFDP_BAD_ARGUMENT, CFDP_NO_ROOM where the
  * frame has fewer than 6 octets or out another length, or CFDP_NUMBERS_SPENT. */
-cfdp_answer cfdp_seal_frame(cfdp_security *security, const uint8_t *frame, size_t len,
+cfdp_answer cfdp_seal_frame(cfdp_security *security, const void *frame, size_t len,
                             uint32_t control, uint8_t *out, size_t room);
 
 /* Verifies a frame that came, whatever its octets are, and writes the station's frame over the
  * front of out. CFDP_OK, CFDP_BAD_ARGUMENT, CFDP_SHORT_FRAME to CFDP_REPLAYED, or CFDP_NO_ROOM
  * where out has fewer octets. While the peer changes its key, keep a struct for either key: where
  * one answers CFDP_UNKNOWN_SPI, copy its number into the other one and ask that. */
-cfdp_answer cfdp_open_frame(cfdp_security *security, const uint8_t *frame, size_t len,
-                            uint8_t *out, size_t room);
+cfdp_answer cfdp_open_frame(cfdp_security *security, const void *frame, size_t len, uint8_t *out,
+                            size_t room);
 
 /* ---- Answers in words. */
 
+#ifndef CFDP_NO_TEXT
 /* What an answer says, as a text that stays. */
 static inline const char *cfdp_answer_text(cfdp_answer answer)
 {
+    const char *text = "unknown answer";
+
     switch (answer) {
-    case CFDP_OK: return "success";
-    case CFDP_CLOSED: return "the handle is closed";
-    case CFDP_ALREADY_OPEN: return "the handle is already open";
-    case CFDP_BAD_ARGUMENT: return "a value is out of range";
-    case CFDP_NO_MEMORY: return "out of memory";
-    case CFDP_NO_ROOM: return "the buffer is too small, or has the wrong size";
-    case CFDP_NOTHING: return "nothing available";
-    case CFDP_IN_FOLDERS: return "not available: the files are in folders";
-    case CFDP_NO_OUTBOX: return "cannot read the folder to send from";
-    case CFDP_NO_INBOX: return "cannot use the folder to receive into";
-    case CFDP_INBOX_IN_USE: return "another station already receives into that folder";
-    case CFDP_NAME_TAKEN: return "a file of that name already exists";
-    case CFDP_NO_SUCH_FILE: return "no such file";
-    case CFDP_BAD_NAME: return "file names must be 1 to 255 octets that the folder allows";
-    case CFDP_TOO_LARGE: return "file must be at most 2^48 octets";
-    case CFDP_TABLE_FULL: return "the transaction table is full: forget some that are over";
-    case CFDP_NUMBERS_SPENT: return "no sequence number is left";
-    case CFDP_SOURCE_FAULT: return "the outbox could not read the file";
-    case CFDP_UNKNOWN: return "unknown transaction";
-    case CFDP_ALREADY_CLOSED: return "the transaction is over";
-    case CFDP_WRONG_SIDE: return "only the file's sender can prompt";
-    case CFDP_ALREADY_SO: return "already in that state";
-    case CFDP_STILL_OPEN: return "the transaction is still open";
-    case CFDP_ANSWER_DUE: return "an acknowledgement must be sent first";
-    case CFDP_FULL: return "no room for the PDU: take frames off first";
-    case CFDP_BAD_SIZE: return "size does not match: compile with the cfdp.h of this library";
-    case CFDP_BAD_ID_WIDTH: return "id_width must be 1 to 8";
-    case CFDP_BAD_ENTITY: return "entity must fit in id_width octets";
-    case CFDP_BAD_PEER: return "peer must fit in id_width octets and differ from entity";
-    case CFDP_BAD_NUMBER_WIDTH: return "number_width must be 1 to 8";
-    case CFDP_BAD_SEGMENT: return "segment must be 1 to 4096";
-    case CFDP_BAD_CHECKSUM: return "checksum must be 0 to 3 or 15";
-    case CFDP_BAD_EOF_TIME: return "eof_time must be at least 1";
-    case CFDP_BAD_NAK_TIME: return "nak_time must be at least 1";
-    case CFDP_BAD_FINISHED_TIME: return "finished_time must be at least 1";
-    case CFDP_BAD_INACTIVITY_TIME: return "inactivity_time must be at least 1";
-    case CFDP_BAD_CAPACITY: return "capacity must be 8192 to 65536";
-    case CFDP_BAD_SENDS_VIRTUAL_CHANNEL: return "sends.virtual_channel must be 0 to 62";
+    case CFDP_OK: text = "success"; break;
+    case CFDP_CLOSED: text = "the handle is closed"; break;
+    case CFDP_ALREADY_OPEN: text = "the handle is already open"; break;
+    case CFDP_BAD_ARGUMENT: text = "a value is out of range"; break;
+    case CFDP_NO_MEMORY: text = "out of memory"; break;
+    case CFDP_NO_ROOM: text = "the buffer is too small, or has the wrong size"; break;
+    case CFDP_NOTHING: text = "nothing available"; break;
+    case CFDP_IN_FOLDERS: text = "not available: the files are in folders"; break;
+    case CFDP_NO_OUTBOX: text = "cannot read the folder to send from"; break;
+    case CFDP_NO_INBOX: text = "cannot use the folder to receive into"; break;
+    case CFDP_INBOX_IN_USE: text = "another station already receives into that folder"; break;
+    case CFDP_NAME_TAKEN: text = "a file of that name already exists"; break;
+    case CFDP_NO_SUCH_FILE: text = "no such file"; break;
+    case CFDP_BAD_NAME: text = "file names must be 1 to 255 octets that the folder allows"; break;
+    case CFDP_TOO_LARGE: text = "file must be at most 2^48 octets"; break;
+    case CFDP_TABLE_FULL: text = "the transaction table is full: forget some that are over"; break;
+    case CFDP_NUMBERS_SPENT: text = "no sequence number is left"; break;
+    case CFDP_SOURCE_FAULT: text = "the outbox could not read the file"; break;
+    case CFDP_UNKNOWN: text = "unknown transaction"; break;
+    case CFDP_ALREADY_CLOSED: text = "the transaction is over"; break;
+    case CFDP_WRONG_SIDE: text = "only the file's sender can prompt"; break;
+    case CFDP_ALREADY_SO: text = "already in that state"; break;
+    case CFDP_STILL_OPEN: text = "the transaction is still open"; break;
+    case CFDP_ANSWER_DUE: text = "an acknowledgement must be sent first"; break;
+    case CFDP_FULL: text = "no room for the PDU: take frames off first"; break;
+    case CFDP_DECODE_SHORT: text = "the PDU is shorter than its header"; break;
+    case CFDP_DECODE_VERSION: text = "PDU version must be 1"; break;
+    case CFDP_DECODE_CRC: text = "the CRC of the PDU is wrong"; break;
+    case CFDP_DECODE_LENGTH:
+        text = "the length in the PDU header is not the length of the data field";
+        break;
+    case CFDP_DECODE_UNACKNOWLEDGED: text = "the PDU has unacknowledged mode (class 1)"; break;
+    case CFDP_DECODE_DIRECTIVE: text = "unknown directive code"; break;
+    case CFDP_DECODE_TRUNCATED: text = "a field runs past the end of the data field"; break;
+    case CFDP_DECODE_TRAILING: text = "extra octets after the last field"; break;
+    case CFDP_DECODE_TLV: text = "a TLV option is incomplete"; break;
+    case CFDP_DECODE_CONDITION: text = "condition code must not be 12 or 13"; break;
+    case CFDP_BAD_SIZE:
+        text = "size does not match: compile with the cfdp.h of this library";
+        break;
+    case CFDP_BAD_ID_WIDTH: text = "id_width must be 1 to 8"; break;
+    case CFDP_BAD_ENTITY: text = "entity must fit in id_width octets"; break;
+    case CFDP_BAD_PEER: text = "peer must fit in id_width octets and differ from entity"; break;
+    case CFDP_BAD_NUMBER_WIDTH: text = "number_width must be 1 to 8"; break;
+    case CFDP_BAD_SEGMENT: text = "segment must be 1 to 4096"; break;
+    case CFDP_BAD_CHECKSUM: text = "checksum must be 0 to 3 or 15"; break;
+    case CFDP_BAD_EOF_TIME: text = "eof_time must be at least 1"; break;
+    case CFDP_BAD_NAK_TIME: text = "nak_time must be at least 1"; break;
+    case CFDP_BAD_FINISHED_TIME: text = "finished_time must be at least 1"; break;
+    case CFDP_BAD_INACTIVITY_TIME: text = "inactivity_time must be at least 1"; break;
+    case CFDP_BAD_CAPACITY: text = "capacity must be 8192 to 65536"; break;
+    case CFDP_BAD_SENDS_VIRTUAL_CHANNEL: text = "sends.virtual_channel must be 0 to 62"; break;
     case CFDP_BAD_SENDS_DATA_VIRTUAL_CHANNEL:
-        return "sends.data_virtual_channel must be 0 to 62 and not sends.virtual_channel";
-    case CFDP_BAD_SENDS_ZONE: return "sends.zone must be 16 to 2040";
-    case CFDP_BAD_SENDS_APID: return "sends.apid must be 0 to 2046";
-    case CFDP_BAD_RECEIVES_VIRTUAL_CHANNEL: return "receives.virtual_channel must be 0 to 62";
+        text = "sends.data_virtual_channel must be 0 to 62 and not sends.virtual_channel";
+        break;
+    case CFDP_BAD_SENDS_ZONE: text = "sends.zone must be 16 to 2040"; break;
+    case CFDP_BAD_SENDS_APID: text = "sends.apid must be 0 to 2046"; break;
+    case CFDP_BAD_RECEIVES_VIRTUAL_CHANNEL:
+        text = "receives.virtual_channel must be 0 to 62";
+        break;
     case CFDP_BAD_RECEIVES_DATA_VIRTUAL_CHANNEL:
-        return "receives.data_virtual_channel must be 0 to 62 and not receives.virtual_channel";
-    case CFDP_BAD_RECEIVES_ZONE: return "receives.zone must be 16 to 2040";
-    case CFDP_BAD_RECEIVES_APID: return "receives.apid must be 0 to 2046";
-    case CFDP_BAD_ON_ACK_LIMIT: return "on_ack_limit must be 0 to 3";
-    case CFDP_BAD_ON_NAK_LIMIT: return "on_nak_limit must be 0 to 3";
-    case CFDP_BAD_ON_INACTIVITY: return "on_inactivity must be 0 to 3";
-    case CFDP_BAD_SENDS_INSERT_ZONE: return "sends.insert_zone must be 0 to 64";
-    case CFDP_BAD_SENDS_CONTROL_FIELD: return "sends.control_field must be 0 or 1";
-    case CFDP_BAD_SENDS_ERROR_CONTROL: return "sends.error_control must be 0 or 1";
-    case CFDP_BAD_PDU_CRC: return "pdu_crc must be 0 or 1";
-    case CFDP_BAD_RECEIVES_INSERT_ZONE: return "receives.insert_zone must be 0 to 64";
-    case CFDP_BAD_RECEIVES_CONTROL_FIELD: return "receives.control_field must be 0 or 1";
-    case CFDP_BAD_RECEIVES_ERROR_CONTROL: return "receives.error_control must be 0 or 1";
-    case CFDP_SHORT_FRAME: return "the frame is too short";
-    case CFDP_DAMAGED_FRAME: return "the frame was damaged on the way";
-    case CFDP_UNKNOWN_SPI: return "no key has the frame's security parameter index";
-    case CFDP_NOT_AUTHENTIC: return "the frame's MAC is wrong";
-    case CFDP_REPLAYED: return "the frame's sequence number is not greater than the last one";
+        text = "receives.data_virtual_channel must be 0 to 62 and not receives.virtual_channel";
+        break;
+    case CFDP_BAD_RECEIVES_ZONE: text = "receives.zone must be 16 to 2040"; break;
+    case CFDP_BAD_RECEIVES_APID: text = "receives.apid must be 0 to 2046"; break;
+    case CFDP_BAD_ON_ACK_LIMIT: text = "on_ack_limit must be 0 to 3"; break;
+    case CFDP_BAD_ON_NAK_LIMIT: text = "on_nak_limit must be 0 to 3"; break;
+    case CFDP_BAD_ON_INACTIVITY: text = "on_inactivity must be 0 to 3"; break;
+    case CFDP_BAD_SENDS_INSERT_ZONE: text = "sends.insert_zone must be 0 to 64"; break;
+    case CFDP_BAD_SENDS_CONTROL_FIELD: text = "sends.control_field must be 0 or 1"; break;
+    case CFDP_BAD_SENDS_ERROR_CONTROL: text = "sends.error_control must be 0 or 1"; break;
+    case CFDP_BAD_PDU_CRC: text = "pdu_crc must be 0 or 1"; break;
+    case CFDP_BAD_RECEIVES_INSERT_ZONE: text = "receives.insert_zone must be 0 to 64"; break;
+    case CFDP_BAD_RECEIVES_CONTROL_FIELD: text = "receives.control_field must be 0 or 1"; break;
+    case CFDP_BAD_RECEIVES_ERROR_CONTROL: text = "receives.error_control must be 0 or 1"; break;
+    case CFDP_SHORT_FRAME: text = "the frame is too short"; break;
+    case CFDP_DAMAGED_FRAME: text = "the frame was damaged on the way"; break;
+    case CFDP_UNKNOWN_SPI: text = "no key has the frame's security parameter index"; break;
+    case CFDP_NOT_AUTHENTIC: text = "the frame's MAC is wrong"; break;
+    case CFDP_REPLAYED:
+        text = "the frame's sequence number is not greater than the last one";
+        break;
     default: break;
     }
-    return answer > CFDP_BAD_PDU && answer < 70 ? "invalid PDU" : "unknown answer";
+    return text;
 }
+#endif
 
 #ifdef __cplusplus
 }

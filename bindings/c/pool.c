@@ -1,11 +1,13 @@
-/* The memory that libcfdp_c.a asks for, from one array and nowhere else: link this in place of
- * heap.c. CFDP_POOL says how many octets the array has (docs/EMBEDDING.md, "A heap of fixed size").
+/* The memory that libcfdp_c.a asks for, from arrays and nowhere else: link this in place of heap.c.
+ * CFDP_POOL says how many octets the array of the process has (docs/EMBEDDING.md, "A heap of fixed
+ * size"); a program may bring others (pool.h).
  *
  * Free blocks stand in a list in the order of their places. The first that suffices is taken, from
  * the front of the array on, and one that is given back is joined to its neighbours. */
 #include "pool.h"
 
-#include <stdbool.h>
+#include "cfdp_hooks.h"
+
 #include <stdint.h>
 #include <string.h>
 
@@ -13,206 +15,266 @@
 #define CFDP_POOL (1024 * 1024)
 #endif
 
-/* ---- what the library calls */
-
-typedef struct rattle_block {
-    bool is_there;
-    void *at;
-} rattle_block;
-
-#ifdef __cplusplus
-extern "C" {
+#ifndef CFDP_POOL_LOCAL
+#define CFDP_POOL_LOCAL
 #endif
 
-rattle_block rattle_alloc(size_t size, size_t align);
-rattle_block rattle_realloc(void *at, size_t old_size, size_t size, size_t align);
-void rattle_dealloc(void *at);
+#define UNIT ((size_t)16)
 
-#ifdef __cplusplus
-}
-#endif
+/* What stands before the octets of each block, in a unit of its own. */
+typedef struct cfdp_block {
+    size_t len; /* octets of the block with this, a multiple of UNIT */
+    union {
+        struct cfdp_block *next; /* of a free block: the next free one */
+        cfdp_pool *owner;        /* of another one: where it came from */
+    } link;
+} block;
 
-/* ---- the array */
+/* It isn't compiled where that is no unit. */
+typedef uint8_t block_is_unit[(sizeof(block) == 16U) ? 1 : -1];
 
-enum { UNIT = 16 };
+static cfdp_pool process_pool;
+static CFDP_POOL_LOCAL cfdp_pool *used_pool = NULL;
 
-/* What stands in front of each block, in a unit of its own. */
-typedef struct head {
-    size_t len;        /* octets of the block with this, a multiple of UNIT */
-    struct head *next; /* of a free block: the next free one */
-} head;
+/* ---- one pool */
 
-static union {
-    uint8_t octets[CFDP_POOL / UNIT * UNIT];
-    head first;
-    long double aligned; /* to 16 octets */
-} pool;
-
-static head *free_blocks;
-static bool is_ready;
-static size_t used, most, refused;
-static uint8_t nothing;
-
-static void make_ready(void)
+static uint8_t *octets_of(block *it)
 {
-    if (!is_ready) {
-        pool.first.len = sizeof pool.octets;
-        pool.first.next = NULL;
-        free_blocks = &pool.first;
-        is_ready = true;
-    }
+    return &((uint8_t *)it)[UNIT];
 }
 
-static uint8_t *end_of(head *block)
+static block *block_with(void *octets)
 {
-    return (uint8_t *)block + block->len;
+    return (block *)octets - 1;
+}
+
+static block *end_of(block *it)
+{
+    return &it[it->len / UNIT];
 }
 
 /* Octets of a block for so many; 0 where there can be none. */
 static size_t len_for(size_t size, size_t align)
 {
-    const size_t octets = size != 0 ? size : 1;
+    const size_t octets = (size != 0U) ? size : 1U;
+    const bool can_be = (align <= UNIT) && (octets <= (SIZE_MAX / 2U));
 
-    if (align > UNIT || octets > sizeof pool.octets)
-        return 0;
-    return UNIT + (octets + UNIT - 1) / UNIT * UNIT;
+    return can_be ? (UNIT + (((octets + UNIT - 1U) / UNIT) * UNIT)) : 0U;
 }
 
-/* The block behind the first octets of another one, if enough is left for one. */
-static head *cut_off(head *block, size_t len)
+/* The block after the first octets of another one, if enough is left for one. */
+static block *cut_off(block *it, size_t len)
 {
-    head *rest = (head *)((uint8_t *)block + len);
+    block *rest = NULL;
 
-    if (block->len - len < 2 * UNIT)
-        return NULL;
-    rest->len = block->len - len;
-    block->len = len;
+    if ((it->len - len) >= (2U * UNIT)) {
+        rest = &it[len / UNIT];
+        rest->len = it->len - len;
+        it->len = len;
+    }
     return rest;
 }
 
 /* Takes a free block off the list, or its front where that suffices. */
-static head *take(head **link, size_t len)
+static block *take(cfdp_pool *pool, block **link, size_t len)
 {
-    head *block = *link, *rest = cut_off(block, len);
-    size_t reached;
+    block *it = *link;
+    block *rest = cut_off(it, len);
+    ptrdiff_t reached;
 
     if (rest != NULL) {
-        rest->next = block->next;
+        rest->link.next = it->link.next;
         *link = rest;
     } else {
-        *link = block->next;
+        *link = it->link.next;
     }
-    reached = (size_t)(end_of(block) - pool.octets);
-    used += block->len;
-    most = reached > most ? reached : most;
-    return block;
-}
-
-/* Joins a free block with the next free one, where that stands right behind it. */
-static void join(head *block)
-{
-    if (block->next != NULL && end_of(block) == (uint8_t *)block->next) {
-        block->len += block->next->len;
-        block->next = block->next->next;
+    it->link.owner = pool;
+    reached = end_of(it) - pool->front;
+    pool->used += it->len;
+    if (((size_t)reached * UNIT) > pool->most) {
+        pool->most = (size_t)reached * UNIT;
     }
-}
-
-/* Puts a block among the free ones. */
-static void give_back(head *block)
-{
-    head *before = NULL, *behind = free_blocks;
-
-    for (; behind != NULL && behind < block; behind = behind->next)
-        before = behind;
-    used -= block->len;
-    block->next = behind;
-    if (before == NULL)
-        free_blocks = block;
-    else
-        before->next = block;
-    join(block);
-    if (before != NULL)
-        join(before);
-}
-
-/* A block of so many octets, if there is one. */
-static head *block_of(size_t len)
-{
-    head **link = &free_blocks;
-
-    make_ready();
-    while (*link != NULL && (*link)->len < len)
-        link = &(*link)->next;
-    return len != 0 && *link != NULL ? take(link, len) : NULL;
-}
-
-/* Gives a block so many octets where it stands, if they are there. */
-static bool fits_in_place(head *block, size_t len)
-{
-    head **link = &free_blocks, *rest;
-
-    if (len <= block->len) {
-        rest = cut_off(block, len);
-        if (rest != NULL)
-            give_back(rest);
-        return true;
-    }
-    while (*link != NULL && *link < block)
-        link = &(*link)->next;
-    if (*link == NULL || (uint8_t *)*link != end_of(block) || (*link)->len < len - block->len)
-        return false;
-    block->len += take(link, len - block->len)->len;
-    return true;
-}
-
-static rattle_block told(head *block)
-{
-    rattle_block it;
-
-    it.is_there = block != NULL;
-    it.at = block != NULL ? (void *)((uint8_t *)block + UNIT) : (void *)&nothing;
-    refused += block == NULL;
     return it;
 }
 
+/* Joins a free block with the next free one, where that stands right after it. */
+static void join(block *it)
+{
+    block *next = it->link.next;
+
+    if ((next != NULL) && (end_of(it) == next)) {
+        it->len += next->len;
+        it->link.next = next->link.next;
+    }
+}
+
+/* Puts a block among the free ones of its pool. */
+static void give_back(cfdp_pool *pool, block *it)
+{
+    block *before = NULL;
+    block *after = pool->free_blocks;
+
+    while ((after != NULL) && (after < it)) {
+        before = after;
+        after = after->link.next;
+    }
+    pool->used -= it->len;
+    it->link.next = after;
+    if (before == NULL) {
+        pool->free_blocks = it;
+    } else {
+        before->link.next = it;
+    }
+    join(it);
+    if (before != NULL) {
+        join(before);
+    }
+}
+
+/* A block of so many octets, if there is one. */
+static block *block_of(cfdp_pool *pool, size_t len)
+{
+    block **link = &pool->free_blocks;
+    block *found = NULL;
+
+    while ((*link != NULL) && ((*link)->len < len)) {
+        link = &(*link)->link.next;
+    }
+    if ((len != 0U) && (*link != NULL)) {
+        found = take(pool, link, len);
+    }
+    return found;
+}
+
+/* Gives a block the front of the free one that stands right after it, if that suffices. */
+static bool grows_in_place(cfdp_pool *pool, block *it, size_t more)
+{
+    block **link = &pool->free_blocks;
+    bool is_done = false;
+
+    while ((*link != NULL) && (*link < it)) {
+        link = &(*link)->link.next;
+    }
+    if ((*link != NULL) && (*link == end_of(it)) && ((*link)->len >= more)) {
+        it->len += take(pool, link, more)->len;
+        is_done = true;
+    }
+    return is_done;
+}
+
+/* Gives a block so many octets where it stands, if they are there. */
+static bool fits_in_place(cfdp_pool *pool, block *it, size_t len)
+{
+    bool fits = len <= it->len;
+
+    if (fits) {
+        block *rest = cut_off(it, len);
+
+        if (rest != NULL) {
+            give_back(pool, rest);
+        }
+    } else {
+        fits = grows_in_place(pool, it, len - it->len);
+    }
+    return fits;
+}
+
+static rattle_block told(cfdp_pool *pool, block *it)
+{
+    static uint8_t nothing;
+    rattle_block answer = {false, &nothing};
+
+    if (it != NULL) {
+        answer.is_there = true;
+        answer.at = octets_of(it);
+    } else {
+        pool->refused++;
+    }
+    return answer;
+}
+
+/* ---- which pool */
+
+bool cfdp_pool_begin(cfdp_pool *pool, void *array, size_t len)
+{
+    const size_t before = (UNIT - ((uintptr_t)array % UNIT)) % UNIT;
+    const bool suffices = len >= (4U * UNIT);
+
+    if (suffices) {
+        pool->front = (block *)(void *)&((uint8_t *)array)[before];
+        pool->free_blocks = pool->front;
+        pool->free_blocks->len = ((len - before) / UNIT) * UNIT;
+        pool->free_blocks->link.next = NULL;
+        pool->used = 0U;
+        pool->most = 0U;
+        pool->refused = 0U;
+    }
+    return suffices;
+}
+
+void cfdp_pool_use(cfdp_pool *pool)
+{
+    used_pool = pool;
+}
+
+/* The pool that calls take their memory from. */
+static cfdp_pool *pool_of_calls(void)
+{
+    static uint8_t array[CFDP_POOL];
+
+    if ((used_pool == NULL) && (process_pool.front == NULL)) {
+        (void)cfdp_pool_begin(&process_pool, array, sizeof array);
+    }
+    return (used_pool != NULL) ? used_pool : &process_pool;
+}
+
+/* ---- what the library calls */
+
 rattle_block rattle_alloc(size_t size, size_t align)
 {
-    return told(block_of(len_for(size, align)));
+    cfdp_pool *pool = pool_of_calls();
+
+    return told(pool, block_of(pool, len_for(size, align)));
 }
 
 rattle_block rattle_realloc(void *at, size_t old_size, size_t size, size_t align)
 {
-    head *block = (head *)((uint8_t *)at - UNIT), *other;
+    block *it = block_with(at);
+    cfdp_pool *pool = it->link.owner;
     const size_t len = len_for(size, align);
 
-    if (len != 0 && fits_in_place(block, len))
-        return told(block);
-    other = block_of(len);
-    if (other != NULL) {
-        memcpy((uint8_t *)other + UNIT, at, old_size);
-        give_back(block);
+    if ((len == 0U) || !fits_in_place(pool, it, len)) {
+        block *other = block_of(pool, len);
+
+        if (other != NULL) {
+            (void)memcpy(octets_of(other), at, (old_size < size) ? old_size : size);
+            give_back(pool, it);
+        }
+        it = other;
     }
-    return told(other);
+    return told(pool, it);
 }
 
 void rattle_dealloc(void *at)
 {
-    give_back((head *)((uint8_t *)at - UNIT));
+    block *it = block_with(at);
+
+    give_back(it->link.owner, it);
 }
 
-/* ---- what a program may ask */
+/* ---- what a program may ask of the array of the process */
 
 size_t cfdp_pool_used(void)
 {
-    return used;
+    return process_pool.used;
 }
 
 size_t cfdp_pool_most(void)
 {
-    return most;
+    return process_pool.most;
 }
 
 size_t cfdp_pool_refused(void)
 {
-    return refused;
+    return process_pool.refused;
 }

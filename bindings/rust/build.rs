@@ -1,6 +1,7 @@
-//! Where libcfdp_c.a lies: the folder in CFDP_LIB, else that in which `.ci/archive` makes it.
+//! Where `libcfdp_c.a` lies: the folder in `CFDP_LIB`, else that in which `.ci/archive` makes it.
 use std::env;
 use std::path::Path;
+use std::process::exit;
 
 /// The processor for which `.ci/archive` makes the library without a word of it.
 const FIRST: &str = "x86_64-unknown-linux-gnu";
@@ -21,9 +22,10 @@ fn main() {
     let folder = env::var("CFDP_LIB").unwrap_or(made);
     let archive = format!("{folder}/libcfdp_c.a");
     if !Path::new(&archive).is_file() {
-        println!("cargo::error=there is no {archive}");
-        println!("cargo::error=make it by `.ci/archive{flags}` at the top of cfdp's repository,");
-        println!("cargo::error=or say in CFDP_LIB in which folder it lies");
+        eprintln!("there is no {archive}");
+        eprintln!("make it by `.ci/archive{flags}` at the top of cfdp's repository,");
+        eprintln!("or say in CFDP_LIB in which folder it lies");
+        exit(1);
     }
     println!("cargo:rerun-if-changed={archive}");
     println!("cargo:rustc-link-search=native={folder}");

@@ -10,13 +10,11 @@
 #include <stdio.h>
 #include <string.h>
 
-enum { MOST_FRAME = 2048, LOST = 7, LIMIT = 255 };
-
-static const long TURNS = 100000000;
+enum { MOST_FRAME = 2048, LIMIT = 255 };
 
 static int refused(const char *call, cfdp_answer answer)
 {
-    fprintf(stderr, "%s: %s\n", call, cfdp_answer_text(answer));
+    (void)fprintf(stderr, "%s: %s\n", call, cfdp_answer_text(answer));
     return 1;
 }
 
@@ -29,35 +27,46 @@ static cfdp_answer open_station(cfdp_station *station, int number, const char *o
     cfdp_defaults(&config);
     if (number == 2) {
         const cfdp_link sends = config.sends;
+
         config.sends = config.receives;
         config.receives = sends;
         config.entity = 2;
         config.peer = 1;
     }
-    config.eof_limit = config.nak_limit = config.finished_limit = LIMIT;
-    return cfdp_open_folders(station, &config, (const uint8_t *)outbox, strlen(outbox),
-                             (const uint8_t *)inbox, strlen(inbox));
+    config.eof_limit = LIMIT;
+    config.nak_limit = LIMIT;
+    config.finished_limit = LIMIT;
+    return cfdp_open_folders(station, &config, outbox, strlen(outbox), inbox, strlen(inbox));
 }
 
 /* Whether the link loses a frame: one of seven, by chance, and in each run the same. Were it each
  * seventh, the same PDU might be lost for ever. */
 static bool is_lost(void)
 {
-    static uint32_t state = 1;
+    static uint32_t state = 1U;
 
-    state = state * 1664525 + 1013904223;
-    return (state >> 16) % LOST == 0;
+    state = (state * 1664525U) + 1013904223U;
+    return ((state >> 16) % 7U) == 0U;
 }
 
 /* Takes what one station has to send to the other. */
 static void pass_frames(cfdp_station *from, cfdp_station *to)
 {
     uint8_t frame[MOST_FRAME];
-    size_t len = cfdp_frame_len(from);
+    const size_t len = cfdp_frame_len(from);
 
-    while (cfdp_transmit(from, frame, len) == CFDP_OK)
-        if (!is_lost())
-            cfdp_receive(to, frame, len);
+    while (cfdp_transmit(from, frame, len) == CFDP_OK) {
+        if (!is_lost()) {
+            (void)cfdp_receive(to, frame, len);
+        }
+    }
+}
+
+/* Whether a transaction ended with the file published. */
+static bool is_well(const cfdp_indication *it)
+{
+    return (it->condition == CFDP_CONDITION_NO_ERROR) && (it->delivery == CFDP_DELIVERY_COMPLETE)
+        && (it->status == CFDP_FILE_RETAINED);
 }
 
 /* The status that ends the program, once a station has said how its transaction ended. */
@@ -67,12 +76,13 @@ static bool is_over(cfdp_station *station, int *status)
     uint8_t names[CFDP_NAMES];
     bool over = false;
 
-    while (cfdp_next_indication(station, &it, names, sizeof names) == CFDP_OK)
+    while (cfdp_next_indication(station, &it, names, sizeof names) == CFDP_OK) {
         if (it.kind == CFDP_FINISHED) {
             over = true;
-            *status = it.condition == 0 && it.delivery == 0 && it.status == 2 ? 0 : 1;
-            printf("finished, condition %u\n", (unsigned)it.condition);
+            *status = is_well(&it) ? 0 : 1;
+            (void)printf("finished, condition %u\n", (unsigned)it.condition);
         }
+    }
     return over;
 }
 
@@ -81,39 +91,43 @@ static int transfer(cfdp_station *one, cfdp_station *two, const char *name, cons
     cfdp_answer answer;
     cfdp_id id;
     int status = 1;
-    long turn;
+    uint64_t turn = 0U;
 
-    answer = cfdp_put(one, (const uint8_t *)name, strlen(name), (const uint8_t *)destination,
-                      strlen(destination), &id);
-    if (answer != CFDP_OK)
+    answer = cfdp_put(one, name, strlen(name), destination, strlen(destination), &id);
+    if (answer != CFDP_OK) {
         return refused("cfdp_put", answer);
-    for (turn = 0; turn < TURNS && !is_over(one, &status); turn++) {
+    }
+    while ((turn < 100000000U) && !is_over(one, &status)) {
         pass_frames(one, two);
         pass_frames(two, one);
-        cfdp_tick(one, (uint64_t)turn);
-        cfdp_tick(two, (uint64_t)turn);
+        (void)cfdp_tick(one, turn);
+        (void)cfdp_tick(two, turn);
+        turn++;
     }
     return status;
 }
 
 int main(int count, char **words)
 {
-    cfdp_station one = CFDP_STATION_INIT, two = CFDP_STATION_INIT;
+    cfdp_station one = CFDP_STATION_INIT;
+    cfdp_station two = CFDP_STATION_INIT;
     cfdp_answer answer;
     int status;
 
     if (count < 4) {
-        fprintf(stderr, "folders OUTBOX INBOX NAME [DESTINATION]\n");
+        (void)fprintf(stderr, "folders OUTBOX INBOX NAME [DESTINATION]\n");
         return 2;
     }
     /* Nothing is sent the other way: each folder serves one end. */
     answer = open_station(&one, 1, words[1], words[1]);
-    if (answer == CFDP_OK)
+    if (answer == CFDP_OK) {
         answer = open_station(&two, 2, words[1], words[2]);
-    if (answer == CFDP_OK)
-        status = transfer(&one, &two, words[3], count > 4 ? words[4] : words[3]);
-    else
+    }
+    if (answer == CFDP_OK) {
+        status = transfer(&one, &two, words[3], (count > 4) ? words[4] : words[3]);
+    } else {
         status = refused("cfdp_open_folders", answer);
+    }
     cfdp_close(&one);
     cfdp_close(&two);
     return status;

@@ -6,6 +6,7 @@
  * is filled, which takes minutes under valgrind. tests/bindings.py builds and runs it, as C and as
  * C++. */
 #include "cfdp.h"
+#include "cfdp_hooks.h"
 
 #include <stdio.h>
 #include <stdlib.h>
@@ -17,15 +18,6 @@
 #ifdef __cplusplus
 extern "C" {
 #endif
-
-typedef struct block {
-    bool is_there;
-    void *at;
-} block;
-
-block rattle_alloc(size_t size, size_t align);
-block rattle_realloc(void *at, size_t old_size, size_t size, size_t align);
-void rattle_dealloc(void *at);
 
 enum { FRONT = 16 };
 
@@ -39,9 +31,9 @@ static bool fits(size_t others, size_t size, size_t align)
     return align <= FRONT && others <= most && size <= most - others;
 }
 
-static block counted(void *front, size_t size)
+static rattle_block counted(void *front, size_t size)
 {
-    block it;
+    rattle_block it;
 
     it.is_there = front != NULL;
     it.at = front != NULL ? (uint8_t *)front + FRONT : (void *)&nothing;
@@ -60,12 +52,12 @@ static size_t size_at(void *at)
     return size;
 }
 
-block rattle_alloc(size_t size, size_t align)
+rattle_block rattle_alloc(size_t size, size_t align)
 {
     return counted(fits(live, size, align) ? malloc(FRONT + size) : NULL, size);
 }
 
-block rattle_realloc(void *at, size_t old_size, size_t size, size_t align)
+rattle_block rattle_realloc(void *at, size_t old_size, size_t size, size_t align)
 {
     const size_t before = size_at(at);
     void *front = NULL;

@@ -88,7 +88,8 @@ static void one_frame(void)
     want(opener.number == 0, "then the frame may come again");
     want(cfdp_open_frame(&opener, MADE, sizeof MADE, bare, sizeof bare) == CFDP_OK,
          "a sealed frame is accepted");
-    want(memcmp(bare, BARE, sizeof BARE) == 0 && opener.number == 1, "it is the one that was sealed");
+    want(memcmp(bare, BARE, sizeof BARE) == 0 && opener.number == 1,
+         "it is the one that was sealed");
     want(cfdp_open_frame(&opener, MADE, sizeof MADE, bare, sizeof bare) == CFDP_REPLAYED,
          "and not once more");
     want(cfdp_open_frame(&opener, MADE, 13, bare, sizeof bare) == CFDP_SHORT_FRAME,

@@ -17,23 +17,18 @@ type Failure = Box<dyn std::error::Error>;
 
 /// Station 1 or 2. What isn't answered is sent again as often as it takes.
 fn config(number: u8, patience: u32) -> Config {
-    let one = cfdp::defaults();
-    let two = Config {
-        entity: one.peer,
-        peer: one.entity,
-        sends: one.receives,
-        receives: one.sends,
-        ..one
-    };
-    Config {
-        eof_time: patience,
-        nak_time: patience,
-        finished_time: patience,
-        inactivity_time: 100 * patience,
-        eof_limit: 255,
-        nak_limit: 255,
-        finished_limit: 255,
-        ..if number == 1 { one } else { two }
+    let mut config = Config::new(1, 2);
+    config.eof_time = patience;
+    config.nak_time = patience;
+    config.finished_time = patience;
+    config.inactivity_time = 100 * patience;
+    config.eof_limit = 255;
+    config.nak_limit = 255;
+    config.finished_limit = 255;
+    if number == 1 {
+        config
+    } else {
+        config.of_peer()
     }
 }
 
@@ -55,15 +50,16 @@ fn send_file(station: &mut Station, octets: &[u8]) -> Result<(), Error> {
 }
 
 /// Whether a station told by now that its transaction is over, and if so, that it went well.
-fn ending(station: &mut Station, number: u8) -> Option<bool> {
+fn ending(station: &mut Station, number: u8) -> Result<Option<bool>, Error> {
     let mut ending = None;
     for told in station.indications() {
-        if let Indication::Finished { condition, is_complete, is_retained, .. } = told {
-            println!("station {number}: finished, condition {condition}");
-            ending = Some(condition == 0 && is_complete && is_retained);
+        let told = told?;
+        if let Indication::Finished { condition, .. } = told {
+            println!("station {number}: finished, {condition}");
+            ending = Some(told.is_complete());
         }
     }
-    ending
+    Ok(ending)
 }
 
 /// What became of frames.
@@ -83,7 +79,8 @@ impl Link {
 
     /// Passes on all that is due but what is lost.
     fn pass(&mut self, from: &mut Station, to: &mut Station) -> Result<(), Error> {
-        while let Some(frame) = from.transmit()? {
+        let mut frame = vec![0; from.frame_len()];
+        while from.transmit_into(&mut frame)? {
             let is_lost = self.loses();
             self.frames += 1;
             self.lost += u64::from(is_lost);
@@ -104,14 +101,15 @@ fn transfer_here(octets: &[u8]) -> Result<bool, Failure> {
         two.tick(now)?;
         link.pass(&mut one, &mut two)?;
         link.pass(&mut two, &mut one)?;
-        endings[0] = endings[0].or(ending(&mut one, 1));
-        endings[1] = endings[1].or(ending(&mut two, 2));
+        endings[0] = endings[0].or(ending(&mut one, 1)?);
+        endings[1] = endings[1].or(ending(&mut two, 2)?);
         if endings.iter().all(Option::is_some) {
             break;
         }
     }
     println!("{} frames, {} lost", link.frames, link.lost);
-    let is_published = two.file(0).is_some_and(|it| it.name == DESTINATION && it.octets == octets);
+    let file = two.file(0)?;
+    let is_published = matches!(&file, Some(it) if it.name == DESTINATION && it.octets == octets);
     if is_published {
         println!("published as it was sent");
     }
@@ -124,23 +122,23 @@ fn transfer_over_udp(own: &str, peer: &str, octets: &[u8]) -> Result<bool, Failu
     let peer = format!("127.0.0.1:{peer}");
     let mut station = Station::open(&config(1, 200))?;
     let (start, mut over, mut buffer) = (Instant::now(), None::<(bool, Instant)>, [0; 2048]);
+    let mut frame = vec![0; station.frame_len()];
     send_file(&mut station, octets)?;
     while start.elapsed() < Duration::from_secs(60) {
-        station.tick(start.elapsed().as_millis() as u64)?;
-        while let Some(frame) = station.transmit()? {
+        station.tick(u64::try_from(start.elapsed().as_millis())?)?;
+        while station.transmit_into(&mut frame)? {
             let _a_lost_frame = wire.send_to(&frame, &peer);
         }
         while let Ok((len, _)) = wire.recv_from(&mut buffer) {
             station.receive(&buffer[..len]);
         }
-        if let Some(is_good) = ending(&mut station, 1) {
+        if let Some(is_good) = ending(&mut station, 1)? {
             over = Some((is_good, Instant::now()));
         }
         // once it is over, some time for the peer's last words
-        if let Some((is_good, at)) = over
-            && at.elapsed() > Duration::from_millis(500)
-        {
-            return Ok(is_good);
+        match over {
+            Some((is_good, at)) if at.elapsed() > Duration::from_millis(500) => return Ok(is_good),
+            _ => {}
         }
     }
     Ok(false)
@@ -156,5 +154,9 @@ fn main() -> Result<(), Failure> {
         }
         rest => transfer_here(&octets_of_file(len(rest.first())?))?,
     };
-    if is_good { Ok(()) } else { Err("the file didn't come".into()) }
+    if is_good {
+        Ok(())
+    } else {
+        Err("the file didn't come".into())
+    }
 }

@@ -2,18 +2,17 @@
 //! method of [`Handle`] passes whole slices and references, so that no caller owes anything.
 
 use std::ffi::c_void;
+use std::mem::size_of;
 
 /// What a call answers, as `cfdp.h` names it.
 pub const OK: u32 = 0;
 pub const NOTHING: u32 = 6;
+pub const SOURCE_FAULT: u32 = 26;
 pub const FULL: u32 = 41;
 
-/// One direction of a link. Directives go on `virtual_channel`, file data on
-/// `data_virtual_channel`. Frames have an insert zone of so many octets; an operational control
-/// field where `control_field` is 1, else 0; and a frame error control field where `error_control`
-/// is 1, else 0.
+/// One direction of a link.
 #[repr(C)]
-#[derive(Clone, Copy, Debug, Default, PartialEq, Eq)]
+#[derive(Clone, Copy, Default)]
 pub struct Link {
     pub zone: u16,
     pub apid: u16,
@@ -25,11 +24,10 @@ pub struct Link {
     pub error_control: u8,
 }
 
-/// How a station is set up; `cfdp.h` has the ranges.
+/// How a station is set up.
 #[repr(C)]
-#[derive(Clone, Copy, Debug, Default, PartialEq, Eq)]
+#[derive(Clone, Copy, Default)]
 pub struct Config {
-    /// Octets of this struct, which [`defaults`](crate::defaults) fills in.
     pub size: usize,
     pub entity: u64,
     pub peer: u64,
@@ -41,8 +39,6 @@ pub struct Config {
     pub inactivity_time: u32,
     pub sends: Link,
     pub receives: Link,
-    /// 1 where the PDUs of the files that it sends, and those that answer them, end in a CRC, else
-    /// 0.
     pub pdu_crc: u8,
     pub segment: u16,
     pub id_width: u8,
@@ -56,25 +52,16 @@ pub struct Config {
     pub on_inactivity: u8,
 }
 
-/// How the frames of one direction are secured, with one key. It has no `Debug`, so that the key is
-/// never printed.
+/// How the frames of one direction are secured, with one key.
 #[repr(C)]
-#[derive(Clone, Copy, Default, PartialEq, Eq)]
+#[derive(Clone, Copy)]
 pub struct Security {
-    /// To seal, the sequence number of the next frame, from 1 on; to open, that of the frame that
-    /// was accepted last, or 0. The calls count it on.
     pub number: u64,
-    /// The security parameter index, by which frames name the key: 1 to 65,534.
     pub spi: u16,
-    /// Octets of the MAC that are sent: 16 to 32.
     pub mac_len: u8,
-    /// Octets of the insert zone: 0 to 64.
     pub insert_zone: u8,
-    /// 1 where frames have an operational control field, else 0.
     pub control_field: u8,
-    /// 1 where frames have a frame error control field, else 0.
     pub error_control: u8,
-    /// Octets drawn at random.
     pub key: [u8; 32],
 }
 
@@ -82,7 +69,9 @@ pub struct Security {
 #[repr(C)]
 #[derive(Clone, Copy, Debug, Default, PartialEq, Eq, PartialOrd, Ord, Hash)]
 pub struct Id {
+    /// The entity that sends the file.
     pub source: u64,
+    /// The sequence number that it gave the transaction.
     pub number: u64,
 }
 
@@ -116,48 +105,79 @@ pub struct FileInfo {
     pub size: usize,
 }
 
-/// How often something of a frame of either lane was dropped, by the cause; `cfdp.h` explains each.
+/// How often something of a frame of either lane was dropped, by the cause.
 #[repr(C)]
 #[derive(Clone, Copy, Debug, Default, PartialEq, Eq)]
+#[non_exhaustive]
 pub struct FrameDrops {
+    /// It hasn't the octets of a frame.
     pub bad_length: u64,
+    /// Its transfer frame version number isn't 01.
     pub bad_version: u64,
+    /// It is replayed, or a reserved bit of its header is set.
     pub other_profile: u64,
+    /// It is of another spacecraft.
     pub other_spacecraft: u64,
+    /// It is of another virtual channel.
     pub other_channel: u64,
+    /// It holds only idle data.
     pub only_idle: u64,
+    /// An incomplete packet was discarded.
     pub resync: u64,
+    /// A packet's version number isn't 0.
     pub bad_packet: u64,
+    /// A packet is of another application process.
     pub other_apid: u64,
+    /// A packet is a segment, or has a secondary header.
     pub segmented: u64,
+    /// Out of memory for the packets of a frame.
     pub no_memory: u64,
+    /// Its check tells that it was damaged on the way.
     pub damaged: u64,
 }
 
-/// How often a PDU was dropped, by the cause; `cfdp.h` explains each.
+/// How often a PDU was dropped, by the cause.
 #[repr(C)]
 #[derive(Clone, Copy, Debug, Default, PartialEq, Eq)]
+#[non_exhaustive]
 pub struct PduDrops {
+    /// It is shorter than a header.
     pub too_short: u64,
+    /// The version of its header is another.
     pub bad_version: u64,
+    /// Its CRC is wrong.
     pub bad_crc: u64,
+    /// Its length isn't that of its header.
     pub bad_length: u64,
+    /// It is of class 1.
     pub unacknowledged: u64,
+    /// Its directive code is none.
     pub bad_directive: u64,
+    /// Its data field is too short.
     pub truncated: u64,
+    /// Its data field is too long.
     pub trailing: u64,
+    /// A TLV of it isn't whole.
     pub bad_tlv: u64,
+    /// Its condition code is none.
     pub bad_condition: u64,
+    /// Its direction bit doesn't fit it.
     pub wrong_direction: u64,
+    /// It is of other entities.
     pub not_for_us: u64,
+    /// Its transaction has no record here.
     pub unknown: u64,
+    /// There was no room for one more record.
     pub table_full: u64,
+    /// There was no memory for what it brings.
     pub no_memory: u64,
+    /// A file name of it is empty.
     pub no_file: u64,
 }
 
 impl FrameDrops {
-    /// Each cause, by its name, with how often it was one.
+    /// Returns each cause, by its name, with how often it was one.
+    #[must_use]
     pub fn causes(&self) -> [(&'static str, u64); 12] {
         [
             ("bad_length", self.bad_length),
@@ -177,7 +197,8 @@ impl FrameDrops {
 }
 
 impl PduDrops {
-    /// Each cause, by its name, with how often it was one.
+    /// Returns each cause, by its name, with how often it was one.
+    #[must_use]
     pub fn causes(&self) -> [(&'static str, u64); 16] {
         [
             ("too_short", self.too_short),
@@ -200,28 +221,37 @@ impl PduDrops {
     }
 }
 
-/// How many PDUs were sent, each counted once; `cfdp.h` explains each.
+/// How many PDUs were sent, each counted once.
 #[repr(C)]
 #[derive(Clone, Copy, Debug, Default, PartialEq, Eq)]
+#[non_exhaustive]
 pub struct SentPdus {
+    /// File data that were not sent before.
     pub file_data: u64,
+    /// Those that were, and again since a NAK asked for them.
     pub file_data_again: u64,
+    /// NAKs.
     pub naks: u64,
+    /// All other directives, those that are sent again too.
     pub other_directives: u64,
 }
 
-/// What a station counts, from 0 when it is opened.
+/// What a station counts, from 0 when it is opened. No count goes beyond the greatest of 64 bits.
 #[repr(C)]
 #[derive(Clone, Copy, Debug, Default, PartialEq, Eq)]
+#[non_exhaustive]
 pub struct Counters {
+    /// The PDUs that were sent.
     pub sent: SentPdus,
+    /// What was dropped of frames, on either lane.
     pub frames: FrameDrops,
+    /// The PDUs that were dropped.
     pub pdus: PduDrops,
 }
 
 /// A PDU; what its kind hasn't is 0.
 #[repr(C)]
-#[derive(Clone, Copy, Debug, Default, PartialEq, Eq)]
+#[derive(Clone, Copy, Default)]
 pub struct Pdu {
     pub id: Id,
     pub destination: u64,
@@ -255,10 +285,10 @@ pub struct Handle {
 unsafe impl Send for Handle {}
 
 #[link(name = "cfdp_c", kind = "static")]
-unsafe extern "C" {
-    safe fn cfdp_version() -> u32;
-    safe fn cfdp_fill_defaults(config: &mut Config);
-    safe fn cfdp_open(station: &mut Handle, config: &Config) -> u32;
+extern "C" {
+    fn cfdp_version() -> u32;
+    fn cfdp_fill_defaults(config: &mut Config);
+    fn cfdp_open(station: &mut Handle, config: &Config) -> u32;
     fn cfdp_open_folders(
         station: &mut Handle,
         config: &Config,
@@ -267,7 +297,7 @@ unsafe extern "C" {
         inbox: *const u8,
         m: usize,
     ) -> u32;
-    safe fn cfdp_close(station: &mut Handle);
+    fn cfdp_close(station: &mut Handle);
     fn cfdp_add(s: &mut Handle, name: *const u8, n: usize, octets: *const u8, m: usize) -> u32;
     fn cfdp_put(
         s: &mut Handle,
@@ -277,29 +307,29 @@ unsafe extern "C" {
         m: usize,
         id: &mut Id,
     ) -> u32;
-    safe fn cfdp_cancel(station: &mut Handle, id: &Id) -> u32;
-    safe fn cfdp_suspend(station: &mut Handle, id: &Id) -> u32;
-    safe fn cfdp_resume(station: &mut Handle, id: &Id) -> u32;
-    safe fn cfdp_prompt(station: &mut Handle, id: &Id, keep_alive: bool) -> u32;
-    safe fn cfdp_forget(station: &mut Handle, id: &Id) -> u32;
-    safe fn cfdp_forget_closed(station: &mut Handle) -> u32;
-    safe fn cfdp_was_forgotten(station: &mut Handle, id: &Id, was: &mut u8) -> u32;
-    safe fn cfdp_transactions(s: &mut Handle, cursor: &mut usize, out: &mut Listed) -> u32;
-    safe fn cfdp_records_left(station: &mut Handle) -> usize;
+    fn cfdp_cancel(station: &mut Handle, id: &Id) -> u32;
+    fn cfdp_suspend(station: &mut Handle, id: &Id) -> u32;
+    fn cfdp_resume(station: &mut Handle, id: &Id) -> u32;
+    fn cfdp_prompt(station: &mut Handle, id: &Id, keep_alive: bool) -> u32;
+    fn cfdp_forget(station: &mut Handle, id: &Id) -> u32;
+    fn cfdp_forget_closed(station: &mut Handle) -> u32;
+    fn cfdp_was_forgotten(station: &mut Handle, id: &Id, was: &mut u8) -> u32;
+    fn cfdp_transactions(s: &mut Handle, cursor: &mut usize, out: &mut Listed) -> u32;
+    fn cfdp_records_left(station: &mut Handle) -> usize;
     fn cfdp_transmit(station: &mut Handle, frame: *mut u8, room: usize) -> u32;
-    safe fn cfdp_poll(station: &mut Handle) -> u32;
-    safe fn cfdp_flush(station: &mut Handle) -> u32;
-    safe fn cfdp_frame_len(station: &mut Handle) -> usize;
-    safe fn cfdp_frames_ahead(station: &mut Handle) -> usize;
+    fn cfdp_poll(station: &mut Handle) -> u32;
+    fn cfdp_flush(station: &mut Handle) -> u32;
+    fn cfdp_frame_len(station: &mut Handle) -> usize;
+    fn cfdp_frames_ahead(station: &mut Handle) -> usize;
     fn cfdp_next_frame(station: &mut Handle, frame: *mut u8, room: usize) -> u32;
-    safe fn cfdp_set_control_field(station: &mut Handle, control: u32) -> u32;
+    fn cfdp_set_control_field(station: &mut Handle, control: u32) -> u32;
     fn cfdp_receive(station: &mut Handle, frame: *const u8, len: usize) -> u32;
-    safe fn cfdp_control_field(station: &mut Handle, file_data: bool, control: &mut u32) -> u32;
-    safe fn cfdp_counters(station: &mut Handle, counts: &mut Counters) -> u32;
-    safe fn cfdp_tick(station: &mut Handle, now: u64) -> u32;
-    safe fn cfdp_next_timeout(station: &mut Handle, deadline: &mut u64) -> u32;
+    fn cfdp_control_field(station: &mut Handle, file_data: bool, control: &mut u32) -> u32;
+    fn cfdp_counters(station: &mut Handle, counts: &mut Counters) -> u32;
+    fn cfdp_tick(station: &mut Handle, now: u64) -> u32;
+    fn cfdp_next_timeout(station: &mut Handle, deadline: &mut u64) -> u32;
     fn cfdp_next_indication(s: &mut Handle, out: &mut Told, names: *mut u8, room: usize) -> u32;
-    safe fn cfdp_file_count(station: &mut Handle) -> usize;
+    fn cfdp_file_count(station: &mut Handle) -> usize;
     fn cfdp_file(
         s: &mut Handle,
         place: usize,
@@ -329,13 +359,15 @@ unsafe extern "C" {
 
 /// The number of the library's interface.
 pub fn version() -> u32 {
-    cfdp_version()
+    // SAFETY: it takes nothing.
+    unsafe { cfdp_version() }
 }
 
 /// The defaults.
 pub fn defaults() -> Config {
     let mut config = Config { size: size_of::<Config>(), ..Config::default() };
-    cfdp_fill_defaults(&mut config);
+    // SAFETY: the reference is to a whole struct.
+    unsafe { cfdp_fill_defaults(&mut config) };
     config
 }
 
@@ -364,7 +396,8 @@ impl Handle {
     pub const CLOSED: Handle = Handle { at: std::ptr::null_mut(), is_open: false };
 
     pub fn open(&mut self, config: &Config) -> u32 {
-        cfdp_open(self, config)
+        // SAFETY: each argument is a reference or a number.
+        unsafe { cfdp_open(self, config) }
     }
 
     pub fn open_folders(&mut self, config: &Config, outbox: &[u8], inbox: &[u8]) -> u32 {
@@ -385,39 +418,48 @@ impl Handle {
     }
 
     pub fn cancel(&mut self, id: Id) -> u32 {
-        cfdp_cancel(self, &id)
+        // SAFETY: each argument is a reference or a number.
+        unsafe { cfdp_cancel(self, &id) }
     }
 
     pub fn suspend(&mut self, id: Id) -> u32 {
-        cfdp_suspend(self, &id)
+        // SAFETY: each argument is a reference or a number.
+        unsafe { cfdp_suspend(self, &id) }
     }
 
     pub fn resume(&mut self, id: Id) -> u32 {
-        cfdp_resume(self, &id)
+        // SAFETY: each argument is a reference or a number.
+        unsafe { cfdp_resume(self, &id) }
     }
 
     pub fn prompt(&mut self, id: Id, keep_alive: bool) -> u32 {
-        cfdp_prompt(self, &id, keep_alive)
+        // SAFETY: each argument is a reference or a number.
+        unsafe { cfdp_prompt(self, &id, keep_alive) }
     }
 
     pub fn forget(&mut self, id: Id) -> u32 {
-        cfdp_forget(self, &id)
+        // SAFETY: each argument is a reference or a number.
+        unsafe { cfdp_forget(self, &id) }
     }
 
     pub fn forget_closed(&mut self) -> u32 {
-        cfdp_forget_closed(self)
+        // SAFETY: each argument is a reference or a number.
+        unsafe { cfdp_forget_closed(self) }
     }
 
     pub fn was_forgotten(&mut self, id: Id, was: &mut u8) -> u32 {
-        cfdp_was_forgotten(self, &id, was)
+        // SAFETY: each argument is a reference or a number.
+        unsafe { cfdp_was_forgotten(self, &id, was) }
     }
 
     pub fn transactions(&mut self, cursor: &mut usize, out: &mut Listed) -> u32 {
-        cfdp_transactions(self, cursor, out)
+        // SAFETY: each argument is a reference or a number.
+        unsafe { cfdp_transactions(self, cursor, out) }
     }
 
     pub fn records_left(&mut self) -> usize {
-        cfdp_records_left(self)
+        // SAFETY: each argument is a reference or a number.
+        unsafe { cfdp_records_left(self) }
     }
 
     pub fn transmit(&mut self, frame: &mut [u8]) -> u32 {
@@ -426,19 +468,23 @@ impl Handle {
     }
 
     pub fn poll(&mut self) -> u32 {
-        cfdp_poll(self)
+        // SAFETY: each argument is a reference or a number.
+        unsafe { cfdp_poll(self) }
     }
 
     pub fn flush(&mut self) -> u32 {
-        cfdp_flush(self)
+        // SAFETY: each argument is a reference or a number.
+        unsafe { cfdp_flush(self) }
     }
 
     pub fn frame_len(&mut self) -> usize {
-        cfdp_frame_len(self)
+        // SAFETY: each argument is a reference or a number.
+        unsafe { cfdp_frame_len(self) }
     }
 
     pub fn frames_ahead(&mut self) -> usize {
-        cfdp_frames_ahead(self)
+        // SAFETY: each argument is a reference or a number.
+        unsafe { cfdp_frames_ahead(self) }
     }
 
     pub fn next_frame(&mut self, frame: &mut [u8]) -> u32 {
@@ -452,23 +498,28 @@ impl Handle {
     }
 
     pub fn set_control_field(&mut self, control: u32) -> u32 {
-        cfdp_set_control_field(self, control)
+        // SAFETY: each argument is a reference or a number.
+        unsafe { cfdp_set_control_field(self, control) }
     }
 
     pub fn control_field(&mut self, file_data: bool, control: &mut u32) -> u32 {
-        cfdp_control_field(self, file_data, control)
+        // SAFETY: each argument is a reference or a number.
+        unsafe { cfdp_control_field(self, file_data, control) }
     }
 
     pub fn counters(&mut self, counts: &mut Counters) -> u32 {
-        cfdp_counters(self, counts)
+        // SAFETY: each argument is a reference or a number.
+        unsafe { cfdp_counters(self, counts) }
     }
 
     pub fn tick(&mut self, now: u64) -> u32 {
-        cfdp_tick(self, now)
+        // SAFETY: each argument is a reference or a number.
+        unsafe { cfdp_tick(self, now) }
     }
 
     pub fn next_timeout(&mut self, deadline: &mut u64) -> u32 {
-        cfdp_next_timeout(self, deadline)
+        // SAFETY: each argument is a reference or a number.
+        unsafe { cfdp_next_timeout(self, deadline) }
     }
 
     pub fn next_indication(&mut self, out: &mut Told, names: &mut [u8]) -> u32 {
@@ -477,7 +528,8 @@ impl Handle {
     }
 
     pub fn file_count(&mut self) -> usize {
-        cfdp_file_count(self)
+        // SAFETY: each argument is a reference or a number.
+        unsafe { cfdp_file_count(self) }
     }
 
     pub fn file(&mut self, place: usize, out: &mut FileInfo, name: &mut [u8]) -> u32 {
@@ -498,7 +550,8 @@ impl Handle {
 
 impl Drop for Handle {
     fn drop(&mut self) {
-        cfdp_close(self);
+        // SAFETY: the handle is open or closed, and isn't used again.
+        unsafe { cfdp_close(self) }
     }
 }
 
@@ -513,7 +566,7 @@ mod heap {
         at: NonNull<c_void>,
     }
 
-    unsafe extern "C" {
+    extern "C" {
         fn malloc(size: usize) -> *mut c_void;
         fn realloc(at: *mut c_void, size: usize) -> *mut c_void;
         fn free(at: *mut c_void);
@@ -523,7 +576,7 @@ mod heap {
         Block { is_there: !at.is_null(), at: NonNull::new(at).unwrap_or(NonNull::dangling()) }
     }
 
-    #[unsafe(no_mangle)]
+    #[no_mangle]
     extern "C" fn rattle_alloc(size: usize, align: usize) -> Block {
         if align > 16 {
             return block(std::ptr::null_mut());
@@ -532,7 +585,7 @@ mod heap {
         block(unsafe { malloc(size.max(1)) })
     }
 
-    #[unsafe(no_mangle)]
+    #[no_mangle]
     extern "C" fn rattle_realloc(at: *mut c_void, _old: usize, size: usize, align: usize) -> Block {
         if align > 16 {
             return block(std::ptr::null_mut());
@@ -541,7 +594,7 @@ mod heap {
         block(unsafe { realloc(at, size.max(1)) })
     }
 
-    #[unsafe(no_mangle)]
+    #[no_mangle]
     extern "C" fn rattle_dealloc(at: *mut c_void) {
         // SAFETY: the library gives a block that `malloc` or `realloc` gave, once.
         unsafe { free(at) }
@@ -551,17 +604,17 @@ mod heap {
 /// The error of the calling thread's last call of the C library, which stations with folders ask
 /// for.
 mod errno {
-    unsafe extern "C" {
-        safe fn __errno_location() -> *mut i32;
+    extern "C" {
+        fn __errno_location() -> *mut i32;
     }
 
-    #[unsafe(no_mangle)]
+    #[no_mangle]
     extern "C" fn rattle_errno() -> i32 {
         // SAFETY: it is the calling thread's own, and stays.
         unsafe { *__errno_location() }
     }
 
-    #[unsafe(no_mangle)]
+    #[no_mangle]
     extern "C" fn rattle_set_errno(error: i32) {
         // SAFETY: it is the calling thread's own, and stays.
         unsafe { *__errno_location() = error }

@@ -1,51 +1,40 @@
-use crate::ffi::{self, Handle, Listed};
-use crate::{Error, File, Id, Station};
+use std::iter::FusedIterator;
 
-/// The frames that a station has to send, those of directives first.
+use crate::error::Error;
+use crate::ffi::{Id, Listed};
+use crate::station::{gave, File, Station};
+
+/// The frames that a station has to send, those of directives first. It ends after an error.
+#[derive(Debug)]
 pub struct Frames<'a> {
     station: &'a mut Station,
     is_over: bool,
 }
 
-impl<'a> Frames<'a> {
-    pub(crate) fn of(station: &'a mut Station) -> Frames<'a> {
-        Frames { station, is_over: false }
-    }
-}
-
-impl Iterator for Frames<'_> {
-    type Item = Result<Vec<u8>, Error>;
-
-    fn next(&mut self) -> Option<Result<Vec<u8>, Error>> {
-        if self.is_over {
-            return None;
-        }
-        let frame = self.station.transmit().transpose();
-        self.is_over = !matches!(frame, Some(Ok(_)));
-        frame
-    }
-}
-
-/// The published files of a station.
+/// The published files of a station. It ends after an error.
+#[derive(Debug)]
 pub struct Files<'a> {
-    station: &'a mut Station,
-    place: usize,
+    station: &'a Station,
+    index: usize,
+    is_over: bool,
 }
 
-impl<'a> Files<'a> {
-    pub(crate) fn of(station: &'a mut Station) -> Files<'a> {
-        Files { station, place: 0 }
-    }
+/// The transactions of a station. It ends after an error.
+#[derive(Debug)]
+pub struct Transactions<'a> {
+    station: &'a Station,
+    cursor: usize,
+    is_over: bool,
 }
 
-impl Iterator for Files<'_> {
-    type Item = File;
-
-    fn next(&mut self) -> Option<File> {
-        let file = self.station.file(self.place)?;
-        self.place += 1;
-        Some(file)
-    }
+/// A transaction that has a record at a station.
+#[derive(Clone, Copy, Debug, PartialEq, Eq)]
+#[non_exhaustive]
+pub struct Transaction {
+    /// Its name.
+    pub id: Id,
+    /// How far it has come.
+    pub phase: Phase,
 }
 
 /// How far a transaction has come.
@@ -64,39 +53,86 @@ pub enum Phase {
     Closed,
 }
 
-impl Phase {
-    fn of(number: u8) -> Option<Phase> {
-        Some(match number {
-            1 => Phase::Sending,
-            2 => Phase::Cancelling,
-            3 => Phase::Receiving,
-            4 => Phase::Finishing,
-            5 => Phase::Closed,
-            _ => return None,
-        })
+/// The next item: what this gives, unless an error came before or nothing is left.
+pub(crate) fn next_of<T>(
+    is_over: &mut bool,
+    give: impl FnOnce() -> Result<Option<T>, Error>,
+) -> Option<Result<T, Error>> {
+    if *is_over {
+        return None;
+    }
+    let item = give().transpose();
+    *is_over = !matches!(item, Some(Ok(_)));
+    item
+}
+
+impl<'a> Frames<'a> {
+    pub(crate) fn of(station: &'a mut Station) -> Frames<'a> {
+        Frames { station, is_over: false }
     }
 }
 
-/// The transactions of a station.
-pub struct Transactions<'a> {
-    handle: &'a mut Handle,
-    cursor: usize,
+impl Iterator for Frames<'_> {
+    type Item = Result<Vec<u8>, Error>;
+
+    fn next(&mut self) -> Option<Result<Vec<u8>, Error>> {
+        let station = &mut *self.station;
+        next_of(&mut self.is_over, || station.transmit())
+    }
 }
 
+impl FusedIterator for Frames<'_> {}
+
+impl<'a> Files<'a> {
+    pub(crate) fn of(station: &'a Station) -> Files<'a> {
+        Files { station, index: 0, is_over: false }
+    }
+}
+
+impl Iterator for Files<'_> {
+    type Item = Result<File, Error>;
+
+    fn next(&mut self) -> Option<Result<File, Error>> {
+        let index = self.index;
+        self.index += 1;
+        next_of(&mut self.is_over, || self.station.file(index))
+    }
+}
+
+impl FusedIterator for Files<'_> {}
+
 impl<'a> Transactions<'a> {
-    pub(crate) fn of(handle: &'a mut Handle) -> Transactions<'a> {
-        Transactions { handle, cursor: 0 }
+    pub(crate) fn of(station: &'a Station) -> Transactions<'a> {
+        Transactions { station, cursor: 0, is_over: false }
     }
 }
 
 impl Iterator for Transactions<'_> {
-    type Item = (Id, Phase);
+    type Item = Result<Transaction, Error>;
 
-    fn next(&mut self) -> Option<(Id, Phase)> {
-        let mut listed = Listed::default();
-        if self.handle.transactions(&mut self.cursor, &mut listed) != ffi::OK {
-            return None;
+    fn next(&mut self) -> Option<Result<Transaction, Error>> {
+        let (cursor, station) = (&mut self.cursor, self.station);
+        next_of(&mut self.is_over, || {
+            let mut listed = Listed::default();
+            if !gave(station.handle().borrow_mut().transactions(cursor, &mut listed))? {
+                return Ok(None);
+            }
+            Ok(Some(Transaction { id: listed.id, phase: Phase::of(listed.phase)? }))
+        })
+    }
+}
+
+impl FusedIterator for Transactions<'_> {}
+
+impl Phase {
+    fn of(number: u8) -> Result<Phase, Error> {
+        match number {
+            1 => Ok(Phase::Sending),
+            2 => Ok(Phase::Cancelling),
+            3 => Ok(Phase::Receiving),
+            4 => Ok(Phase::Finishing),
+            5 => Ok(Phase::Closed),
+            _ => Err(Error::Unexpected(number.into())),
         }
-        Some((listed.id, Phase::of(listed.phase)?))
     }
 }

@@ -1,22 +1,19 @@
 //! Frames with all fields, and PDUs with a CRC: what a damaged frame had is asked for again.
-use cfdp::{Config, Error, Lane, Link, Station};
+use cfdp::{decode, ChecksumType, Config, Content, Error, Lane, PduError, Station};
 
 const OCTETS: [u8; 5000] = [7; 5000];
 
 /// Both stations, whose files have this type of checksum.
-fn pair(checksum: u8) -> Result<(Station, Station), Error> {
-    let plain = cfdp::defaults();
-    let guarded = |link| Link { insert_zone: 64, control_field: 1, error_control: 1, ..link };
-    let (sends, receives) = (guarded(plain.sends), guarded(plain.receives));
-    let one = Config { sends, receives, pdu_crc: 1, checksum, ..plain };
-    let two = Config {
-        entity: one.peer,
-        peer: one.entity,
-        sends: one.receives,
-        receives: one.sends,
-        ..one
-    };
-    Ok((Station::open(&one)?, Station::open(&two)?))
+fn pair(checksum: ChecksumType) -> Result<(Station, Station), Error> {
+    let mut one = Config::new(1, 2);
+    for link in [&mut one.sends, &mut one.receives] {
+        link.insert_zone = 64;
+        link.control_field = true;
+        link.error_control = true;
+    }
+    one.pdu_crc = true;
+    one.checksum = checksum;
+    Ok((Station::open(&one)?, Station::open(&one.of_peer())?))
 }
 
 /// All that is due goes over.
@@ -32,13 +29,15 @@ fn pass_damaged(from: &mut Station, to: &mut Station) -> Result<(), Error> {
     let mut frames = from.frames().collect::<Result<Vec<_>, _>>()?;
     let struck = frames.iter_mut().find(|it| it[1] & 63 == 7).expect("file data are due");
     struck[90] ^= 0x80;
-    frames.iter().for_each(|frame| to.receive(frame));
+    for frame in &frames {
+        to.receive(frame);
+    }
     Ok(())
 }
 
 #[test]
 fn damage_is_mended() -> Result<(), Error> {
-    for checksum in [2, 3] {
+    for checksum in [ChecksumType::Castagnoli, ChecksumType::Ieee] {
         let (mut one, mut two) = pair(checksum)?;
         assert_eq!(one.frame_len(), 264 + 64 + 4 + 2);
         assert_eq!(two.control_field(Lane::Directives), None);
@@ -52,7 +51,7 @@ fn damage_is_mended() -> Result<(), Error> {
         pass(&mut two, &mut one)?;
         pass(&mut one, &mut two)?;
         assert_ne!(one.counters().sent.file_data_again, 0);
-        assert_eq!(two.file(0).map(|it| it.octets), Some(OCTETS.to_vec()));
+        assert_eq!(two.file(0)?.map(|it| it.octets), Some(OCTETS.to_vec()));
         assert_eq!(one.control_field(Lane::Directives), Some(0));
         assert_eq!(one.control_field(Lane::FileData), None);
     }
@@ -61,22 +60,38 @@ fn damage_is_mended() -> Result<(), Error> {
 
 #[test]
 fn wrong_fields() {
-    let refused = |config: Config| Station::open(&config).err();
-    let plain = cfdp::defaults();
-    let sends = Link { insert_zone: 65, ..plain.sends };
-    assert_eq!(refused(Config { sends, ..plain }), Some(Error::BadField("sends.insert_zone")));
-    let receives = Link { error_control: 2, ..plain.receives };
-    let told = Some(Error::BadField("receives.error_control"));
-    assert_eq!(refused(Config { receives, ..plain }), told);
-    assert_eq!(refused(Config { pdu_crc: 2, ..plain }), Some(Error::BadField("pdu_crc")));
+    fn refused(change: impl FnOnce(&mut Config)) -> String {
+        let mut config = Config::default();
+        change(&mut config);
+        match Station::open(&config) {
+            Err(Error::BadField(field)) => format!("{} {}", field.name(), field.range()),
+            other => format!("{other:?}"),
+        }
+    }
+    assert_eq!(refused(|it| it.sends.insert_zone = 65), "sends.insert_zone 0 to 64");
+    assert_eq!(refused(|it| it.receives.apid = 2047), "receives.apid 0 to 2046");
+    assert_eq!(refused(|it| it.peer = it.entity), "peer in id_width octets, and not entity");
+    assert_eq!(refused(|it| it.segment = 0), "segment 1 to 4096");
+    assert_eq!(refused(|it| it.capacity = 8191), "capacity 8192 to 65536");
 }
 
 #[test]
 fn crc_of_a_pdu() -> Result<(), Error> {
     let mut pdu = *b"\x32\x00\x07\x13\x00\x01\x00\x00\x00\x01\x00\x02\x00\x00\x00\x00h\xD5\xA0";
-    let told = cfdp::decode(&pdu)?;
-    assert_eq!((told.data_len, told.crc), (1, 1));
+    let told = decode(&pdu)?;
+    assert_eq!((told.content, told.crc), (Content::FileData { offset: 0, data_len: 1 }, true));
     pdu[16] = b'i';
-    assert_eq!(cfdp::decode(&pdu), Err(Error::BadPdu(3)));
+    assert_eq!(decode(&pdu), Err(Error::BadPdu(PduError::Crc)));
+    Ok(())
+}
+
+#[test]
+fn room_of_another_length() -> Result<(), Error> {
+    let mut station = Station::open(&Config::new(1, 2))?;
+    let mut frame = vec![0; station.frame_len() - 1];
+    assert_eq!(station.transmit_into(&mut frame), Err(Error::NoRoom));
+    assert_eq!(station.next_frame_into(&mut frame), Err(Error::NoRoom));
+    assert_eq!(station.transmit(), Ok(None));
+    assert_eq!(station.next_frame(), Ok(None));
     Ok(())
 }

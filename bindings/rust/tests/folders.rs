@@ -37,17 +37,10 @@ fn pass(from: &mut Station, to: &mut Station) -> Result<(), Error> {
 #[test]
 fn files_of_each_size() -> Result<(), Box<dyn std::error::Error>> {
     let room = Room::new("sizes")?;
-    let one = cfdp::defaults();
-    let two = Config {
-        entity: one.peer,
-        peer: one.entity,
-        sends: one.receives,
-        receives: one.sends,
-        ..one
-    };
+    let one = Config::default();
     let (outbox, inbox, back) = (room.path("out"), room.path("in"), room.path("back"));
     let mut sender = Station::open_folders(&one, &outbox, &back)?;
-    let mut receiver = Station::open_folders(&two, &outbox, &inbox)?;
+    let mut receiver = Station::open_folders(&one.of_peer(), &outbox, &inbox)?;
     let files = [("none", vec![]), ("one", vec![7]), ("long", vec![9; 5_000_000])];
     for (name, octets) in &files {
         fs::write(outbox.join(name), octets)?;
@@ -61,6 +54,9 @@ fn files_of_each_size() -> Result<(), Box<dyn std::error::Error>> {
         assert_eq!(&fs::read(inbox.join(name))?, octets);
     }
     assert_eq!(receiver.file_count(), 0);
+    assert_eq!(receiver.file(0), Err(Error::InFolders));
+    assert!(receiver.files().eq([Err(Error::InFolders)]));
+    assert_eq!(receiver.remove_file(b"one"), Err(Error::InFolders));
     assert_eq!(sender.add(b"a", b"b"), Err(Error::InFolders));
     Ok(())
 }
@@ -68,7 +64,7 @@ fn files_of_each_size() -> Result<(), Box<dyn std::error::Error>> {
 #[test]
 fn refusals() -> Result<(), Box<dyn std::error::Error>> {
     let room = Room::new("refusals")?;
-    let config = cfdp::defaults();
+    let config = Config::default();
     let open = |outbox: &Path, inbox: &Path| Station::open_folders(&config, outbox, inbox).err();
     let (outbox, inbox, nowhere) = (room.path("out"), room.path("in"), room.path("nowhere"));
     assert_eq!(open(&nowhere, &inbox), Some(Error::NoOutbox));

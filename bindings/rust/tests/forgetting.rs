@@ -1,5 +1,5 @@
 //! Stations that stay up: they let go of what is over.
-use cfdp::{Config, Error, Id, Indication, Polled, Station};
+use cfdp::{Config, Error, Handler, Id, Polled, Station};
 
 const MOST_RECORDS: u64 = 4096;
 const NAME: &[u8] = b"a";
@@ -7,19 +7,14 @@ const NAME: &[u8] = b"a";
 /// Station 1 or 2. It sends a Finished again after 1 unit of time, once, and then abandons the
 /// transaction.
 fn config(number: u8) -> Config {
-    let one = cfdp::defaults();
-    let two = Config {
-        entity: one.peer,
-        peer: one.entity,
-        sends: one.receives,
-        receives: one.sends,
-        ..one
-    };
-    Config {
-        finished_time: 1,
-        finished_limit: 1,
-        on_ack_limit: 3,
-        ..if number == 1 { one } else { two }
+    let mut config = Config::new(1, 2);
+    config.finished_time = 1;
+    config.finished_limit = 1;
+    config.on_ack_limit = Handler::Abandon;
+    if number == 1 {
+        config
+    } else {
+        config.of_peer()
     }
 }
 
@@ -37,7 +32,9 @@ fn frames_of(station: &mut Station) -> Result<Vec<Vec<u8>>, Error> {
         let polled = station.poll()?;
         if polled != Polled::Moved {
             station.flush();
-            frames.extend(std::iter::from_fn(|| station.next_frame()));
+            while let Some(frame) = station.next_frame()? {
+                frames.push(frame);
+            }
         }
         if polled == Polled::Nothing {
             return Ok(frames);
@@ -48,7 +45,9 @@ fn frames_of(station: &mut Station) -> Result<Vec<Vec<u8>>, Error> {
 /// All that is due goes over. How many frames that was.
 fn pass(from: &mut Station, to: &mut Station) -> Result<usize, Error> {
     let frames = frames_of(from)?;
-    frames.iter().for_each(|frame| to.receive(frame));
+    for frame in &frames {
+        to.receive(frame);
+    }
     Ok(frames.len())
 }
 
@@ -62,10 +61,7 @@ fn exchange(one: &mut Station, two: &mut Station) -> Result<(), Error> {
 
 /// How many transactions a station tells that went well.
 fn ended_well(station: &mut Station) -> usize {
-    let is_good = |told: &Indication| {
-        matches!(told, Indication::Finished { condition: 0, is_retained: true, .. })
-    };
-    station.indications().filter(is_good).count()
+    station.indications().filter(|told| matches!(told, Ok(it) if it.is_complete())).count()
 }
 
 #[test]
@@ -103,7 +99,7 @@ fn makes_room() -> Result<(), Error> {
     exchange(&mut one, &mut two)?;
     assert_eq!((ended_well(&mut one), ended_well(&mut two)), (1, 1));
     assert_eq!(two.file_count(), 1);
-    assert_eq!((two.remove_file(NAME), two.remove_file(NAME)), (true, false));
+    assert_eq!((two.remove_file(NAME), two.remove_file(NAME)), (Ok(true), Ok(false)));
     assert_eq!(two.file_count(), 0);
     Ok(())
 }

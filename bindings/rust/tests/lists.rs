@@ -4,21 +4,16 @@ use cfdp::{Config, Error, Phase, Station};
 const OCTETS: &[u8] = b"hello, hello";
 
 fn pair() -> Result<(Station, Station), Error> {
-    let one = cfdp::defaults();
-    let two = Config {
-        entity: one.peer,
-        peer: one.entity,
-        sends: one.receives,
-        receives: one.sends,
-        ..one
-    };
-    Ok((Station::open(&one)?, Station::open(&two)?))
+    let one = Config::new(1, 2);
+    Ok((Station::open(&one)?, Station::open(&one.of_peer())?))
 }
 
 /// All that is due goes over. How many frames that was.
 fn pass(from: &mut Station, to: &mut Station) -> Result<usize, Error> {
     let frames = from.frames().collect::<Result<Vec<_>, _>>()?;
-    frames.iter().for_each(|it| to.receive(it));
+    for it in &frames {
+        to.receive(it);
+    }
     Ok(frames.len())
 }
 
@@ -29,17 +24,16 @@ fn one_by_one() -> Result<(), Error> {
     let ids = [one.put(b"a", b"b")?, one.put(b"a", b"c")?, one.put(b"a", b"d")?];
     one.cancel(ids[2])?;
     let phases = [Phase::Sending, Phase::Sending, Phase::Cancelling];
-    assert_eq!(
-        one.transactions().collect::<Vec<_>>(),
-        [(ids[0], phases[0]), (ids[1], phases[1]), (ids[2], phases[2]),]
-    );
+    let listed = one.transactions().collect::<Result<Vec<_>, _>>()?;
+    assert!(listed.iter().map(|it| (it.id, it.phase)).eq(ids.into_iter().zip(phases)));
     assert_eq!(one.records_left(), 4096 - ids.len());
     assert!(pass(&mut one, &mut two)? > 0);
-    assert_eq!(two.files().map(|it| it.name).collect::<Vec<_>>(), [b"b", b"c"]);
-    assert!(two.files().all(|it| it.octets == OCTETS));
+    let files = two.files().collect::<Result<Vec<_>, _>>()?;
+    assert!(files.iter().map(|it| it.name.as_slice()).eq([b"b", b"c"]));
+    assert!(files.iter().all(|it| it.octets == OCTETS));
     pass(&mut two, &mut one)?;
     pass(&mut one, &mut two)?;
-    assert!(one.transactions().all(|(_, phase)| phase == Phase::Closed));
+    assert!(one.transactions().all(|it| matches!(it, Ok(it) if it.phase == Phase::Closed)));
     one.forget_closed()?;
     assert_eq!(one.transactions().count(), 0);
     assert_eq!(pass(&mut one, &mut two)?, 0);
@@ -57,8 +51,17 @@ fn causes() -> Result<(), Error> {
     Ok(())
 }
 
+/// What only looks at a station needs no `&mut`.
 #[test]
-fn another_struct() {
-    let config = Config { size: 8, ..cfdp::defaults() };
-    assert_eq!(Station::open(&config).err(), Some(Error::BadField("size")));
+fn looks_at_a_station() -> Result<(), Error> {
+    let (mut one, two) = pair()?;
+    one.add(b"a", OCTETS)?;
+    let id = one.put(b"a", b"b")?;
+    let (seen, also): (&Station, &Station) = (&one, &one);
+    for it in seen.transactions() {
+        assert_eq!((it?.id, also.was_forgotten(id), also.records_left()), (id, false, 4095));
+    }
+    assert_eq!((seen.next_timeout(), seen.counters()), (None, two.counters()));
+    assert_eq!((two.file_count(), two.file(0)), (0, Ok(None)));
+    Ok(())
 }

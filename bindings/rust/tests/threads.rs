@@ -1,20 +1,13 @@
 //! Stations that go from one thread to another.
-use cfdp::{Config, Error, Phase, Station};
-use std::sync::mpsc::{Receiver, Sender, channel};
+use cfdp::{Config, Error, File, Phase, Station};
+use std::sync::mpsc::{channel, Receiver, Sender};
 use std::thread;
 
 const LEN: usize = 50_000;
 
 fn pair() -> Result<(Station, Station), Error> {
-    let one = cfdp::defaults();
-    let two = Config {
-        entity: one.peer,
-        peer: one.entity,
-        sends: one.receives,
-        receives: one.sends,
-        ..one
-    };
-    Ok((Station::open(&one)?, Station::open(&two)?))
+    let one = Config::new(1, 2);
+    Ok((Station::open(&one)?, Station::open(&one.of_peer())?))
 }
 
 /// What a thread answers that has this to do.
@@ -23,7 +16,8 @@ fn on_a_thread<T: Send + 'static>(work: impl FnOnce() -> T + Send + 'static) -> 
 }
 
 fn has_the_file(station: &mut Station) -> bool {
-    station.files().map(|it| (it.name, it.octets)).eq([(b"b".to_vec(), vec![7; LEN])])
+    let is_it = |it: &File| it.name == b"b" && it.octets == vec![7; LEN];
+    station.file_count() == 1 && matches!(station.file(0), Ok(Some(it)) if is_it(&it))
 }
 
 #[test]
@@ -39,18 +33,23 @@ fn goes_to_threads_and_back() -> Result<(), Error> {
         assert!(round == 0 || frames.len() + answers.len() > 0);
         one = sent.1;
         two = on_a_thread(move || {
-            frames.iter().for_each(|frame| two.receive(frame));
+            for frame in &frames {
+                two.receive(frame);
+            }
             two
         });
-        answers.iter().for_each(|frame| one.receive(frame));
+        for frame in &answers {
+            one.receive(frame);
+        }
     }
-    assert!(one.transactions().all(|(_, phase)| phase == Phase::Closed));
+    assert!(one.transactions().all(|it| matches!(it, Ok(it) if it.phase == Phase::Closed)));
     assert!(has_the_file(&mut two));
     on_a_thread(move || drop((one, two)));
     Ok(())
 }
 
 /// Sends all that is due, and takes what comes, until all is over.
+#[allow(clippy::needless_pass_by_value)] // it drops its ends of the channels
 fn sends(
     mut station: Station,
     to: Sender<Vec<u8>>,
@@ -60,7 +59,7 @@ fn sends(
         for frame in station.frames() {
             to.send(frame?).expect("the peer takes it");
         }
-        if station.transactions().all(|(_, phase)| phase == Phase::Closed) {
+        if station.transactions().all(|it| matches!(it, Ok(it) if it.phase == Phase::Closed)) {
             return Ok(station);
         }
         station.receive(&from.recv().expect("the peer answers"));
@@ -68,6 +67,7 @@ fn sends(
 }
 
 /// Takes each frame, and answers, until no more comes.
+#[allow(clippy::needless_pass_by_value)] // it drops its ends of the channels
 fn answers(
     mut station: Station,
     to: Sender<Vec<u8>>,
