@@ -1,0 +1,12 @@
+mod Lost
+mod Budgets
+mod Expiring
+mod Timers
+mod Fired
+mod Tracking
+mod Ticking
+mod Outlasting
+mod Ends
+mod Waiting
+mod Through
+mod Completing

@@ -1,0 +1,3 @@
+pub mod Outage
+pub mod Tries
+pub mod Spared
