@@ -27,25 +27,25 @@ module _ (all : CleanLaws) (w a b c d : WorldState) (before between : List Happe
   -- of a put
   through : (s : Side) (put : Put) → IsPutOf s put w → IsWaiting put.id w → AreOfOutage before w a → AreCalm put.id w before → GetsThrough put.id a b → AreOfOutage between b c →
       AreCalm put.id b between → GetsThrough put.id c d
-      → MayTry put.id (λ k. expiries put.id w before k + expiries put.id b between k) w → IsCompleted put.id d
+      → MayTry put.id (λ t k. expiries put.id w before t k + expiries put.id b between t k) w → IsCompleted put.id d
   through s put own waits are calm g are1 calm1 g1 may =
-      let n : Kind → ℕ = expiries put.id w before in
-      let m : Kind → ℕ = expiries put.id b between in
+      let n : Side → Kind → ℕ = expiries put.id w before in
+      let m : Side → Kind → ℕ = expiries put.id b between in
       let x = has-exchange s put w r.sound r.kept.course own in
-      let o : Outlasts all false s put (suc (m EofAck)) (suc (m Nak)) (suc (m FinishedAck)) w a x.0 =
-      outlasts all false s put before w a r own x.0 x.1 (suc (m EofAck)) (suc (m Nak)) (suc (m FinishedAck)) are calm
-      (fewer false (policy_at s w).limits (policy_at (other s) w).limits put (suc (n EofAck + m EofAck)) (suc (n Nak + m Nak)) (suc (n FinishedAck + m FinishedAck))
-      (n EofAck + suc (m EofAck)) (n Nak + suc (m Nak)) (n FinishedAck + suc (m FinishedAck)) x.0 (omega arith) (omega arith) (omega arith)
-      (first-holds false s put w r own x.0 x.1 waits (λ k. n k + m k) may)) in
+      let o : Outlasts all false s put (suc (m s EofAck)) (suc (m (other s) Nak)) (suc (m (other s) FinishedAck)) w a x.0 =
+      outlasts all false s put before w a r own x.0 x.1 (suc (m s EofAck)) (suc (m (other s) Nak)) (suc (m (other s) FinishedAck)) are calm
+      (fewer false (policy_at s w).limits (policy_at (other s) w).limits put (suc (n s EofAck + m s EofAck)) (suc (n (other s) Nak + m (other s) Nak)) (suc (n (other s) FinishedAck + m (other s) FinishedAck))
+      (n s EofAck + suc (m s EofAck)) (n (other s) Nak + suc (m (other s) Nak)) (n (other s) FinishedAck + suc (m (other s) FinishedAck)) x.0 (omega arith) (omega arith) (omega arith)
+      (first-holds false s put w r own x.0 x.1 waits (λ t k. n t k + m t k) may)) in
       let e0 : Exchange = o.comes.end in
-      let first : Gains all s put (m EofAck) (m Nak) (m FinishedAck) a b e0 =
-      gains all a b o.reached (m EofAck) (m Nak) (m FinishedAck) put g s o.own e0 o.comes.has
-      (limits-so false put (suc (m EofAck)) (suc (m Nak)) (suc (m FinishedAck)) s w a e0 o.policy o.comes.holds) in
+      let first : Gains all s put (m s EofAck) (m (other s) Nak) (m (other s) FinishedAck) a b e0 =
+      gains all a b o.reached (m s EofAck) (m (other s) Nak) (m (other s) FinishedAck) put g s o.own e0 o.comes.has
+      (limits-so false put (suc (m s EofAck)) (suc (m (other s) Nak)) (suc (m (other s) FinishedAck)) s w a e0 o.policy o.comes.holds) in
       let e1 : Exchange = first.comes.end in
-      let holds1 = limits-so false put (suc (m EofAck)) (suc (m Nak)) (suc (m FinishedAck)) s a b e1 first.policy first.comes.holds in
+      let holds1 = limits-so false put (suc (m s EofAck)) (suc (m (other s) Nak)) (suc (m (other s) FinishedAck)) s a b e1 first.policy first.comes.holds in
       let o1 : Outlasts all false s put 1 1 1 b c e1 =
       outlasts all false s put between b c first.reached first.own e1 first.comes.has 1 1 1 are1 calm1
-      (fewer false (policy_at s b).limits (policy_at (other s) b).limits put (suc (m EofAck)) (suc (m Nak)) (suc (m FinishedAck)) (m EofAck + 1) (m Nak + 1) (m FinishedAck + 1) e1
+      (fewer false (policy_at s b).limits (policy_at (other s) b).limits put (suc (m s EofAck)) (suc (m (other s) Nak)) (suc (m (other s) FinishedAck)) (m s EofAck + 1) (m (other s) Nak + 1) (m (other s) FinishedAck + 1) e1
       (omega arith) (omega arith) (omega arith) holds1) in
       let e2 : Exchange = o1.comes.end in
       let last : Gains all s put 0 0 0 c d e2 =
@@ -61,9 +61,9 @@ module _ (all : CleanLaws) (w a b c d : WorldState) (before between : List Happe
       completed-by false s put d last.reached last.own last.comes.end last.comes.has 1 1 1 (limits-so false put 1 1 1 s c d last.comes.end last.policy last.comes.holds) closed
 
   pub completes : (id : TransactionId) → IsWaiting id w → AreOfOutage before w a → AreCalm id w before → GetsThrough id a b → AreOfOutage between b c → AreCalm id b between → GetsThrough id c d
-      → MayTry id (λ k. expiries id w before k + expiries id b between k) w → IsCompleted id d
+      → MayTry id (λ t k. expiries id w before t k + expiries id b between t k) w → IsCompleted id d
   completes id waits are calm g are1 calm1 g1 may =
       let t : IsTracked id w = tracked id w r waits.unfinished in
       subst (λ i. IsWaiting i w → AreOfOutage before w a → AreCalm i w before → GetsThrough i a b → AreOfOutage between b c → AreCalm i b between → GetsThrough i c d
-      → MayTry i (λ k. expiries i w before k + expiries i b between k) w → IsCompleted i d) t.of
+      → MayTry i (λ t k. expiries i w before t k + expiries i b between t k) w → IsCompleted i d) t.of
       (λ waits are calm g are1 calm1 g1 may. through t.side t.put t.own waits are calm g are1 calm1 g1 may) waits are calm g are1 calm1 g1 may

@@ -54,7 +54,7 @@ tracked id w r o = at (record_of id (entity_at o.side w).table.records) refl o.s
     at (Some (Sends x)) is h = (let t : IsSentHere o.side id x w = sent-here w r.sound o.side id x is in record { side = o.side; put = t.put; of = t.of; own = t.own })
     at (Some (Receives x m)) is h = (let t : IsReceivedHere o.side id x w = received-here w r.sound r.kept o.side id x m is in record { side = other o.side; put = t.put; of = t.of; own = t.own })
 
-module _ (strict : Bool) (s : Side) (put : Put) (w : WorldState) (r : IsReached w) (own : IsPutOf s put w) (e : Exchange) (has : HasExchange s put w e) (waits : IsWaiting put.id w) (n : Kind → ℕ)
+module _ (strict : Bool) (s : Side) (put : Put) (w : WorldState) (r : IsReached w) (own : IsPutOf s put w) (e : Exchange) (has : HasExchange s put w e) (waits : IsWaiting put.id w) (n : Side → Kind → ℕ)
     (may : MayTry put.id n w) where
   sender-waits : IsWaitingRecord (policy_at s w).limits (Sends e.sender)
   sender-waits = subst (IsWaitingIn (policy_at s w).limits) has.is.is_sender (waits.all s).record_waits
@@ -76,13 +76,13 @@ module _ (strict : Bool) (s : Side) (put : Put) (w : WorldState) (r : IsReached 
   awake-there (Some r) (Some (Sends x)) is h = absurd is
   awake-there (Some r) (Some (Receives t m)) is h = ap (λ (u : ReceiverState). u.suspended) is ∙ h.awake
 
-  tries-here : HoldsHere strict (policy_at s w).limits (suc (n EofAck)) e.sender
+  tries-here : HoldsHere strict (policy_at s w).limits (suc (n s EofAck)) e.sender
   tries-here undone = by strict e.sender.phase refl undone
     where
-      low : is_open_sender e.sender.phase ≡ true → e.sender.count + suc (n EofAck) ≤ (policy_at s w).limits.eof
-      low open_ = (let few : e.sender.count + n EofAck < (policy_at s w).limits.eof = subst (HasTriesIn (policy_at s w).limits n) has.is.is_sender (may s) open_ in omega (arith, few))
+      low : is_open_sender e.sender.phase ≡ true → e.sender.count + suc (n s EofAck) ≤ (policy_at s w).limits.eof
+      low open_ = (let few : e.sender.count + n s EofAck < (policy_at s w).limits.eof = subst (HasTriesIn (policy_at s w).limits (n s)) has.is.is_sender (may s) open_ in omega (arith, few))
 
-      by : (strict : Bool) (p : SenderPhase) → e.sender.phase ≡ p → is_done strict e.sender ≡ false → e.sender.count + suc (n EofAck) ≤ (policy_at s w).limits.eof
+      by : (strict : Bool) (p : SenderPhase) → e.sender.phase ≡ p → is_done strict e.sender ≡ false → e.sender.count + suc (n s EofAck) ≤ (policy_at s w).limits.eof
       by strict sending.Sending is undone = low (ap is_open_sender is)
       by strict sending.Cancelling is undone = low (ap is_open_sender is)
       by true sending.Closed is undone = absurd (both_ways (is_done true e.sender) undone (ap (λ p. not (is_open_sender p)) is))
@@ -93,22 +93,22 @@ module _ (strict : Bool) (s : Side) (put : Put) (w : WorldState) (r : IsReached 
   open-receiver receiving.Finishing h = refl
   open-receiver receiving.Closed h = absurd (false≢true (sym h))
 
-  tries-there : (o : Option ReceiverState) (q : Option Seen) → IsReceiverIn q o → HasTriesIn (policy_at (other s) w).limits n q →
-      HoldsThere (policy_at (other s) w).limits (suc (n Nak)) (suc (n FinishedAck)) o
-  tries-there None None is h = (let a : n Nak < (policy_at (other s) w).limits.nak = h.0 in let b : n FinishedAck < (policy_at (other s) w).limits.finished = h.1 in (omega (arith, a), omega (arith, b)))
+  tries-there : (o : Option ReceiverState) (q : Option Seen) → IsReceiverIn q o → HasTriesIn (policy_at (other s) w).limits (n (other s)) q →
+      HoldsThere (policy_at (other s) w).limits (suc (n (other s) Nak)) (suc (n (other s) FinishedAck)) o
+  tries-there None None is h = (let a : n (other s) Nak < (policy_at (other s) w).limits.nak = h.0 in let b : n (other s) FinishedAck < (policy_at (other s) w).limits.finished = h.1 in (omega (arith, a), omega (arith, b)))
   tries-there None (Some (Sends x)) is h = absurd is
   tries-there None (Some (Receives t m)) is h = absurd is
   tries-there (Some r) None is h = absurd is
   tries-there (Some r) (Some (Sends x)) is h = absurd is
   tries-there (Some r) (Some (Receives t m)) is h = λ open_. (
       let k = h (open-receiver t.phase (ap (λ (u : ReceiverState). is_closed u) (sym is) ∙ open_)) in
-      let a : t.nak_count + n Nak < (policy_at (other s) w).limits.nak = k.0 in
-      let b : t.finished_count + n FinishedAck < (policy_at (other s) w).limits.finished = k.1 in
+      let a : t.nak_count + n (other s) Nak < (policy_at (other s) w).limits.nak = k.0 in
+      let b : t.finished_count + n (other s) FinishedAck < (policy_at (other s) w).limits.finished = k.1 in
       let naks : r.nak_count ≡ t.nak_count = ap (λ (u : ReceiverState). u.nak_count) is in
       let finisheds : r.finished_count ≡ t.finished_count = ap (λ (u : ReceiverState). u.finished_count) is in
       (omega (arith, a, naks), omega (arith, b, finisheds)))
 
-  pub first-holds : Holds strict (policy_at s w).limits (policy_at (other s) w).limits put (suc (n EofAck)) (suc (n Nak)) (suc (n FinishedAck)) e
+  pub first-holds : Holds strict (policy_at s w).limits (policy_at (other s) w).limits put (suc (n s EofAck)) (suc (n (other s) Nak)) (suc (n (other s) FinishedAck)) e
   first-holds =
       let c : IsCourse put false false false false e.sender e.receiver e.forth e.back e.told e.told_there = exchange-true s put w r.sound r.kept.course own course-laws unspoiled e has in
       record {

@@ -10,3 +10,6 @@ mod Ends
 mod Waiting
 mod Through
 mod Completing
+mod Deadlines
+mod Lasting
+mod InTime

@@ -1,18 +1,21 @@
 -- A transaction that may try again in all events of an outage, from its first world to its last one.
-use Rattle.std.proofs.Common.{◌≡◌, ◌⊎◌, inl, inr, ℕ, ◌+◌, ◌≤◌, Bool, true, false, List, [], ◌∷◌, length, refl, sym, ap, subst, ◌∙◌, arith}
+use Rattle.std.proofs.Common.{◌≡◌, ◌⊎◌, inl, inr, ℕ, ◌+◌, ◌≤◌, ◌&&◌, Bool, true, false, List, [], ◌∷◌, length, refl, sym, ap, subst, ◌∙◌, arith}
 use Rattle.aos_frame.specs.declared.config.Lane.{Lane}
 use Rattle.cfdp_directives.specs.declared.user.limits.Limits.{Limits}
 use Rattle.cfdp_directives.specs.declared.user.policy.Policy.{Policy}
 use Rattle.cfdp_directives.specs.User.Put.{Put}
 use Rattle.cfdp_timers.specs.declared.kind.Kind.{Kind}
 use Rattle.cfdp_timers.specs.declared.kind.Kind.TheVariants.{EofAck, Nak, FinishedAck, Inactivity}
+use Rattle.cfdp_timers.specs.Due.{is_due}
 use Rattle.cfdp_entity.specs.Entity.{Counted, EntityState}
 use Rattle.station_pair.specs.declared.side.Side.{Side}
+use Rattle.station_pair.specs.declared.side.Side.TheVariants.{One, Two}
 use Rattle.station_pair.specs.Stations.{other}
 use Rattle.link_sim.specs.declared.event.Event.{Event}
 use Rattle.link_sim.specs.declared.event.Event.TheVariants as event
 use Rattle.link_sim.specs.declared.event.Applied.{Applied}
 use Rattle.link_sim.specs.Found.{HasExchange, IsPutOf, RunsTo}
+use Rattle.link_sim.specs.Recovering.{armed_at}
 use Rattle.link_sim.specs.Runs.{Exchange, IsItsSender, Runs}
 use Rattle.link_sim.specs.Settling.{IsOfSettling, KeepsAll, all_shortages}
 use Rattle.link_sim.specs.Waiting.{policy_at}
@@ -27,10 +30,10 @@ use Rattle.link_sim.proofs.Runs.World.{puts-kept, settles-run}
 use Rattle.link_sim.proofs.Stages.Keep.{done-runs}
 use Rattle.link_sim.proofs.Stages.Runs.{runs-course}
 use Rattle.outages.specs.Outage.{AreOfOutage, Happening, IsOfOutage}
-use Rattle.outages.specs.Tries.{AreCalm, IsCalm, expires_by, expiries, one_if}
+use Rattle.outages.specs.Tries.{AreCalm, IsCalm, expires_at, expiries, is_side, one_if, time_told}
 use Rattle.outages.proofs.Budgets.{fewer-here, fewer-there, runs-here, runs-there}
 use Rattle.outages.proofs.Lost.{IsLeft, Loses, left-after}
-use Rattle.outages.proofs.Ticking.{ticks-here, ticks-there}
+use Rattle.outages.proofs.Ticking.{due, ticks-here, ticks-there}
 use Rattle.outages.proofs.Tracking.{Comes, HasLost, Holds, IsReached, Onward, damage-lost, lost-holds, onward-both, onward-same, policy-next, reached-next, strike-lost}
 
 -- ---- with fewer tries
@@ -61,6 +64,14 @@ module _ (strict : Bool) (here there : Limits) (put : Put) (eof nak finished : �
     (let d = done-runs n put a b runs in record { answered = d.0; closed = d.1 }),
   )
 
+side-same : (s : Side) → is_side s s ≡ true
+side-same One = refl
+side-same Two = refl
+
+side-twice : (s : Side) → is_side (other (other s)) s ≡ true
+side-twice One = refl
+side-twice Two = refl
+
 module _ (all : CleanLaws) where
   -- ---- one event
   module _ (strict : Bool) (s : Side) (put : Put) (old new : WorldState) (r : IsReached old) (next : IsReached new) (own : IsPutOf s put old) (own_then : IsPutOf s put new) (e : Exchange)
@@ -89,33 +100,41 @@ module _ (all : CleanLaws) where
 
   -- ---- the time
   module _ (T : Side) (now : ℕ) (old new : WorldState) (r : IsReached old) (next : IsReached new) (h : TellsTime T now old new) where
-    abbrev by_tick : Put → Kind → ℕ
-    by_tick put k = one_if (expires_by put.id k old (event.Tick T now))
+    abbrev by_tick : Put → Side → Kind → ℕ
+    by_tick put s k = one_if (expires_at s put.id k old (event.Tick T now))
 
     abbrev TicksAt : (s : Side) → Type 0
     TicksAt s = (strict : Bool) (put : Put) (own : IsPutOf s put old) (own_then : IsPutOf s put new) (e : Exchange) (has : HasExchange s put old e) (eof nak finished : ℕ)
         → IsCalm put.id old (event.Tick T now)
-        → Holds strict (policy_at s old).limits (policy_at (other s) old).limits put (by_tick put EofAck + eof) (by_tick put Nak + nak) (by_tick put FinishedAck + finished) e
+        → Holds strict (policy_at s old).limits (policy_at (other s) old).limits put (by_tick put s EofAck + eof) (by_tick put (other s) Nak + nak) (by_tick put (other s) FinishedAck + finished) e
         → Comes strict s put eof nak finished old new e
+
+    -- what expires here
+    counted-here : (put : Put) (s : Side) (k : Kind) → is_side s T ≡ true → by_tick put s k ≡ due T now old new r next h put k
+    counted-here put s k is = ap (λ b. one_if (b && is_due (armed_at T old) (time_told T now old) (put.id, k))) is
 
     pub ticks-at : (s : Side) → TicksAt s
     ticks-at = both TicksAt T
         (λ strict put own own_then e has eof nak finished calm holds. (
         let x = has-exchange T put new next.sound next.kept.course own_then in
+        let here : by_tick put T EofAck ≡ due T now old new r next h put EofAck = counted-here put T EofAck (side-same T) in
         ticks-here T now old new r next h strict put e has x.0 x.1 eof nak finished calm
-        (fewer strict (policy_at T old).limits (policy_at (other T) old).limits put (by_tick put EofAck + eof) (by_tick put Nak + nak) (by_tick put FinishedAck + finished)
-        (by_tick put EofAck + eof) nak finished e (omega arith) (omega arith) (omega arith) holds)))
+        (fewer strict (policy_at T old).limits (policy_at (other T) old).limits put (by_tick put T EofAck + eof) (by_tick put (other T) Nak + nak) (by_tick put (other T) FinishedAck + finished)
+        (due T now old new r next h put EofAck + eof) nak finished e (omega (arith, here)) (omega arith) (omega arith) holds)))
         (λ strict put own own_then e has eof nak finished calm holds. (
         let x = has-exchange (other T) put new next.sound next.kept.course own_then in
+        let naks : by_tick put (other (other T)) Nak ≡ due T now old new r next h put Nak = counted-here put (other (other T)) Nak (side-twice T) in
+        let finisheds : by_tick put (other (other T)) FinishedAck ≡ due T now old new r next h put FinishedAck = counted-here put (other (other T)) FinishedAck (side-twice T) in
         ticks-there T now old new r next h strict put own e has x.0 x.1 eof nak finished calm
-        (fewer strict (policy_at (other T) old).limits (policy_at (other (other T)) old).limits put (by_tick put EofAck + eof) (by_tick put Nak + nak) (by_tick put FinishedAck + finished)
-        eof (by_tick put Nak + nak) (by_tick put FinishedAck + finished) e (omega arith) (omega arith) (omega arith) holds)))
+        (fewer strict (policy_at (other T) old).limits (policy_at (other (other T)) old).limits put (by_tick put (other T) EofAck + eof) (by_tick put (other (other T)) Nak + nak)
+        (by_tick put (other (other T)) FinishedAck + finished)
+        eof (due T now old new r next h put Nak + nak) (due T now old new r next h put FinishedAck + finished) e (omega arith) (omega (arith, naks)) (omega (arith, finisheds)) holds)))
 
   -- ---- any event of an outage
   module _ (strict : Bool) (s : Side) (put : Put) (old new : WorldState) (r : IsReached old) (own : IsPutOf s put old) (e : Exchange) (has : HasExchange s put old e) (eof nak finished : ℕ) where
     abbrev Before : Event → Type 0
-    Before ev = Holds strict (policy_at s old).limits (policy_at (other s) old).limits put (one_if (expires_by put.id EofAck old ev) + eof) (one_if (expires_by put.id Nak old ev) + nak)
-        (one_if (expires_by put.id FinishedAck old ev) + finished) e
+    Before ev = Holds strict (policy_at s old).limits (policy_at (other s) old).limits put (one_if (expires_at s put.id EofAck old ev) + eof) (one_if (expires_at (other s) put.id Nak old ev) + nak)
+        (one_if (expires_at (other s) put.id FinishedAck old ev) + finished) e
 
     settles : (ev : Event) (d : Applied) → IsOfSettling ev → Steps ev d old new → KeepsAll (all_shortages old) (all_shortages new) →
         Holds strict (policy_at s old).limits (policy_at (other s) old).limits put (0 + eof) (0 + nak) (0 + finished) e → Comes strict s put eof nak finished old new e
@@ -156,7 +175,7 @@ module _ (all : CleanLaws) where
 
   pub outlasts : (strict : Bool) (s : Side) (put : Put) (hs : List Happening) (old new : WorldState) → IsReached old → IsPutOf s put old → (e : Exchange) → HasExchange s put old e →
       (eof nak finished : ℕ) → AreOfOutage hs old new → AreCalm put.id old hs
-      → Holds strict (policy_at s old).limits (policy_at (other s) old).limits put (expiries put.id old hs EofAck + eof) (expiries put.id old hs Nak + nak) (expiries put.id old hs FinishedAck + finished) e
+      → Holds strict (policy_at s old).limits (policy_at (other s) old).limits put (expiries put.id old hs s EofAck + eof) (expiries put.id old hs (other s) Nak + nak) (expiries put.id old hs (other s) FinishedAck + finished) e
       → Outlasts strict s put eof nak finished old new e
   outlasts strict s put [] old new r own e has eof nak finished are calm holds =
       subst (λ (w : WorldState). Outlasts strict s put eof nak finished old w e) (sym are) (record {
@@ -176,12 +195,12 @@ module _ (all : CleanLaws) where
       let r1 : IsReached mid = reached-next all h.event h.did old mid step r in
       let own1 : IsPutOf s put mid = puts-kept all h.event h.did old mid step r.sound s put own in
       let p1 : (t : Side) → policy_at t mid ≡ policy_at t old = policy-next all h.event h.did old mid step r.sound in
-      let a : ℕ = expiries put.id mid hs EofAck in
-      let b : ℕ = expiries put.id mid hs Nak in
-      let c : ℕ = expiries put.id mid hs FinishedAck in
-      let x : ℕ = one_if (expires_by put.id EofAck old h.event) in
-      let y : ℕ = one_if (expires_by put.id Nak old h.event) in
-      let z : ℕ = one_if (expires_by put.id FinishedAck old h.event) in
+      let a : ℕ = expiries put.id mid hs s EofAck in
+      let b : ℕ = expiries put.id mid hs (other s) Nak in
+      let c : ℕ = expiries put.id mid hs (other s) FinishedAck in
+      let x : ℕ = one_if (expires_at s put.id EofAck old h.event) in
+      let y : ℕ = one_if (expires_at (other s) put.id Nak old h.event) in
+      let z : ℕ = one_if (expires_at (other s) put.id FinishedAck old h.event) in
       let first : Comes strict s put (a + eof) (b + nak) (c + finished) old mid e = event-comes strict s put old mid r own e has (a + eof) (b + nak) (c + finished) h.event h.did are.0 calm.0 step are.2
       (fewer strict (policy_at s old).limits (policy_at (other s) old).limits put ((x + a) + eof) ((y + b) + nak) ((z + c) + finished) (x + (a + eof)) (y + (b + nak)) (z + (c + finished)) e
       (omega arith) (omega arith) (omega arith) holds) in

@@ -50,8 +50,8 @@ outlived all id hs old new r waits are calm may =
         GoesOn put.id new ⊎ IsCompleted put.id new
     of-put s put own waits are calm may =
         let x = has-exchange s put old r.sound r.kept.course own in
-        let n : Kind → ℕ = expiries put.id old hs in
+        let n : Side → Kind → ℕ = expiries put.id old hs in
         let o : Outlasts all true s put 1 1 1 old new x.0 = outlasts all true s put hs old new r own x.0 x.1 1 1 1 are calm
-        (fewer true (policy_at s old).limits (policy_at (other s) old).limits put (suc (n EofAck)) (suc (n Nak)) (suc (n FinishedAck)) (n EofAck + 1) (n Nak + 1) (n FinishedAck + 1) x.0
+        (fewer true (policy_at s old).limits (policy_at (other s) old).limits put (suc (n s EofAck)) (suc (n (other s) Nak)) (suc (n (other s) FinishedAck)) (n s EofAck + 1) (n (other s) Nak + 1) (n (other s) FinishedAck + 1) x.0
         (omega arith) (omega arith) (omega arith) (first-holds true s put old r own x.0 x.1 waits n may)) in
         goes-on-or s put new o.reached o.own o.comes.end o.comes.has (limits-so true put 1 1 1 s old new o.comes.end o.policy o.comes.holds)

@@ -5,9 +5,10 @@ ghost use Rattle.cfdp_header.specs.declared.value.TransactionId.{TransactionId};
 ghost use Rattle.link_sim.specs.Running.{Led};
 ghost use Rattle.link_sim.specs.Waiting.{IsCompleted, IsWaiting};
 ghost use Rattle.link_sim.specs.World.State.{IsFirst, WorldState};
+ghost use Rattle.outages.specs.Lasting.{IsShort};
 ghost use Rattle.outages.specs.Outage.{AreOfOutage, Happening};
 ghost use Rattle.outages.specs.Spared.{GetsThrough};
-ghost use Rattle.outages.specs.Tries.{AreCalm, GoesOn, MayTry, expiries};
+ghost use Rattle.outages.specs.Tries.{AreCalm, GoesOn, MayTry, NoneExpires, expiries};
 ghost use Rattle.station_pair.specs.Stations.{IsWorldConfig};
 ghost use Rattle.station_pair.specs.declared.world_config.WorldConfig.{WorldConfig};
 
@@ -23,6 +24,12 @@ pub fn a_transfer_outlives_its_losses()
         → IsWorldConfig c → IsFirst c outboxes inboxes first → Led first old
         → IsWaiting id old → AreOfOutage outage old new → AreCalm id old outage
         → MayTry id (expiries id old outage) old → GoesOn id new ⊎ IsCompleted id new }
+    // In an outage that is short enough, they expire that seldom.
+    ensures lasts { (c : WorldConfig) (outboxes inboxes : FileMap × FileMap)
+        (first old new : WorldState) (id : TransactionId) (outage : List Happening)
+        → IsWorldConfig c → IsFirst c outboxes inboxes first → Led first old
+        → AreOfOutage outage old new → IsShort id old new
+        → MayTry id (expiries id old outage) old }
     // After two expiries after each of which nothing of it was lost it is complete, whatever was
     // lost before the first one and between both.
     ensures completes { (c : WorldConfig) (outboxes inboxes : FileMap × FileMap)
@@ -32,8 +39,17 @@ pub fn a_transfer_outlives_its_losses()
         → IsWaiting id old → AreOfOutage before old held → AreCalm id old before
         → GetsThrough id held through → AreOfOutage between through again
         → AreCalm id through between → GetsThrough id again new
-        → MayTry id (λ k. expiries id old before k + expiries id through between k) old
+        → MayTry id (λ s k. expiries id old before s k + expiries id through between s k) old
         → IsCompleted id new }
+    // So it is after an outage that is short enough, where the next two expiries are such ones.
+    ensures completes_in_time { (c : WorldConfig) (outboxes inboxes : FileMap × FileMap)
+        (first old held through again new : WorldState) (id : TransactionId)
+        (outage between : List Happening)
+        → IsWorldConfig c → IsFirst c outboxes inboxes first → Led first old
+        → IsWaiting id old → AreOfOutage outage old held → AreCalm id old outage
+        → IsShort id old held → GetsThrough id held through
+        → AreOfOutage between through again → AreCalm id through between
+        → NoneExpires id through between → GetsThrough id again new → IsCompleted id new }
 {
     cfdp_entity::an_entity_keeps_the_truth();
     cfdp_entity::an_entity_goes_on();
