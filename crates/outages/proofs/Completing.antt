@@ -25,7 +25,7 @@ use Rattle.outages.proofs.Tracking.{IsReached}
 
 module _ (all : CleanLaws) (w a b c d : WorldState) (before between : List Happening) (r : IsReached w) where
   -- of a put
-  through : (s : Side) (put : Put) → IsPutOf s put w → IsWaiting put.id w → AreOfOutage before w a → AreCalm put.id w before → GetsThrough put.id a b → AreOfOutage between b c →
+  through : (s : Side) (put : Put) → IsPutOf s put w → IsWaiting put.id w → AreOfOutage put.id before w a → AreCalm put.id w before → GetsThrough put.id a b → AreOfOutage put.id between b c →
       AreCalm put.id b between → GetsThrough put.id c d
       → MayTry put.id (λ t k. expiries put.id w before t k + expiries put.id b between t k) w → IsCompleted put.id d
   through s put own waits are calm g are1 calm1 g1 may =
@@ -60,10 +60,10 @@ module _ (all : CleanLaws) (w a b c d : WorldState) (before between : List Happe
       ] in
       completed-by false s put d last.reached last.own last.comes.end last.comes.has 1 1 1 (limits-so false put 1 1 1 s c d last.comes.end last.policy last.comes.holds) closed
 
-  pub completes : (id : TransactionId) → IsWaiting id w → AreOfOutage before w a → AreCalm id w before → GetsThrough id a b → AreOfOutage between b c → AreCalm id b between → GetsThrough id c d
+  pub completes : (id : TransactionId) → IsWaiting id w → AreOfOutage id before w a → AreCalm id w before → GetsThrough id a b → AreOfOutage id between b c → AreCalm id b between → GetsThrough id c d
       → MayTry id (λ t k. expiries id w before t k + expiries id b between t k) w → IsCompleted id d
   completes id waits are calm g are1 calm1 g1 may =
       let t : IsTracked id w = tracked id w r waits.unfinished in
-      subst (λ i. IsWaiting i w → AreOfOutage before w a → AreCalm i w before → GetsThrough i a b → AreOfOutage between b c → AreCalm i b between → GetsThrough i c d
+      subst (λ i. IsWaiting i w → AreOfOutage i before w a → AreCalm i w before → GetsThrough i a b → AreOfOutage i between b c → AreCalm i b between → GetsThrough i c d
       → MayTry i (λ t k. expiries i w before t k + expiries i b between t k) w → IsCompleted i d) t.of
       (λ waits are calm g are1 calm1 g1 may. through t.side t.put t.own waits are calm g are1 calm1 g1 may) waits are calm g are1 calm1 g1 may

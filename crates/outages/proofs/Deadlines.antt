@@ -28,6 +28,7 @@ use Rattle.cfdp_timers.specs.Waits.{deadline_after, deadline_by, is_anew, wait_b
 use Rattle.cfdp_timers.proofs.CallerLemmas.{deadline-left}
 use Rattle.cfdp_timers.proofs.Waited.{get-waited}
 use Rattle.cfdp_sender.specs.declared.due.SenderDue.{SenderDue}
+use Rattle.cfdp_sender.specs.declared.transfer.Transfer.{Transfer}
 use Rattle.cfdp_sender.specs.Due.{sender_due}
 use Rattle.cfdp_sender.specs.Does as sender_does
 use Rattle.cfdp_sender.specs.Steps as sender
@@ -40,12 +41,16 @@ use Rattle.cfdp_entity.specs.declared.error.EntityDrop.{EntityDrop}
 use Rattle.cfdp_entity.specs.declared.error.EntityDrop.TheVariants as drops
 use Rattle.cfdp_entity.specs.Entity.{Counted, EntityState, dropped, is_forgotten}
 use Rattle.cfdp_entity.specs.Hearing.{DropsBy, DropsOctets, FindsNoMemory, OpensOne, StepsAt, Takes, names_no_file, opens_record, queues, route, route_by, route_new, route_over, route_unplaced}
-use Rattle.cfdp_entity.specs.Opening.{begins, closing, opens, opens_by}
+use Rattle.cfdp_entity.specs.Opening.{begins, closing, opens, opens_by, puts}
+use Rattle.cfdp_entity.specs.declared.request.Request.{Request}
+use Rattle.cfdp_entity.specs.Putting.{with_put}
+use Rattle.cfdp_entity.specs.Refusing.{called_in}
+use Rattle.cfdp_entity.specs.Requests.{IsCalled}
 use Rattle.cfdp_entity.specs.Polling.{Place, Rests, Stray, Turn, served}
 use Rattle.cfdp_entity.specs.Seen.{Seen, Sends, Receives}
-use Rattle.cfdp_entity.specs.Steps.{After, by_receiver, by_sender, expires, hears, if_receiver, if_sender, receiver_after, receiver_takes, sender_after, sender_takes, takes, with_waits}
+use Rattle.cfdp_entity.specs.Steps.{After, by_receiver, by_sender, called_receiver, called_sender, calls, expires, hears, if_receiver, if_sender, receiver_after, receiver_takes, sender_after, sender_takes, takes, with_waits}
 use Rattle.cfdp_entity.specs.Strays.{StrayAck, most_strays, over_ack, unknown_ack}
-use Rattle.cfdp_entity.specs.Table.{Entry, SpoiledAt, TableState, Ticks, all_expired, at_time, expired, expired_in, heard_at, most_records, opened_by, place_of, step_of, taken_at}
+use Rattle.cfdp_entity.specs.Table.{Entry, SpoiledAt, TableState, Ticks, all_expired, at_time, expired, expired_in, heard_at, most_records, opened_by, place_of, put_in, step_of, taken_at}
 use Rattle.cfdp_station.specs.Taking.{HearsAll, HearsPdu}
 use Rattle.outages.specs.Lasting.{time_of}
 
@@ -100,6 +105,14 @@ takes-timed stored times sources files (Receives r m) = by (receiver_due r)
 expires-timed : (policy : Policy) (files : FileMap) (k : Kind) (s : Seen) → IsTimed policy.times (expires policy files k s)
 expires-timed policy files k (Sends x) = sender-timed policy.times files (sender.sender_expires k policy x)
 expires-timed policy files k (Receives r m) = receiver-timed policy.times (receiver.expires k policy m files r)
+
+calls-timed : (times : Times) (files : FileMap) (c : Request) (s : Seen) → IsTimed times (calls times files c s)
+calls-timed times files c (Sends x) = sender-timed times files (called_sender c x)
+calls-timed times files c (Receives r m) = by (called_receiver c m files r)
+  where
+    by : (o : Option receiver.ReceiverAfter) → IsTimed times (if_receiver times files r m o)
+    by (Some a) = receiver-timed times a
+    by None = inl refl
 
 opens-timed : (begun stored : Stored) (times : Times) (files : FileMap) (large : Bool) (v : Content) (a : Addressing) → IsTimed times (opens begun stored times files large v a)
 opens-timed begun stored times files large v a = by (closing v)
@@ -369,3 +382,14 @@ module _ (id : TransactionId) (k : Kind) where
   served-later stored (Stray s strays) e new is = subst (LaterAt e) (sym is) (later-same e.table)
   served-later stored (Place place) e new is = subst (LaterAt e) (sym is) (taken-later stored place e.table)
   served-later stored Rests e new is = subst (LaterAt e) (sym is) (later-same e.table)
+
+  -- ---- what users ask
+  pub put-later : (t : Transfer) (e new : EntityState) → new ≡ with_put t e → LaterAt e new
+  put-later t e new is = subst (LaterAt e) (sym is) (set-later e.table (put_in t e.table) t.addressing.id (puts e.table.files t) (inl refl) refl refl refl)
+
+  pub called-later : (c : Request) (of : TransactionId) (e new : EntityState) → IsCalled c of e new → LaterAt e new
+  called-later c of e new h = subst (LaterAt e) (sym h.called) (by (place_of of e.table.records))
+    where
+      by : (o : Option ℕ) → Later e.table (called_in c o e.table)
+      by None = later-same e.table
+      by (Some place) = step-later (λ d. calls e.table.policy.times e.table.files c d.1) place (slice_get e.table.records place) e.table (λ d. calls-timed e.table.policy.times e.table.files c d.1)

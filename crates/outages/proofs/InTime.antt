@@ -38,7 +38,7 @@ fewer-tries limits n m less (Some (Receives r o)) h = λ open_. (
     (omega (arith, naks, a), omega (arith, finisheds, b)))
 
 module _ (all : CleanLaws) (w a b c d : WorldState) (before between : List Happening) (r : IsReached w) (id : TransactionId) where
-  pub completes-in-time : IsWaiting id w → AreOfOutage before w a → AreCalm id w before → IsShort id w a → GetsThrough id a b → AreOfOutage between b c → AreCalm id b between →
+  pub completes-in-time : IsWaiting id w → AreOfOutage id before w a → AreCalm id w before → IsShort id w a → GetsThrough id a b → AreOfOutage id between b c → AreCalm id b between →
       NoneExpires id b between → GetsThrough id c d
       → IsCompleted id d
   completes-in-time waits are calm short g are1 calm1 none g1 =

@@ -13,6 +13,8 @@ use Rattle.cfdp_timers.specs.declared.kind.Kind.TheVariants.{EofAck, Nak, Finish
 use Rattle.cfdp_timers.specs.Armed.{Armed}
 use Rattle.cfdp_timers.specs.Due.{is_due}
 use Rattle.cfdp_timers.specs.Waits.{deadline_after}
+use Rattle.cfdp_entity.specs.declared.request.Request.{Request}
+use Rattle.cfdp_entity.specs.declared.request.Request.TheVariants as calls
 use Rattle.cfdp_entity.specs.Entity.{Counted, EntityState}
 use Rattle.cfdp_entity.specs.Polling.{turn}
 use Rattle.cfdp_entity.specs.Seen.{Seen, Sends, Receives}
@@ -27,13 +29,13 @@ use Rattle.link_sim.specs.declared.event.Applied.{Applied}
 use Rattle.link_sim.specs.declared.event.Applied.TheVariants as did
 use Rattle.link_sim.specs.Waiting.{policy_at, is_open}
 use Rattle.link_sim.specs.World.State.{WorldState, entity_at, station_at}
-use Rattle.link_sim.specs.World.Steps.{Damages, Delivers, Flushes, Polls, Steps, Strikes, TellsTime}
+use Rattle.link_sim.specs.World.Steps.{Calls, Damages, Delivers, Flushes, Polls, Puts, Steps, Strikes, TellsTime}
 use Rattle.link_sim.proofs.Events.Keeping.{both}
 use Rattle.link_sim.proofs.Recovery.Along.{told-time}
 use Rattle.outages.specs.Lasting.{IsInTime, IsInTimeFor, IsShort, clock_at, earlier, earliest, time_of, wait_at}
-use Rattle.outages.specs.Outage.{AreOfOutage, Happening, IsOfOutage}
+use Rattle.outages.specs.Outage.{AreOfOutage, Happening}
 use Rattle.outages.specs.Tries.{HasTriesIn, MayTry, expires_at, expiries, is_side, one_if}
-use Rattle.outages.proofs.Deadlines.{IsSet, Later, due-later, hears-later, later-both, later-same, served-later, ticks-later}
+use Rattle.outages.proofs.Deadlines.{IsSet, Later, called-later, due-later, hears-later, later-both, later-same, put-later, served-later, ticks-later}
 use Rattle.outages.proofs.Tracking.{IsReached}
 
 module _ (id : TransactionId) (k : Kind) where
@@ -90,22 +92,41 @@ module _ (id : TransactionId) (k : Kind) where
     told-later s now h = both (λ t. LaterAt t old new) s (ticks-later id k now (entity_at s old).table (entity_at s new).table h.ticked)
         (same-later old new (other s) (ap (λ x. x.entity.state) h.links.spares.station))
 
-    event-later : (ev : Event) (d : Applied) → IsOfOutage ev → Steps ev d old new → (t : Side) → LaterAt t old new
-    event-later (event.Poll s) d is h = polls-later d s h
-    event-later (event.Flush s) d is h = flushes-later d s h
-    event-later (event.Deliver s l) d is h = delivers-later d s l h
-    event-later (event.Strike s l) d is h = strikes-later d s l h
-    event-later (event.Damage s l octets) d is h = damages-later d s l octets h
-    event-later (event.Tick s now) d is h = told-later s now (told-time s now d old new h)
-    event-later (event.Put s source destination) d is h = absurd is
-    event-later (event.Cancel s i) d is h = absurd is
-    event-later (event.Suspend s i) d is h = absurd is
-    event-later (event.Resume s i) d is h = absurd is
-    event-later (event.Prompt s i keep_alive) d is h = absurd is
+    puts-later : (d : Applied) (s : Side) (source destination : List ℕ) → Puts d s source destination old new → (t : Side) → LaterAt t old new
+    puts-later did.Applied s source destination h = both (λ t. LaterAt t old new) s (put-later id k _ (entity_at s old) (entity_at s new) h.accepts.opened)
+        (same-later old new (other s) (ap (λ x. x.entity.state) h.links.spares.station))
+    puts-later did.Nothing s source destination h = absurd h
+    puts-later (did.Refused (refusal.Put by)) s source destination h = both (λ t. LaterAt t old new) s (same-later old new s h.stays.entity)
+        (same-later old new (other s) (ap (λ x. x.entity.state) h.stays.links.spares.station))
+    puts-later (did.Refused (refusal.Call by)) s source destination h = absurd h
+    puts-later (did.Refused refusal.LossRunTooLong) s source destination h = absurd h
+    puts-later (did.Refused refusal.NotDamaged) s source destination h = absurd h
 
-  outage-later : (hs : List Happening) (old new : WorldState) → AreOfOutage hs old new → (t : Side) → LaterAt t old new
+    calls-later : (d : Applied) (s : Side) (c : Request) (of : TransactionId) → Calls d s c of old new → (t : Side) → LaterAt t old new
+    calls-later did.Applied s c of h = both (λ t. LaterAt t old new) s (called-later id k c of (entity_at s old) (entity_at s new) h.called)
+        (same-later old new (other s) (ap (λ x. x.entity.state) h.links.spares.station))
+    calls-later did.Nothing s c of h = absurd h
+    calls-later (did.Refused (refusal.Put by)) s c of h = absurd h
+    calls-later (did.Refused (refusal.Call by)) s c of h = none-later old new h.same
+    calls-later (did.Refused refusal.LossRunTooLong) s c of h = absurd h
+    calls-later (did.Refused refusal.NotDamaged) s c of h = absurd h
+
+    event-later : (ev : Event) (d : Applied) → Steps ev d old new → (t : Side) → LaterAt t old new
+    event-later (event.Poll s) d h = polls-later d s h
+    event-later (event.Flush s) d h = flushes-later d s h
+    event-later (event.Deliver s l) d h = delivers-later d s l h
+    event-later (event.Strike s l) d h = strikes-later d s l h
+    event-later (event.Damage s l octets) d h = damages-later d s l octets h
+    event-later (event.Tick s now) d h = told-later s now (told-time s now d old new h)
+    event-later (event.Put s source destination) d h = puts-later d s source destination h
+    event-later (event.Cancel s i) d h = calls-later d s calls.Cancel i h
+    event-later (event.Suspend s i) d h = calls-later d s calls.Suspend i h
+    event-later (event.Resume s i) d h = calls-later d s calls.Resume i h
+    event-later (event.Prompt s i keep_alive) d h = calls-later d s (calls.Prompt keep_alive) i h
+
+  outage-later : (hs : List Happening) (old new : WorldState) → AreOfOutage id hs old new → (t : Side) → LaterAt t old new
   outage-later [] old new is t = none-later old new is t
-  outage-later (h ∷ hs) old new are t = later-both id k (entity_at t old).table (entity_at t h.after).table (entity_at t new).table (event-later old h.after h.event h.did are.0 are.1 t)
+  outage-later (h ∷ hs) old new are t = later-both id k (entity_at t old).table (entity_at t h.after).table (entity_at t new).table (event-later old h.after h.event h.did are.1 t)
       (outage-later hs h.after new are.3 t)
 
   -- ---- so many expiries since the earliest one could be
@@ -175,42 +196,42 @@ module _ (id : TransactionId) (k : Kind) where
       more-by : (n m : ℕ) (w : WorldState) → m ≡ n → PacedIn n w → PacedIn m w
       more-by n m w is p = subst (λ x. PacedIn x w) (sym is) p
 
-      event-paced : (n : ℕ) (old new : WorldState) (ev : Event) (d : Applied) → IsOfOutage ev → Steps ev d old new → clock_at s new + wait < 2 ^ 64 → PacedIn n old →
+      event-paced : (n : ℕ) (old new : WorldState) (ev : Event) (d : Applied) → Steps ev d old new → clock_at s new + wait < 2 ^ 64 → PacedIn n old →
           PacedIn (n + one_if (expires_at s id k old ev)) new
-      event-paced n old new ev d is h fits p = by ev is h
+      event-paced n old new ev d h fits p = by ev h
         where
-          plain : (ev : Event) → IsOfOutage ev → Steps ev d old new → PacedIn (n + 0) new
-          plain ev is h = more-by n (n + 0) new (omega arith) (goes-on n (entity_at s old).table (entity_at s new).table (event-later old new ev d is h s) fits p)
+          plain : (ev : Event) → Steps ev d old new → PacedIn (n + 0) new
+          plain ev h = more-by n (n + 0) new (omega arith) (goes-on n (entity_at s old).table (entity_at s new).table (event-later old new ev d h s) fits p)
 
           ticks : (t : Side) (now : ℕ) → Steps (event.Tick t now) d old new → (b c : Bool) → is_side s t ≡ b → is_due (entity_at t old).table.armed (max (entity_at t old).table.now now) (id, k) ≡ c →
               PacedIn (n + one_if (b && c)) new
-          ticks t now h false c side due = plain (event.Tick t now) tt h
-          ticks t now h true false side due = plain (event.Tick t now) tt h
+          ticks t now h false c side due = plain (event.Tick t now) h
+          ticks t now h true false side due = plain (event.Tick t now) h
           ticks t now h true true side due =
               expires-once n now (entity_at s old).table (entity_at s new).table
               (subst (λ u. Ticks now (entity_at u old).table (entity_at u new).table) (side-is t side) (told-time t now d old new h).ticked)
               (subst (λ u. is_due (entity_at u old).table.armed (max (entity_at u old).table.now now) (id, k) ≡ true) (side-is t side) due) fits p
 
-          by : (ev : Event) → IsOfOutage ev → Steps ev d old new → PacedIn (n + one_if (expires_at s id k old ev)) new
-          by (event.Poll t) is h = plain (event.Poll t) is h
-          by (event.Flush t) is h = plain (event.Flush t) is h
-          by (event.Deliver t l) is h = plain (event.Deliver t l) is h
-          by (event.Strike t l) is h = plain (event.Strike t l) is h
-          by (event.Damage t l octets) is h = plain (event.Damage t l octets) is h
-          by (event.Tick t now) is h = ticks t now h (is_side s t) (is_due (entity_at t old).table.armed (max (entity_at t old).table.now now) (id, k)) refl refl
-          by (event.Put t source destination) is h = absurd is
-          by (event.Cancel t i) is h = absurd is
-          by (event.Suspend t i) is h = absurd is
-          by (event.Resume t i) is h = absurd is
-          by (event.Prompt t i keep_alive) is h = absurd is
+          by : (ev : Event) → Steps ev d old new → PacedIn (n + one_if (expires_at s id k old ev)) new
+          by (event.Poll t) h = plain (event.Poll t) h
+          by (event.Flush t) h = plain (event.Flush t) h
+          by (event.Deliver t l) h = plain (event.Deliver t l) h
+          by (event.Strike t l) h = plain (event.Strike t l) h
+          by (event.Damage t l octets) h = plain (event.Damage t l octets) h
+          by (event.Tick t now) h = ticks t now h (is_side s t) (is_due (entity_at t old).table.armed (max (entity_at t old).table.now now) (id, k)) refl refl
+          by (event.Put t source destination) h = plain (event.Put t source destination) h
+          by (event.Cancel t i) h = plain (event.Cancel t i) h
+          by (event.Suspend t i) h = plain (event.Suspend t i) h
+          by (event.Resume t i) h = plain (event.Resume t i) h
+          by (event.Prompt t i keep_alive) h = plain (event.Prompt t i keep_alive) h
 
-      pub outage-paced : (hs : List Happening) (n : ℕ) (old new : WorldState) → AreOfOutage hs old new → clock_at s new + wait < 2 ^ 64 → PacedIn n old → PacedIn (n + expiries id old hs s k) new
+      pub outage-paced : (hs : List Happening) (n : ℕ) (old new : WorldState) → AreOfOutage id hs old new → clock_at s new + wait < 2 ^ 64 → PacedIn n old → PacedIn (n + expiries id old hs s k) new
       outage-paced [] n old new is fits p = more-by n (n + 0) new (omega arith) (subst (PacedIn n) (sym is) p)
       outage-paced (h ∷ hs) n old new are fits p =
           let x : ℕ = one_if (expires_at s id k old h.event) in
           let y : ℕ = expiries id h.after hs s k in
           let up : clock_at s h.after ≤ clock_at s new = (outage-later hs h.after new are.3 s).clock in
-          let first_one : PacedIn (n + x) h.after = event-paced n old h.after h.event h.did are.0 are.1 (omega (arith, up, fits)) p in
+          let first_one : PacedIn (n + x) h.after = event-paced n old h.after h.event h.did are.1 (omega (arith, up, fits)) p in
           more-by ((n + x) + y) (n + (x + y)) new (omega arith) (outage-paced hs (n + x) h.after new are.3 fits first_one)
 
   -- ---- few of them
@@ -222,7 +243,7 @@ module _ (id : TransactionId) (k : Kind) where
   first-armed None later d e = absurd cc
   first-armed (Some a) later d e = (let is : a ≡ d = cc in omega (arith, is))
 
-  pub few-in-time : (hs : List Happening) (old new : WorldState) (s : Side) → IsReached old → AreOfOutage hs old new → (count limit : ℕ) → IsInTime id s k count limit (clock_at s new) old →
+  pub few-in-time : (hs : List Happening) (old new : WorldState) (s : Side) → IsReached old → AreOfOutage id hs old new → (count limit : ℕ) → IsInTime id s k count limit (clock_at s new) old →
       count + expiries id old hs s k < limit
   few-in-time hs old new s r are count limit short =
       let wait : ℕ = wait_at s k old in
@@ -248,7 +269,7 @@ module _ (id : TransactionId) (k : Kind) where
       zero-more n = omega arith
 
 -- an outage that is short enough
-pub lasting : (id : TransactionId) (hs : List Happening) (old new : WorldState) → IsReached old → AreOfOutage hs old new → IsShort id old new → MayTry id (expiries id old hs) old
+pub lasting : (id : TransactionId) (hs : List Happening) (old new : WorldState) → IsReached old → AreOfOutage id hs old new → IsShort id old new → MayTry id (expiries id old hs) old
 lasting id hs old new r are short s = by (record_of id (entity_at s old).table.records) (short s)
   where
     by : (q : Option Seen) → IsInTimeFor id s (clock_at s new) old q → HasTriesIn (policy_at s old).limits (expiries id old hs s) q

@@ -5,6 +5,7 @@ mod Timers
 mod Fired
 mod Tracking
 mod Ticking
+mod Aside
 mod Outlasting
 mod Ends
 mod Waiting

@@ -7,6 +7,7 @@ use Rattle.cfdp_directives.specs.User.Put.{Put}
 use Rattle.cfdp_timers.specs.declared.kind.Kind.{Kind}
 use Rattle.cfdp_timers.specs.declared.kind.Kind.TheVariants.{EofAck, Nak, FinishedAck, Inactivity}
 use Rattle.cfdp_timers.specs.Due.{is_due}
+use Rattle.cfdp_entity.specs.declared.request.Request.TheVariants as calls
 use Rattle.cfdp_entity.specs.Entity.{Counted, EntityState}
 use Rattle.station_pair.specs.declared.side.Side.{Side}
 use Rattle.station_pair.specs.declared.side.Side.TheVariants.{One, Two}
@@ -31,6 +32,7 @@ use Rattle.link_sim.proofs.Stages.Keep.{done-runs}
 use Rattle.link_sim.proofs.Stages.Runs.{runs-course}
 use Rattle.outages.specs.Outage.{AreOfOutage, Happening, IsOfOutage}
 use Rattle.outages.specs.Tries.{AreCalm, IsCalm, expires_at, expiries, is_side, one_if, time_told}
+use Rattle.outages.proofs.Aside.{GoesAside, aside-run, call-aside, put-aside}
 use Rattle.outages.proofs.Budgets.{fewer-here, fewer-there, runs-here, runs-there}
 use Rattle.outages.proofs.Lost.{IsLeft, Loses, left-after}
 use Rattle.outages.proofs.Ticking.{due, ticks-here, ticks-there}
@@ -149,7 +151,15 @@ module _ (all : CleanLaws) where
         lost-comes strict s put old new r (reached-next all ev d old new h r) own (puts-kept all ev d old new h r.sound s put own) e has eof nak finished lost
         (fewer strict (policy_at s old).limits (policy_at (other s) old).limits put (0 + eof) (0 + nak) (0 + finished) eof nak finished e (omega arith) (omega arith) (omega arith) holds)
 
-    pub event-comes : (ev : Event) (d : Applied) → IsOfOutage ev → IsCalm put.id old ev → Steps ev d old new → KeepsAll (all_shortages old) (all_shortages new) → Before ev →
+    asides : (ev : Event) (d : Applied) → Steps ev d old new → GoesAside put.id old new →
+        Holds strict (policy_at s old).limits (policy_at (other s) old).limits put (0 + eof) (0 + nak) (0 + finished) e → Comes strict s put eof nak finished old new e
+    asides ev d h aside holds =
+        let next : IsReached new = reached-next all ev d old new h r in
+        let own_then : IsPutOf s put new = puts-kept all ev d old new h r.sound s put own in
+        settled-comes strict s put old new r next own own_then e has eof nak finished (aside-run s put old new next own_then e has aside)
+        (fewer strict (policy_at s old).limits (policy_at (other s) old).limits put (0 + eof) (0 + nak) (0 + finished) eof nak finished e (omega arith) (omega arith) (omega arith) holds)
+
+    pub event-comes : (ev : Event) (d : Applied) → IsOfOutage put.id ev → IsCalm put.id old ev → Steps ev d old new → KeepsAll (all_shortages old) (all_shortages new) → Before ev →
         Comes strict s put eof nak finished old new e
     event-comes (event.Poll t) d is calm h spared holds = settles (event.Poll t) d tt h spared holds
     event-comes (event.Flush t) d is calm h spared holds = settles (event.Flush t) d tt h spared holds
@@ -159,11 +169,11 @@ module _ (all : CleanLaws) where
     event-comes (event.Tick t now) d is calm h spared holds =
         ticks-at t now old new r (reached-next all (event.Tick t now) d old new h r) (told-time t now d old new h) s strict put own
         (puts-kept all (event.Tick t now) d old new h r.sound s put own) e has eof nak finished calm holds
-    event-comes (event.Put t source destination) d is calm h spared holds = absurd is
-    event-comes (event.Cancel t id) d is calm h spared holds = absurd is
-    event-comes (event.Suspend t id) d is calm h spared holds = absurd is
-    event-comes (event.Resume t id) d is calm h spared holds = absurd is
-    event-comes (event.Prompt t id keep_alive) d is calm h spared holds = absurd is
+    event-comes (event.Put t source destination) d is calm h spared holds = asides (event.Put t source destination) d h (put-aside s put old r.sound own e has new d t source destination h) holds
+    event-comes (event.Cancel t of) d is calm h spared holds = asides (event.Cancel t of) d h (call-aside put.id of is old new d t calls.Cancel h) holds
+    event-comes (event.Suspend t of) d is calm h spared holds = asides (event.Suspend t of) d h (call-aside put.id of is old new d t calls.Suspend h) holds
+    event-comes (event.Resume t of) d is calm h spared holds = asides (event.Resume t of) d h (call-aside put.id of is old new d t calls.Resume h) holds
+    event-comes (event.Prompt t of keep_alive) d is calm h spared holds = asides (event.Prompt t of keep_alive) d h (call-aside put.id of is old new d t (calls.Prompt keep_alive) h) holds
 
   -- ---- all events of an outage
   -- What they come to.
@@ -174,7 +184,7 @@ module _ (all : CleanLaws) where
     pub comes : Comes strict s put eof nak finished old new e
 
   pub outlasts : (strict : Bool) (s : Side) (put : Put) (hs : List Happening) (old new : WorldState) → IsReached old → IsPutOf s put old → (e : Exchange) → HasExchange s put old e →
-      (eof nak finished : ℕ) → AreOfOutage hs old new → AreCalm put.id old hs
+      (eof nak finished : ℕ) → AreOfOutage put.id hs old new → AreCalm put.id old hs
       → Holds strict (policy_at s old).limits (policy_at (other s) old).limits put (expiries put.id old hs s EofAck + eof) (expiries put.id old hs (other s) Nak + nak) (expiries put.id old hs (other s) FinishedAck + finished) e
       → Outlasts strict s put eof nak finished old new e
   outlasts strict s put [] old new r own e has eof nak finished are calm holds =

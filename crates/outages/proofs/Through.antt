@@ -16,6 +16,7 @@ use Rattle.cfdp_receiver.specs.declared.state.ReceiverPhase.{ReceiverPhase}
 use Rattle.cfdp_receiver.specs.declared.state.ReceiverPhase.TheVariants as receiving
 use Rattle.cfdp_receiver.specs.State.{ReceiverState}
 use Rattle.cfdp_receiver.specs.Steps.{waits, waits_in}
+use Rattle.cfdp_entity.specs.declared.request.Request.TheVariants as calls
 use Rattle.cfdp_entity.specs.Entity.{Counted, EntityState}
 use Rattle.cfdp_entity.specs.Seen.{Seen, Sends, Receives}
 use Rattle.cfdp_entity.specs.Table.{record_of}
@@ -49,6 +50,7 @@ use Rattle.link_sim.proofs.Stages.RoundsThere.{receiver-round}
 use Rattle.outages.specs.Outage.{Happening}
 use Rattle.outages.specs.Spared.{AreSparing, GetsThrough, IsSparing, SparesIt}
 use Rattle.outages.specs.Tries.{one_if}
+use Rattle.outages.proofs.Aside.{aside-run, call-aside, put-aside}
 use Rattle.outages.proofs.Budgets.{HoldsHere, HoldsThere, waits-undone}
 use Rattle.outages.proofs.Expiring.{ignored-receiver, ignored-sender, ignoring}
 use Rattle.outages.proofs.Lost.{Loses}
@@ -107,11 +109,11 @@ module _ (all : CleanLaws) where
     sparing-run (event.Deliver t l) d is h short = settles-run all (event.Deliver t l) d old mid tt h short r.sound r.kept s put own e has
     sparing-run (event.Strike t l) d is h short = spared-run (strike-lost d t l old mid r.sound h) is
     sparing-run (event.Damage t l octets) d is h short = spared-run (damage-lost d t l octets old mid h) is
-    sparing-run (event.Put t source destination) d is h short = absurd is
-    sparing-run (event.Cancel t id) d is h short = absurd is
-    sparing-run (event.Suspend t id) d is h short = absurd is
-    sparing-run (event.Resume t id) d is h short = absurd is
-    sparing-run (event.Prompt t id keep_alive) d is h short = absurd is
+    sparing-run (event.Put t source destination) d is h short = aside-run s put old mid r1 own1 e has (put-aside s put old r.sound own e has mid d t source destination h)
+    sparing-run (event.Cancel t of) d is h short = aside-run s put old mid r1 own1 e has (call-aside put.id of is old mid d t calls.Cancel h)
+    sparing-run (event.Suspend t of) d is h short = aside-run s put old mid r1 own1 e has (call-aside put.id of is old mid d t calls.Suspend h)
+    sparing-run (event.Resume t of) d is h short = aside-run s put old mid r1 own1 e has (call-aside put.id of is old mid d t calls.Resume h)
+    sparing-run (event.Prompt t of keep_alive) d is h short = aside-run s put old mid r1 own1 e has (call-aside put.id of is old mid d t (calls.Prompt keep_alive) h)
     sparing-run (event.Tick t now) d is h short = absurd is
 
   passes : (s : Side) (put : Put) (hs : List Happening) (old new : WorldState) → IsReached old → IsPutOf s put old → (e : Exchange) → HasExchange s put old e → AreSparing put.id hs old new →

@@ -86,7 +86,7 @@ module _ (id : TransactionId) (t : Timer) (st : TableState) (apart : IsDistinct 
 
 -- ---- all of them
 -- that more was told shows in what was told
-told-grows : (tells : Indication → Bool) (old more new : List Indication) → new ≡ old ++ more → one_tells tells old ≡ true → one_tells tells new ≡ true
+pub told-grows : (tells : Indication → Bool) (old more new : List Indication) → new ≡ old ++ more → one_tells tells old ≡ true → one_tells tells new ≡ true
 told-grows tells old more new is h = ap (one_tells tells) is ∙ list_any-append tells old more ∙ or_left (one_tells tells old) (one_tells tells more) h
 
 told-then-grows : (put : Put) (before : Bool) (old more new : List Indication) → new ≡ old ++ more → (before ≡ true → one_tells (tells_complete put.id) old ≡ true) → told_then put before more ≡ true →

@@ -39,14 +39,14 @@ reached-led all c outboxes inboxes first now valid is sound led = led-keeps IsRe
     kept a b r (inl (e, d, step)) = reached-next all e d a b step r
     kept a b r (inr (s, same)) = subst IsReached (sym same) r
 
-pub outlived : CleanLaws → (id : TransactionId) (hs : List Happening) (old new : WorldState) → IsReached old → IsWaiting id old → AreOfOutage hs old new → AreCalm id old hs →
+pub outlived : CleanLaws → (id : TransactionId) (hs : List Happening) (old new : WorldState) → IsReached old → IsWaiting id old → AreOfOutage id hs old new → AreCalm id old hs →
     MayTry id (expiries id old hs) old → GoesOn id new ⊎ IsCompleted id new
 outlived all id hs old new r waits are calm may =
     let t : IsTracked id old = tracked id old r waits.unfinished in
-    subst (λ i. IsWaiting i old → AreOfOutage hs old new → AreCalm i old hs → MayTry i (expiries i old hs) old → GoesOn i new ⊎ IsCompleted i new) t.of
+    subst (λ i. IsWaiting i old → AreOfOutage i hs old new → AreCalm i old hs → MayTry i (expiries i old hs) old → GoesOn i new ⊎ IsCompleted i new) t.of
     (λ waits are calm may. of-put t.side t.put t.own waits are calm may) waits are calm may
   where
-    of-put : (s : Side) (put : Put) → IsPutOf s put old → IsWaiting put.id old → AreOfOutage hs old new → AreCalm put.id old hs → MayTry put.id (expiries put.id old hs) old →
+    of-put : (s : Side) (put : Put) → IsPutOf s put old → IsWaiting put.id old → AreOfOutage put.id hs old new → AreCalm put.id old hs → MayTry put.id (expiries put.id old hs) old →
         GoesOn put.id new ⊎ IsCompleted put.id new
     of-put s put own waits are calm may =
         let x = has-exchange s put old r.sound r.kept.course own in

@@ -13,7 +13,7 @@ use Rattle.link_sim.specs.Recovering.{armed_at}
 use Rattle.link_sim.specs.Settling.{IsSettled, KeepsAll, all_shortages}
 use Rattle.link_sim.specs.World.State.{WorldState, arriving_from}
 use Rattle.link_sim.specs.World.Steps.{Steps}
-use Rattle.outages.specs.Outage.{Happening}
+use Rattle.outages.specs.Outage.{Happening, IsOfOutage}
 use Rattle.outages.specs.Tries.{IsCalm}
 
 -- A frame was lost, and no PDU of this transaction with it: those that will arrive are the same as
@@ -23,14 +23,12 @@ SparesIt id old new = (s : Side) (before after : List Pdu)
     → AreSpelled (arriving_from s old) before → AreSpelled (arriving_from s new) after
     → of_id id after ≡ of_id id before
 
--- The event is a poll, a flush or a delivery, or it is a loss that spares the transaction.
+-- The event is one of an outage, but no time is told, and a loss spares the transaction.
 abbrev pub IsSparing : TransactionId → Event → (old new : WorldState) → Type 0
-IsSparing id (event.Poll s) old new = Unit {0}
-IsSparing id (event.Flush s) old new = Unit {0}
-IsSparing id (event.Deliver s l) old new = Unit {0}
 IsSparing id (event.Strike s l) old new = SparesIt id old new
 IsSparing id (event.Damage s l octets) old new = SparesIt id old new
-IsSparing id _ old new = ⊥
+IsSparing id (event.Tick s now) old new = ⊥
+IsSparing id e old new = IsOfOutage id e
 
 -- Such events led from the old world to the new one, and nothing was short in any of them.
 abbrev pub AreSparing : TransactionId → List Happening → (old new : WorldState) → Type 0

@@ -22,13 +22,13 @@ pub fn a_transfer_outlives_its_losses()
     ensures waits { (c : WorldConfig) (outboxes inboxes : FileMap × FileMap)
         (first old new : WorldState) (id : TransactionId) (outage : List Happening)
         → IsWorldConfig c → IsFirst c outboxes inboxes first → Led first old
-        → IsWaiting id old → AreOfOutage outage old new → AreCalm id old outage
+        → IsWaiting id old → AreOfOutage id outage old new → AreCalm id old outage
         → MayTry id (expiries id old outage) old → GoesOn id new ⊎ IsCompleted id new }
     // In an outage that is short enough, they expire that seldom.
     ensures lasts { (c : WorldConfig) (outboxes inboxes : FileMap × FileMap)
         (first old new : WorldState) (id : TransactionId) (outage : List Happening)
         → IsWorldConfig c → IsFirst c outboxes inboxes first → Led first old
-        → AreOfOutage outage old new → IsShort id old new
+        → AreOfOutage id outage old new → IsShort id old new
         → MayTry id (expiries id old outage) old }
     // After two expiries after each of which nothing of it was lost it is complete, whatever was
     // lost before the first one and between both.
@@ -36,8 +36,8 @@ pub fn a_transfer_outlives_its_losses()
         (first old held through again new : WorldState) (id : TransactionId)
         (before between : List Happening)
         → IsWorldConfig c → IsFirst c outboxes inboxes first → Led first old
-        → IsWaiting id old → AreOfOutage before old held → AreCalm id old before
-        → GetsThrough id held through → AreOfOutage between through again
+        → IsWaiting id old → AreOfOutage id before old held → AreCalm id old before
+        → GetsThrough id held through → AreOfOutage id between through again
         → AreCalm id through between → GetsThrough id again new
         → MayTry id (λ s k. expiries id old before s k + expiries id through between s k) old
         → IsCompleted id new }
@@ -46,9 +46,9 @@ pub fn a_transfer_outlives_its_losses()
         (first old held through again new : WorldState) (id : TransactionId)
         (outage between : List Happening)
         → IsWorldConfig c → IsFirst c outboxes inboxes first → Led first old
-        → IsWaiting id old → AreOfOutage outage old held → AreCalm id old outage
+        → IsWaiting id old → AreOfOutage id outage old held → AreCalm id old outage
         → IsShort id old held → GetsThrough id held through
-        → AreOfOutage between through again → AreCalm id through between
+        → AreOfOutage id between through again → AreCalm id through between
         → NoneExpires id through between → GetsThrough id again new → IsCompleted id new }
 {
     cfdp_entity::an_entity_keeps_the_truth();
