@@ -1,20 +1,17 @@
 -- A put, and a call on another transaction, leave this one as it is.
-use Rattle.std.proofs.Common.{◌≡◌, ◌≢◌, ℕ, zero, suc, Bool, true, false, List, [], ◌∷◌, ◌++◌, length, slice_get, Option, Some, None, inl, inr, refl, sym, ap, subst, ◌∙◌}
-use Rattle.std.specs.Map.{keys_of}
+use Rattle.std.proofs.Common.{◌≡◌, ◌≢◌, ℕ, zero, suc, true, false, List, length, slice_get, Option, Some, None, inr, refl, sym, ap, subst, ◌∙◌}
 use Rattle.std.proofs.lemmas.Bool.{false_from_ne_true}
 use Rattle.cfdp_header.specs.declared.value.TransactionId.{TransactionId}
 use Rattle.cfdp_header.specs.Ids.{same_id}
-use Rattle.cfdp_directives.specs.declared.user.indication.Indication.{Indication}
 use Rattle.cfdp_directives.specs.User.Put.{Put}
 use Rattle.cfdp_store.specs.Files.{octets_in}
 use Rattle.cfdp_sender.specs.declared.transfer.Transfer.{Transfer}
 use Rattle.cfdp_entity.specs.declared.request.Request.{Request}
-use Rattle.cfdp_entity.specs.declared.request.Request.TheVariants as calls
-use Rattle.cfdp_entity.specs.Entity.{Counted, EntityState}
+use Rattle.cfdp_entity.specs.Entity.{EntityState}
 use Rattle.cfdp_entity.specs.Opening.{puts}
-use Rattle.cfdp_entity.specs.Putting.{next_transfer, with_put}
+use Rattle.cfdp_entity.specs.Putting.{next_transfer}
 use Rattle.cfdp_entity.specs.Refusing.{called_in}
-use Rattle.cfdp_entity.specs.Seen.{Seen, Sends}
+use Rattle.cfdp_entity.specs.Seen.{Sends}
 use Rattle.cfdp_entity.specs.Steps.{After}
 use Rattle.cfdp_entity.specs.Steps as steps
 use Rattle.cfdp_entity.specs.Table.{Entry, TableState, place_of, record_of, step_of}
@@ -33,7 +30,7 @@ use Rattle.link_sim.specs.Runs.{Exchange, Runs, TellsMore}
 use Rattle.link_sim.specs.Sound.{IsSound}
 use Rattle.link_sim.specs.Waiting.{one_tells}
 use Rattle.link_sim.specs.World.State.{WorldState, arriving_from, entity_at}
-use Rattle.link_sim.specs.World.Steps.{Calls, KeepsLinks, Puts, TakesPut}
+use Rattle.link_sim.specs.World.Steps.{Calls, KeepsLinks, Puts}
 use Rattle.link_sim.proofs.Events.Keeping.{both}
 use Rattle.link_sim.proofs.Events.Moving.{apart}
 use Rattle.link_sim.proofs.Found.Exchanges.{has-exchange, spelled-same}

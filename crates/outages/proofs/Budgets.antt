@@ -1,9 +1,8 @@
 -- How often a sender and a receiver tried again, and that the steps of a settling leave that.
-use Rattle.std.proofs.Common.{◌≡◌, ◌⊎◌, inl, inr, ℕ, zero, suc, ◌+◌, ◌≤◌, Bool, true, false, not, cond, List, [], ◌∷◌, ◌++◌, length, Option, Some, None, refl, sym, ap, subst, ◌∙◌, arith}
+use Rattle.std.proofs.Common.{◌≡◌, inl, inr, ℕ, zero, suc, ◌+◌, ◌≤◌, Bool, true, false, not, length, Option, Some, None, refl, sym, ap, subst, arith}
 use Rattle.std.specs.FinMap as map
 use Rattle.std.proofs.lemmas.Bool.{false≢true, both_ways, false_from_ne_true}
 use Rattle.cfdp_directives.specs.declared.user.limits.Limits.{Limits}
-use Rattle.cfdp_directives.specs.Pdu.Content.{Content}
 use Rattle.cfdp_directives.specs.User.Put.{Put}
 use Rattle.cfdp_timers.specs.declared.kind.Kind.TheVariants.{EofAck}
 use Rattle.cfdp_sender.specs.declared.phase.SenderPhase.{SenderPhase}
@@ -11,12 +10,11 @@ use Rattle.cfdp_sender.specs.declared.phase.SenderPhase.TheVariants as sending
 use Rattle.cfdp_sender.specs.State.{SenderState}
 use Rattle.cfdp_sender.specs.Steps.{sender_waits}
 use Rattle.cfdp_receiver.specs.State.{ReceiverState, opened_receiver}
-use Rattle.link_sim.specs.Course.{IsCourse}
 use Rattle.link_sim.specs.Exchange.{IsTrueForth, AllTrue, is_closed, is_closed_in}
 use Rattle.link_sim.specs.Runs.{Exchange, ReceiverOpens, Runs, Settles}
 use Rattle.link_sim.specs.Stages.{IsActiveCourse, is_answered}
 use Rattle.link_sim.specs.Waiting.{is_open_sender}
-use Rattle.link_sim.proofs.Stages.Keep.{ExchangeKeeps, Fewer, ReceiverKeeps, SenderKeeps, StaysReceiver, closed-is, receiver-keeps, runs-keep, settles-keep}
+use Rattle.link_sim.proofs.Stages.Keep.{ExchangeKeeps, ReceiverKeeps, SenderKeeps, StaysReceiver, closed-is, receiver-keeps, runs-keep, settles-keep}
 use Rattle.link_sim.proofs.Stages.Rest.{answered-waits, closed-sender-waits}
 use Rattle.link_sim.proofs.Stages.Runs.{OpensWell, opened-by, opened-well, runs-course}
 

@@ -1,8 +1,7 @@
 -- The deadlines of a table: one that is set lies a whole wait behind the time at which it is set.
-use Rattle.std.proofs.Common.{◌≡◌, ◌⊎◌, inl, inr, ℕ, ◌+◌, ◌≤◌, Bool, true, false, cond, List, [], ◌∷◌, ◌++◌, length, slice_get, max, Option, Some, None, refl, sym, ap, subst, ◌∙◌, arith}
+use Rattle.std.proofs.Common.{◌≡◌, ◌⊎◌, inl, inr, ℕ, ◌≤◌, Bool, true, false, cond, List, [], ◌∷◌, ◌++◌, length, slice_get, max, Option, Some, None, refl, sym, ap, subst, ◌∙◌, arith}
 use Rattle.std.specs.Prelude.{nat_lt}
 use Rattle.std.specs.FinMap as map
-use Rattle.std.proofs.lemmas.Bool.{cases_lt}
 use Rattle.cfdp_header.specs.declared.value.Header.{Header}
 use Rattle.cfdp_header.specs.declared.value.TransactionId.{TransactionId}
 use Rattle.cfdp_header.specs.Files.{FileMap}
@@ -40,7 +39,7 @@ use Rattle.cfdp_receiver.specs.Steps as receiver
 use Rattle.cfdp_entity.specs.declared.error.EntityDrop.{EntityDrop}
 use Rattle.cfdp_entity.specs.declared.error.EntityDrop.TheVariants as drops
 use Rattle.cfdp_entity.specs.Entity.{Counted, EntityState, dropped, is_forgotten}
-use Rattle.cfdp_entity.specs.Hearing.{DropsBy, DropsOctets, FindsNoMemory, OpensOne, StepsAt, Takes, names_no_file, opens_record, queues, route, route_by, route_new, route_over, route_unplaced}
+use Rattle.cfdp_entity.specs.Hearing.{DropsBy, DropsOctets, OpensOne, Takes, names_no_file, opens_record, queues, route, route_by, route_new, route_over, route_unplaced}
 use Rattle.cfdp_entity.specs.Opening.{begins, closing, opens, opens_by, puts}
 use Rattle.cfdp_entity.specs.declared.request.Request.{Request}
 use Rattle.cfdp_entity.specs.Putting.{with_put}

@@ -1,14 +1,12 @@
 -- A transaction that waits, as it is tracked from there, and what it is in the end.
-use Rattle.std.proofs.Common.{not, ◌≡◌, ◌≢◌, ◌⊎◌, inl, inr, ℕ, suc, ◌+◌, ◌<◌, ◌≤◌, Bool, true, false, List, Option, Some, None, refl, sym, ap, subst, ◌∙◌, arith}
+use Rattle.std.proofs.Common.{not, ◌≡◌, ◌⊎◌, inl, inr, ℕ, suc, ◌+◌, ◌<◌, ◌≤◌, Bool, true, false, Option, Some, None, refl, sym, ap, subst, ◌∙◌, arith}
 use Rattle.std.proofs.lemmas.Bool.{false≢true, both_ways}
 use Rattle.cfdp_header.specs.declared.value.TransactionId.{TransactionId}
-use Rattle.cfdp_directives.specs.declared.user.limits.Limits.{Limits}
 use Rattle.cfdp_directives.specs.User.Put.{Put}
 use Rattle.cfdp_timers.specs.declared.kind.Kind.{Kind}
 use Rattle.cfdp_timers.specs.declared.kind.Kind.TheVariants.{EofAck, Nak, FinishedAck}
 use Rattle.cfdp_sender.specs.declared.phase.SenderPhase.{SenderPhase}
 use Rattle.cfdp_sender.specs.declared.phase.SenderPhase.TheVariants as sending
-use Rattle.cfdp_sender.specs.State.{SenderState}
 use Rattle.cfdp_receiver.specs.declared.state.ReceiverPhase.{ReceiverPhase}
 use Rattle.cfdp_receiver.specs.declared.state.ReceiverPhase.TheVariants as receiving
 use Rattle.cfdp_receiver.specs.State.{ReceiverState}
@@ -30,7 +28,7 @@ use Rattle.link_sim.specs.World.State.{WorldState, entity_at}
 use Rattle.link_sim.proofs.Clean.Ends.{complete-at, side-is}
 use Rattle.link_sim.proofs.Course.All.{course-laws}
 use Rattle.link_sim.proofs.Events.Keeping.{both}
-use Rattle.link_sim.proofs.Found.Exchanges.{exchange-true, has-exchange}
+use Rattle.link_sim.proofs.Found.Exchanges.{exchange-true}
 use Rattle.link_sim.proofs.Found.Puts.{accepted-among, found-by}
 use Rattle.link_sim.proofs.Recovery.Records.{IsReceivedHere, IsSentHere, received-here, sent-here}
 use Rattle.link_sim.proofs.Stages.Keep.{closed-is}

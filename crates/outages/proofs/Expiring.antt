@@ -1,12 +1,11 @@
 -- Timers of a transaction that expire in turn, while it may try again: it stays on its course, and
 -- each expiry takes one try at most.
-use Rattle.std.proofs.Common.{◌≡◌, ◌≢◌, ◌⊎◌, inl, inr, ℕ, zero, suc, ◌+◌, ◌<◌, ◌≤◌, ◌&&◌, ◌||◌, not, Bool, true, false, cond, List, [], ◌∷◌, length, Option, Some, None, refl, sym, ap, subst, ◌∙◌, arith, if◌then◌else◌}
+use Rattle.std.proofs.Common.{◌≡◌, ◌≢◌, ◌⊎◌, inl, inr, ℕ, suc, ◌+◌, ◌<◌, ◌≤◌, ◌||◌, not, Bool, true, false, List, [], ◌∷◌, length, Option, Some, None, refl, sym, ap, subst, ◌∙◌, arith, if◌then◌else◌}
 use Rattle.std.specs.Prelude.{Contains}
-use Rattle.std.proofs.lemmas.Bool.{false≢true, both_ways, cond_both, and_parts, and_right, or_from, lt-ltb, false_from_ne_true}
+use Rattle.std.proofs.lemmas.Bool.{false≢true, cond_both, and_parts, lt-ltb}
 use Rattle.cfdp_header.specs.Files.{FileMap}
 use Rattle.cfdp_directives.specs.declared.user.handler.Handler.{Handler}
 use Rattle.cfdp_directives.specs.declared.user.handler.Handler.TheVariants.{Ignore}
-use Rattle.cfdp_directives.specs.declared.user.limits.Limits.{Limits}
 use Rattle.cfdp_directives.specs.declared.user.policy.Policy.{Policy}
 use Rattle.cfdp_directives.specs.Pdu.Codes.{inactivity}
 use Rattle.cfdp_directives.specs.User.Policy.{another_try}
@@ -26,11 +25,11 @@ use Rattle.link_sim.specs.Exchange.{is_closed, is_closed_in, maybe}
 use Rattle.link_sim.specs.Runs.{Exchange, told_then, expire_sender, ReceiverExpires}
 use Rattle.link_sim.specs.Stages.{IsActiveCourse}
 use Rattle.link_sim.proofs.Course.All.{course-laws}
-use Rattle.link_sim.proofs.Course.Laws.{CourseLaws, TellsWell}
+use Rattle.link_sim.proofs.Course.Laws.{TellsWell}
 use Rattle.link_sim.proofs.Course.SenderStays.{stays-course}
 use Rattle.link_sim.proofs.Stages.Owing.{ignored-told}
 use Rattle.link_sim.proofs.Stages.Rounds.{contains-first, contains-later}
-use Rattle.outages.proofs.Budgets.{HoldsHere, HoldsThere, done-same, fewer-there, is_done, waits-undone}
+use Rattle.outages.proofs.Budgets.{HoldsThere, done-same, fewer-there, is_done, waits-undone}
 
 -- ---- how often a kind is among the timers
 abbrev pub one : Kind → Kind → ℕ

@@ -1,5 +1,5 @@
 -- Expiries of a timer lie a whole wait apart, so that there are few of them in a short outage.
-use Rattle.std.proofs.Common.{◌≡◌, ◌⊎◌, inl, inr, ℕ, zero, suc, ◌+◌, ◌-◌, ◌*◌, ◌^◌, ◌<◌, ◌≤◌, ◌&&◌, nat_le, Bool, true, false, List, [], ◌∷◌, max, min, Option, Some, None, refl, sym, ap, subst, ◌∙◌, arith}
+use Rattle.std.proofs.Common.{◌≡◌, inl, inr, ℕ, ◌+◌, ◌-◌, ◌*◌, ◌^◌, ◌<◌, ◌≤◌, ◌&&◌, nat_le, Bool, true, false, List, [], ◌∷◌, max, Option, Some, None, refl, sym, ap, subst, ◌∙◌, arith}
 use Rattle.std.specs.FinMap as map
 use Rattle.std.specs.Option.{option_map_or}
 use Rattle.std.proofs.lemmas.Bool.{cases_lt, false≢true, leb-true}
@@ -10,7 +10,6 @@ use Rattle.cfdp_directives.specs.declared.user.policy.Policy.{Policy}
 use Rattle.cfdp_store.specs.declared.stored.Stored.TheVariants as storeds
 use Rattle.cfdp_timers.specs.declared.kind.Kind.{Kind}
 use Rattle.cfdp_timers.specs.declared.kind.Kind.TheVariants.{EofAck, Nak, FinishedAck}
-use Rattle.cfdp_timers.specs.Armed.{Armed}
 use Rattle.cfdp_timers.specs.Due.{is_due}
 use Rattle.cfdp_timers.specs.Waits.{deadline_after}
 use Rattle.cfdp_entity.specs.declared.request.Request.{Request}
@@ -27,7 +26,7 @@ use Rattle.link_sim.specs.declared.event.Event.{Event}
 use Rattle.link_sim.specs.declared.event.Event.TheVariants as event
 use Rattle.link_sim.specs.declared.event.Applied.{Applied}
 use Rattle.link_sim.specs.declared.event.Applied.TheVariants as did
-use Rattle.link_sim.specs.Waiting.{policy_at, is_open}
+use Rattle.link_sim.specs.Waiting.{policy_at}
 use Rattle.link_sim.specs.World.State.{WorldState, entity_at, station_at}
 use Rattle.link_sim.specs.World.Steps.{Calls, Damages, Delivers, Flushes, Polls, Puts, Steps, Strikes, TellsTime}
 use Rattle.link_sim.proofs.Events.Keeping.{both}

@@ -1,5 +1,5 @@
 -- A frame that is lost: what will arrive then is what was to arrive without a front of its lane.
-use Rattle.std.proofs.Common.{◌≡◌, ℕ, suc, ◌+◌, ◌*◌, ◌<◌, ◌≤◌, ◌==◌, ◌&&◌, Bool, true, false, nat_le, nat_lt, if◌then◌else◌, List, [], ◌∷◌, ◌++◌, length, inl, inr, refl, sym, ap, subst, ◌∙◌, arith}
+use Rattle.std.proofs.Common.{◌≡◌, ℕ, ◌+◌, ◌*◌, ◌<◌, ◌≤◌, ◌==◌, ◌&&◌, Bool, true, false, nat_le, nat_lt, if◌then◌else◌, List, [], ◌∷◌, ◌++◌, length, inl, inr, refl, sym, ap, ◌∙◌, arith}
 use Rattle.std.proofs.lemmas.Bool.{cases_lt, le-leb, lt-leb, lt-ltb, le-ltb, ne_eqb}
 use Rattle.aos_frame.specs.Frame.{other_lane}
 use Rattle.aos_frame.specs.declared.config.Lane.{Lane}
@@ -13,7 +13,7 @@ use Rattle.station_pair.specs.Stations.{other}
 use Rattle.station_pair.specs.declared.side.Side.{Side}
 use Rattle.link_sim.specs.OneWay.{OneWayState, arriving, packets_sent, unbroken}
 use Rattle.link_sim.specs.Runs.{IsSwapped}
-use Rattle.link_sim.specs.World.State.{AreWays, LinkState, WorldState, arriving_from, lane_from, station_at, way_from}
+use Rattle.link_sim.specs.World.State.{AreWays, LinkState, WorldState, arriving_from, station_at, way_from}
 use Rattle.link_sim.specs.World.Steps.{DamagesFrame, LosesFrame, StrikesFrame}
 use Rattle.link_sim.proofs.Events.Keeping.{both}
 use Rattle.link_sim.proofs.Lanes.Each.{either-lane}

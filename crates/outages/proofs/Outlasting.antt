@@ -1,14 +1,14 @@
 -- A transaction that may try again in all events of an outage, from its first world to its last one.
-use Rattle.std.proofs.Common.{◌≡◌, ◌⊎◌, inl, inr, ℕ, ◌+◌, ◌≤◌, ◌&&◌, Bool, true, false, List, [], ◌∷◌, length, refl, sym, ap, subst, ◌∙◌, arith}
+use Rattle.std.proofs.Common.{◌≡◌, inl, inr, ℕ, ◌+◌, ◌≤◌, ◌&&◌, Bool, true, false, List, [], ◌∷◌, refl, sym, ap, subst, ◌∙◌, arith}
 use Rattle.aos_frame.specs.declared.config.Lane.{Lane}
 use Rattle.cfdp_directives.specs.declared.user.limits.Limits.{Limits}
 use Rattle.cfdp_directives.specs.declared.user.policy.Policy.{Policy}
 use Rattle.cfdp_directives.specs.User.Put.{Put}
 use Rattle.cfdp_timers.specs.declared.kind.Kind.{Kind}
-use Rattle.cfdp_timers.specs.declared.kind.Kind.TheVariants.{EofAck, Nak, FinishedAck, Inactivity}
+use Rattle.cfdp_timers.specs.declared.kind.Kind.TheVariants.{EofAck, Nak, FinishedAck}
 use Rattle.cfdp_timers.specs.Due.{is_due}
 use Rattle.cfdp_entity.specs.declared.request.Request.TheVariants as calls
-use Rattle.cfdp_entity.specs.Entity.{Counted, EntityState}
+use Rattle.cfdp_entity.specs.Entity.{Counted}
 use Rattle.station_pair.specs.declared.side.Side.{Side}
 use Rattle.station_pair.specs.declared.side.Side.TheVariants.{One, Two}
 use Rattle.station_pair.specs.Stations.{other}
@@ -34,7 +34,7 @@ use Rattle.outages.specs.Outage.{AreOfOutage, Happening, IsOfOutage}
 use Rattle.outages.specs.Tries.{AreCalm, IsCalm, expires_at, expiries, is_side, one_if, time_told}
 use Rattle.outages.proofs.Aside.{GoesAside, aside-run, call-aside, put-aside}
 use Rattle.outages.proofs.Budgets.{fewer-here, fewer-there, runs-here, runs-there}
-use Rattle.outages.proofs.Lost.{IsLeft, Loses, left-after}
+use Rattle.outages.proofs.Lost.{Loses, left-after}
 use Rattle.outages.proofs.Ticking.{due, ticks-here, ticks-there}
 use Rattle.outages.proofs.Tracking.{Comes, HasLost, Holds, IsReached, Onward, damage-lost, lost-holds, onward-both, onward-same, policy-next, reached-next, strike-lost}
 

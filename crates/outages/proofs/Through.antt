@@ -1,8 +1,7 @@
 -- An expiry after which nothing of a transaction is lost: it answers the sender, or it completes the
 -- transaction.
-use Rattle.std.proofs.Common.{◌≡◌, ◌≢◌, ◌⊎◌, inl, inr, ℕ, zero, suc, ◌+◌, ◌<◌, ◌≤◌, ◌&&◌, not, Bool, true, false, List, [], ◌∷◌, length, Option, Some, None, is_some, refl, sym, ap, subst, ◌∙◌, arith}
+use Rattle.std.proofs.Common.{◌≡◌, ◌≢◌, ◌⊎◌, inl, inr, ℕ, suc, ◌+◌, ◌≤◌, not, Bool, true, false, List, [], ◌∷◌, Option, Some, None, is_some, refl, sym, ap, subst, ◌∙◌, arith}
 use Rattle.std.specs.Prelude.{Contains}
-use Rattle.std.specs.FinMap as map
 use Rattle.std.proofs.lemmas.Bool.{false≢true, and_parts, both_ways}
 use Rattle.cfdp_directives.specs.declared.user.limits.Limits.{Limits}
 use Rattle.cfdp_directives.specs.declared.user.policy.Policy.{Policy}
@@ -17,11 +16,9 @@ use Rattle.cfdp_receiver.specs.declared.state.ReceiverPhase.TheVariants as recei
 use Rattle.cfdp_receiver.specs.State.{ReceiverState}
 use Rattle.cfdp_receiver.specs.Steps.{waits, waits_in}
 use Rattle.cfdp_entity.specs.declared.request.Request.TheVariants as calls
-use Rattle.cfdp_entity.specs.Entity.{Counted, EntityState}
 use Rattle.cfdp_entity.specs.Seen.{Seen, Sends, Receives}
 use Rattle.cfdp_entity.specs.Table.{record_of}
 use Rattle.cfdp_entity.specs.Timed.{waits_for}
-use Rattle.aos_frame.specs.declared.config.Lane.{Lane}
 use Rattle.station_pair.specs.declared.side.Side.{Side}
 use Rattle.station_pair.specs.Stations.{other}
 use Rattle.link_sim.specs.declared.event.Event.{Event}
@@ -31,8 +28,8 @@ use Rattle.link_sim.specs.declared.event.Applied.TheVariants as did
 use Rattle.link_sim.specs.Between.{IsReceiverIn}
 use Rattle.link_sim.specs.Exchange.{is_closed, is_closed_in, maybe}
 use Rattle.link_sim.specs.Found.{HasExchange, IsPutOf, RunsTo}
-use Rattle.link_sim.specs.Runs.{Exchange, IsItsSender, Runs, TellsMore, expire_sender, ReceiverExpires}
-use Rattle.link_sim.specs.Settling.{IsOfSettling, KeepsAll, all_shortages}
+use Rattle.link_sim.specs.Runs.{Exchange, IsItsSender, Runs, TellsMore, expire_sender}
+use Rattle.link_sim.specs.Settling.{KeepsAll, all_shortages}
 use Rattle.link_sim.specs.Stages.{AreWaitedByReceiver, AreWaitedBySender, IsAtRest, IsReceiverBelowNow, Stands, is_answered, is_answered_in}
 use Rattle.link_sim.specs.Waiting.{policy_at}
 use Rattle.link_sim.specs.World.State.{WorldState, entity_at}
@@ -51,12 +48,11 @@ use Rattle.outages.specs.Outage.{Happening}
 use Rattle.outages.specs.Spared.{AreSparing, GetsThrough, IsSparing, SparesIt}
 use Rattle.outages.specs.Tries.{one_if}
 use Rattle.outages.proofs.Aside.{aside-run, call-aside, put-aside}
-use Rattle.outages.proofs.Budgets.{HoldsHere, HoldsThere, waits-undone}
+use Rattle.outages.proofs.Budgets.{HoldsThere, waits-undone}
 use Rattle.outages.proofs.Expiring.{ignored-receiver, ignored-sender, ignoring}
-use Rattle.outages.proofs.Lost.{Loses}
-use Rattle.outages.proofs.Outlasting.{entities-same, fewer, limits-so, runs-hold}
+use Rattle.outages.proofs.Outlasting.{entities-same, fewer, runs-hold}
 use Rattle.outages.proofs.Ticking.{Expired, all-due, due, expired-some, ignored, kinds, ticks-here, ticks-there, told-here, waited}
-use Rattle.outages.proofs.Tracking.{Comes, HasLost, Holds, IsReached, Onward, damage-lost, onward-both, policy-next, reached-next, spared-same, strike-lost}
+use Rattle.outages.proofs.Tracking.{Comes, HasLost, Holds, IsReached, damage-lost, onward-both, policy-next, reached-next, spared-same, strike-lost}
 
 -- ---- what waits for what
 eof-only : (k : Kind) (x : SenderState) → k ≢ eofs.Inactivity → sender_waits k x ≡ true → k ≡ eofs.EofAck

@@ -1,5 +1,5 @@
 -- The time is told at a station: what becomes of a put's transaction that may try again.
-use Rattle.std.proofs.Common.{◌≡◌, ◌⊎◌, inl, inr, ℕ, ◌+◌, ◌≤◌, Bool, true, false, List, [], ◌∷◌, length, max, Option, Some, None, is_some, refl, sym, ap, subst, ◌∙◌, arith}
+use Rattle.std.proofs.Common.{◌≡◌, ◌⊎◌, inl, inr, ℕ, ◌+◌, ◌≤◌, Bool, true, false, List, max, Option, Some, None, is_some, refl, sym, ap, subst, ◌∙◌, arith}
 use Rattle.std.specs.Prelude.{Contains, nat_le}
 use Rattle.std.specs.Option.{option_map_or}
 use Rattle.std.proofs.lemmas.Bool.{le-leb}
@@ -17,28 +17,28 @@ use Rattle.cfdp_sender.specs.State.{SenderState}
 use Rattle.cfdp_receiver.specs.State.{ReceiverState}
 use Rattle.cfdp_entity.specs.Entity.{EntityState}
 use Rattle.cfdp_entity.specs.Seen.{Seen, Sends, Receives}
-use Rattle.cfdp_entity.specs.Table.{TableState, all_expired, at_time, record_of}
+use Rattle.cfdp_entity.specs.Table.{TableState, at_time, record_of}
 use Rattle.cfdp_entity.specs.Timed.{waits_for}
 use Rattle.station_pair.specs.declared.side.Side.{Side}
 use Rattle.station_pair.specs.Stations.{other}
-use Rattle.link_sim.specs.Between.{Pdu, AreSpelled, IsReceiverIn, of_id}
-use Rattle.link_sim.specs.Exchange.{is_closed, maybe, tells_complete}
+use Rattle.link_sim.specs.Between.{AreSpelled, IsReceiverIn, of_id}
+use Rattle.link_sim.specs.Exchange.{tells_complete}
 use Rattle.link_sim.specs.Found.{HasExchange, IsPutOf}
 use Rattle.link_sim.specs.Runs.{Exchange, IsItsSender, TellsMore, expire_sender, ReceiverExpires}
-use Rattle.link_sim.specs.Stages.{IsActiveCourse, is_answered}
+use Rattle.link_sim.specs.Stages.{is_answered}
 use Rattle.link_sim.specs.Waiting.{one_tells, policy_at}
 use Rattle.link_sim.specs.World.State.{WorldState, arriving_from, entity_at}
 use Rattle.link_sim.specs.World.Steps.{TellsTime}
 use Rattle.link_sim.proofs.Course.All.{course-laws}
 use Rattle.link_sim.proofs.Events.Keeping.{other-other}
-use Rattle.link_sim.proofs.Found.Exchanges.{has-exchange, spelled-same}
+use Rattle.link_sim.proofs.Found.Exchanges.{spelled-same}
 use Rattle.link_sim.proofs.Found.ExpiresWorld.{SendsIn, StaysNone, expired-rest, fired-none}
 use Rattle.link_sim.proofs.Found.ExpiresWorld as world
 use Rattle.link_sim.proofs.Lanes.Same.{same-arriving}
 use Rattle.link_sim.proofs.Lanes.Ways.{back-kept, forth-kept}
 use Rattle.link_sim.proofs.Recovery.Records.{its-receiver, its-sender}
 use Rattle.outages.specs.Tries.{one_if, time_told}
-use Rattle.outages.proofs.Budgets.{HoldsHere, HoldsThere, done-same, fewer-there, is_done}
+use Rattle.outages.proofs.Budgets.{HoldsHere, HoldsThere, done-same, fewer-there}
 use Rattle.outages.proofs.Expiring.{Counts, IsIgnored, Received, all-received, all-steps, counted-course, ignored-receiver, ignored-sender, ignoring, occurs}
 use Rattle.outages.proofs.Fired.{due-there, kind-there, occurs-due, undue-apart}
 use Rattle.outages.proofs.Timers.{fired-receiver, fired-sender}

@@ -1,12 +1,10 @@
 -- A put's transaction in a world, on its course, with so many tries left, and what each event of an
 -- outage makes of it.
-use Rattle.std.proofs.Common.{◌≡◌, ◌⊎◌, inl, inr, ℕ, zero, suc, ◌+◌, ◌≤◌, Bool, true, false, List, [], ◌∷◌, ◌++◌, length, max, Option, Some, None, refl, sym, ap, subst, ◌∙◌, arith}
-use Rattle.std.specs.Prelude.{Contains}
+use Rattle.std.proofs.Common.{◌≡◌, ◌⊎◌, inl, inr, ℕ, Bool, true, false, List, [], ◌∷◌, ◌++◌, Option, Some, None, refl, sym, ap, subst, ◌∙◌}
 use Rattle.std.proofs.lemmas.Bool.{false≢true}
 use Rattle.aos_frame.specs.declared.config.Lane.{Lane}
 use Rattle.cfdp_header.specs.declared.value.TransactionId.{TransactionId}
 use Rattle.cfdp_directives.specs.declared.user.limits.Limits.{Limits}
-use Rattle.cfdp_directives.specs.declared.user.policy.Policy.{Policy}
 use Rattle.cfdp_directives.specs.Pdu.Content.{Content}
 use Rattle.cfdp_directives.specs.User.Put.{Put}
 use Rattle.cfdp_sender.specs.State.{SenderState}
@@ -19,14 +17,13 @@ use Rattle.station_pair.specs.declared.refusal.Refusal.TheVariants as refusal
 use Rattle.station_pair.specs.declared.side.Side.{Side}
 use Rattle.station_pair.specs.Stations.{other}
 use Rattle.link_sim.specs.declared.event.Event.{Event}
-use Rattle.link_sim.specs.declared.event.Event.TheVariants as event
 use Rattle.link_sim.specs.declared.event.Applied.{Applied}
 use Rattle.link_sim.specs.declared.event.Applied.TheVariants as did
 use Rattle.link_sim.specs.Between.{Pdu, AreSpelled, IsReceiverIn, of_id}
 use Rattle.link_sim.specs.Course.{IsCourse}
 use Rattle.link_sim.specs.EveryPut.{KeepsPuts}
 use Rattle.link_sim.specs.Exchange.{is_closed, maybe, tells_complete}
-use Rattle.link_sim.specs.Found.{HasExchange, IsPutOf, RunsTo}
+use Rattle.link_sim.specs.Found.{HasExchange}
 use Rattle.link_sim.specs.Runs.{Exchange, IsSwapped}
 use Rattle.link_sim.specs.Sound.{IsSound}
 use Rattle.link_sim.specs.Stages.{IsActiveCourse, is_answered}
@@ -43,12 +40,11 @@ use Rattle.link_sim.proofs.Events.Beginning.{event-moves}
 use Rattle.link_sim.proofs.Events.Keeping.{sound-next}
 use Rattle.link_sim.proofs.Events.Moving.{Moves}
 use Rattle.link_sim.proofs.Events.Resting.{rests-kept}
-use Rattle.link_sim.proofs.Found.Exchanges.{has-exchange, spelled-same}
+use Rattle.link_sim.proofs.Found.Exchanges.{spelled-same}
 use Rattle.link_sim.proofs.Lanes.Swapping.{SwapsPdus, swapped-course, swapped-of, swapped-spelled}
-use Rattle.link_sim.proofs.Runs.World.{puts-kept}
 use Rattle.link_sim.proofs.Work.WithinWorld.{event-within}
 use Rattle.outages.proofs.Budgets.{HoldsHere, HoldsThere}
-use Rattle.outages.proofs.Lost.{IsLeft, Loses, damages, left-after, strikes}
+use Rattle.outages.proofs.Lost.{IsLeft, Loses, damages, strikes}
 
 -- ---- what every world keeps
 pub record IsReached (w : WorldState) : Type 0 where

@@ -1,5 +1,5 @@
 -- A transaction that waits and may try again outlives an outage.
-use Rattle.std.proofs.Common.{◌≡◌, ◌⊎◌, inl, inr, ℕ, suc, ◌+◌, ◌≤◌, true, List, subst, sym, arith}
+use Rattle.std.proofs.Common.{◌⊎◌, inl, inr, ℕ, suc, ◌+◌, true, List, subst, sym, arith}
 use Rattle.cfdp_header.specs.Files.{FileMap}
 use Rattle.cfdp_header.specs.declared.value.TransactionId.{TransactionId}
 use Rattle.cfdp_timers.specs.declared.kind.Kind.{Kind}
@@ -16,10 +16,9 @@ use Rattle.link_sim.specs.World.State.{IsFirst, WorldState}
 use Rattle.link_sim.proofs.Clean.Found.{first-found}
 use Rattle.link_sim.proofs.Clean.Settles.{CleanLaws}
 use Rattle.link_sim.proofs.EveryPut.Events.{first-courses}
-use Rattle.link_sim.proofs.Events.Beginning.{sound-first}
 use Rattle.link_sim.proofs.Events.Leading.{led-keeps}
 use Rattle.link_sim.proofs.Found.Exchanges.{has-exchange}
-use Rattle.link_sim.proofs.Ways.First.{first-rests, first-ways}
+use Rattle.link_sim.proofs.Ways.First.{first-rests}
 use Rattle.outages.specs.Outage.{AreOfOutage, Happening}
 use Rattle.outages.specs.Tries.{AreCalm, GoesOn, MayTry, expiries}
 use Rattle.outages.proofs.Ends.{IsTracked, first-holds, goes-on-or, tracked}
