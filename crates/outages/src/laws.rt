@@ -1,11 +1,13 @@
 //! The law, the contract of a function that does nothing.
-ghost use Rattle.std.specs.Prelude.{◌⊎◌, ◌+◌, ℕ, List};
+ghost use Rattle.std.specs.Prelude.{◌≡◌, ◌⊎◌, ◌+◌, ◌<◌, ℕ, List};
 ghost use Rattle.cfdp_header.specs.Files.{FileMap};
 ghost use Rattle.cfdp_header.specs.declared.value.TransactionId.{TransactionId};
 ghost use Rattle.link_sim.specs.Running.{Led};
 ghost use Rattle.link_sim.specs.Waiting.{IsCompleted, IsWaiting};
 ghost use Rattle.link_sim.specs.World.State.{IsFirst, WorldState};
-ghost use Rattle.outages.specs.Lasting.{IsShort};
+ghost use Rattle.cfdp_timers.specs.declared.kind.Kind.{Kind};
+ghost use Rattle.outages.specs.Lasting.{IsInTime, IsShort, earliest, wait_at};
+ghost use Rattle.station_pair.specs.declared.side.Side.{Side};
 ghost use Rattle.outages.specs.Outage.{AreOfOutage, Happening};
 ghost use Rattle.outages.specs.Spared.{GetsThrough};
 ghost use Rattle.outages.specs.Tries.{AreCalm, GoesOn, MayTry, NoneExpires, expiries};
@@ -59,3 +61,14 @@ pub fn a_transfer_outlives_its_losses()
     cfdp_receiver::what_is_heard_true_is_kept_true();
     mpdu::a_part_has_no_more();
 }
+
+/// With three tries, ten units apart, of which the first comes after ten units, an outage that ends
+/// before 30 is short enough, and no other is.
+pub fn three_tries_last_thirty_units()
+    ensures short { (id : TransactionId) (s : Side) (k : Kind) (w : WorldState) (clock : ℕ)
+        → wait_at s k w ≡ 10 → earliest id s k w ≡ 10 → clock < 30
+        → IsInTime id s k 0 3 clock w }
+    ensures no_longer { (id : TransactionId) (s : Side) (k : Kind) (w : WorldState) (clock : ℕ)
+        → wait_at s k w ≡ 10 → earliest id s k w ≡ 10 → IsInTime id s k 0 3 clock w
+        → clock < 30 }
+{}
