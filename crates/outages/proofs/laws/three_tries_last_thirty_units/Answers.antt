@@ -1,4 +1,4 @@
-use Rattle.std.proofs.Common.{◌≡◌, ℕ, ◌+◌, ◌-◌, ◌*◌, ◌<◌, ap, ◌∙◌, arith}
+use Rattle.std.proofs.Common.{◌≡◌, ◌+◌, ◌-◌, ◌*◌, ◌<◌, ap, arith}
 use Rattle.outages.specs.Lasting.{earliest, wait_at}
 use Rattle.outages.proofs.laws.three_tries_last_thirty_units.Goals as goal
 
