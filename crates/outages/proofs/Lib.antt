@@ -1,0 +1,16 @@
+mod Lost
+mod Budgets
+mod Expiring
+mod Timers
+mod Fired
+mod Tracking
+mod Ticking
+mod Aside
+mod Outlasting
+mod Ends
+mod Waiting
+mod Through
+mod Completing
+mod Deadlines
+mod Lasting
+mod InTime

@@ -1,0 +1,4 @@
+pub mod Outage
+pub mod Tries
+pub mod Lasting
+pub mod Spared

@@ -1,0 +1,8 @@
+//! What a transfer outlives of a link that loses frames: laws.
+//!
+//! Tested by `tests/rows/outages.rows`: scripts on either side of what it promises.
+#![tactic(auto)]
+
+mod laws;
+
+pub use laws::{a_transfer_outlives_its_losses, three_tries_last_thirty_units};
