@@ -1,1 +1,1 @@
-mod Lively
+pub mod Lively
