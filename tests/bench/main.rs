@@ -17,6 +17,7 @@ mod joined;
 mod large;
 mod parts;
 mod ranges;
+mod records;
 mod rules;
 mod setup;
 mod station;
@@ -73,6 +74,7 @@ fn play(
     match name {
         "rules" => rules::play(alloc, transcript, out),
         "ranges" => ranges::play(alloc, transcript, out),
+        "records" => records::play(alloc, transcript, out),
         "stores" => stores::play(alloc, transcript, out),
         "timers" => timers::play(alloc, transcript, out),
         "zones" => zones::play(alloc, setup, transcript, out),

@@ -103,14 +103,14 @@ module _ (laws : EntityLaws) (c : StationConfig) (old theirs new : End) (puts pu
       first-holds laws c.entity.policy (entity_of old).table.sources (entity_of old).table.files (numbered_from number c.entity) (entity_of new) d.0.valid refl d.0.entity
 
 -- ---- runs
-abbrev HoldsAt : Setup → Side → Pair → Type 0
+abbrev pub HoldsAt : Setup → Side → Pair → Type 0
 HoldsAt c s w = Holds (setup_of s c).entity.policy (entity_of (at s w))
 
 module _ (laws : EntityLaws) where
-  kept-holds : (c : Setup) (s : Side) (old new : Pair) → at s new ≡ at s old → HoldsAt c s old → HoldsAt c s new
+  pub kept-holds : (c : Setup) (s : Side) (old new : Pair) → at s new ≡ at s old → HoldsAt c s old → HoldsAt c s new
   kept-holds c s old new same h = same-holds (setup_of s c).entity.policy (entity_of (at s old)) (entity_of (at s new)) (ap entity_of same) h
 
-  happens-holds : (s t : Side) (call : Call) (c : Setup) (old new : Pair) → Happens c (At s call) old new → HoldsAt c t old → HoldsAt c t new
+  pub happens-holds : (s t : Side) (call : Call) (c : Setup) (old new : Pair) → Happens c (At s call) old new → HoldsAt c t old → HoldsAt c t new
   happens-holds One One call c old new (does, others) h = call-holds laws c.one old.one old.two new.one old.puts new.puts call does h
   happens-holds One Two call c old new (does, others) h = kept-holds c Two old new others h
   happens-holds Two One call c old new (does, others) h = kept-holds c One old new others h

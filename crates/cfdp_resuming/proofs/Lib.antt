@@ -1,0 +1,9 @@
+mod Receiver
+mod Sender
+mod Entity
+mod Anew
+mod Back
+mod Later
+mod Tables
+mod Committed
+mod Itself

@@ -1,0 +1,48 @@
+-- A receiver after a restart, and what it was when its station was killed.
+use Rattle.std.specs.Prelude.{◌≡◌, ◌⊎◌, ◌+◌, ◌<◌, ℕ, true, List, Option, None, length, slice_get, count_by, if◌then◌else◌}
+use Rattle.std.specs.List.{AllByRecursion}
+use Rattle.std.specs.FinMap as map
+use Rattle.std.specs.FinSet as set
+use Rattle.cfdp_directives.specs.declared.pdu.sums.Checksums.{Checksums}
+use Rattle.cfdp_directives.specs.Pdu.Checksum.{Piece, covers}
+use Rattle.cfdp_directives.specs.Pdu.Sums.{AreSumsOf}
+use Rattle.cfdp_extents.specs.Offsets.{Offsets}
+use Rattle.cfdp_store.specs.Staged.{OctetMap}
+use Rattle.cfdp_receiver.specs.declared.state.ReceiverPhase.TheVariants.{Receiving}
+use Rattle.cfdp_receiver.specs.State.{ReceiverState, kind_told}
+
+-- A piece has at least one octet, and each of its octets is the one that is staged at its offset.
+pub record IsStagedIn (m : OctetMap) (p : Piece) : Type 0 where
+  pub some : 0 < length p.bytes
+  pub same : (k : ℕ) → k < length p.bytes → map.get m (p.offset + k) ≡ slice_get p.bytes k
+
+-- The pieces are what is staged at these offsets, each octet once.
+pub record CutsStaged (held : Offsets) (m : OctetMap) (pieces : List Piece) : Type 0 where
+  pub parts : AllByRecursion (IsStagedIn m) pieces
+  pub once : (n : ℕ) → count_by (covers n) pieces ≡ (if set.contains held n then 1 else 0)
+
+-- The sums are those of the octets that are staged at these offsets: for the checksum type that is
+-- wanted, or for all types.
+pub record SumsStaged (wanted : Option ℕ) (held : Offsets) (m : OctetMap) (sums : Checksums)
+    : Type 0 where
+  pub pieces : List Piece
+  pub cut : CutsStaged held m pieces
+  pub are : AreSumsOf wanted pieces sums
+
+-- It is what was known, or it isn't known any more.
+abbrev pub IsKeptOf : {A : Type 0} → (old new : Option A) → Type 0
+IsKeptOf old new = (new ≡ None) ⊎ (new ≡ old)
+
+-- A receiver was r, with the octets of m staged, when its station was killed, and is restored as s,
+-- with those of n. It is of the same transaction, written in the same widths. It knows the Metadata
+-- that r knew, or none, and so with the EOF. While it receives, it holds only offsets that r held
+-- while r received; the same octets are still staged there, and its sums are those of these octets.
+-- What is due, and the counts, may be anything.
+pub record IsRestoredReceiver (r : ReceiverState) (m : OctetMap) (s : ReceiverState) (n : OctetMap)
+    : Type 0 where
+  pub addressing : s.addressing ≡ r.addressing
+  pub metadata : IsKeptOf r.metadata s.metadata
+  pub ending : IsKeptOf r.ending s.ending
+  pub held : s.phase ≡ Receiving → (k : ℕ) → set.contains s.held k ≡ true
+      → (r.phase ≡ Receiving) × (set.contains r.held k ≡ true) × (map.get n k ≡ map.get m k)
+  pub sums : s.phase ≡ Receiving → SumsStaged (kind_told s.metadata) s.held n s.sums

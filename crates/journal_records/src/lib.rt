@@ -1,0 +1,31 @@
+//! The records of a station's journal: what the station must know of its transactions so that they
+//! go on after a restart.
+//!
+//! ```rust
+//! let batch = batch_of(alloc, &records)?;
+//! // .. is appended to a file, and synced. After a restart:
+//! let journal = read_journal(alloc, &file)?;
+//! for record in &journal.records {}
+//! ```
+//!
+//! No crate uses it yet: the program doesn't resume.
+//!
+//! Tested by `tests/transcripts/records.txt`.
+#![tactic(auto)]
+
+mod fault;
+mod fields;
+mod journal;
+mod laws;
+mod ranges;
+mod reading;
+mod record;
+mod writing;
+
+pub use fault::{Fault, ReadError};
+pub use journal::{Journal, batch_of, read_journal};
+pub use laws::what_is_written_is_read;
+pub use ranges::Ranges;
+pub use reading::read_records;
+pub use record::{JournalRecord, Owner, RecordKind};
+pub use writing::write_records;
