@@ -145,8 +145,8 @@ def all_of(it):
 
 # Paths with no station's state that has to be there, and the members that each object has.
 SHOWN = (
-    ("/status", {"closed", "counters", "dropped", "failed", "lines", "link", "notes", "open",
-                 "peer", "phases", "seconds", "station", "time", "timeout", "told", "version",
+    ("/status", {"closed", "counters", "dropped", "failed", "lines", "link", "notes", "open", "peer",
+                 "phases", "seconds", "station", "time", "timeout", "told", "version",
                  "waiting"}),
     ("/history", {"lost", "received", "seconds", "sent"}),
     ("/transactions", {"closed", "open"}),
@@ -227,8 +227,7 @@ def metrics_mistakes(it):
     status, headers, body = it.asks("GET", "/metrics")
     if status != 200 or headers["Content-Type"] != "text/plain; version=0.0.4":
         yield f"GET /metrics: {status} {headers}"
-    name, label = r"(cfdp_\w+|process_start_time_seconds)", r"\w+=\"[\w .-]+\""
-    form = rf"# (HELP|TYPE) {name} .+|{name}(\{{{label}(,{label})*\}})? \d+"
+    form = r"# (HELP|TYPE) cfdp_\w+ .+|cfdp_\w+(\{layer=\"\w+\",cause=\"\w+\"\})? \d+"
     for line in body.splitlines():
         if not re.fullmatch(form, line):
             yield f"GET /metrics: {line}"

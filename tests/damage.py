@@ -121,24 +121,23 @@ def damage_mistakes(program, rate, zone, count):
 def misfit_mistakes(program):
     """What is wrong where only one end has error control: nothing that comes is taken, and both
     ends say so."""
+    length = "a frame has 264 octets, but must have 266: the zone is 256 and other fields have 2"
     differs = ("error control {} the peer differs: 0 at the peer, 1 here",
                "error control {} the peer differs: 1 at the peer, 0 here")
-    yield from untaken_mistakes(program, (0, 0, 0), (0, 0, 1), None, differs)
+    yield from untaken_mistakes(program, (0, 0, 0), (0, 0, 1), length, differs)
     # Frames of one length: the last two octets of the zone aren't its check.
     yield from untaken_mistakes(program, (2, 0, 0), (0, 0, 1), "the frame was damaged", ())
 
 
 def untaken_mistakes(program, sent, taken, why, differs):
-    """What is wrong where station 1 sends frames with other fields than station 2 takes: it says
-    why it drops them, unless beacons say in what the stations differ."""
+    """What is wrong where station 1 sends frames with other fields than station 2 takes."""
     none = (0, 0, 0)
     with links.Link(program, links.Relay()) as link:
         sets = {1: settings_of(1, {1: sent, 2: none}), 2: settings_of(2, {1: taken, 2: none})}
         receiver = link.starts(2, ["--inbox", "to"], {**sets[2], "zone": 256})
         sender = link.starts(1, link.puts(1, {"a": b"hello"}), {**sets[1], "zone": 256})
         since = time.time()
-        if why:
-            yield from links.note_mistakes(receiver, rf"\d+ dropped: {why}", since, 5)
+        yield from links.note_mistakes(receiver, rf"\d+ dropped: {why}", since, 5)
         for it, way, told in zip((receiver, sender), ("from", "to"), differs):
             yield from links.note_mistakes(it, told.format(way), since, 10)
         if stations.files_at(link.folder, 2):

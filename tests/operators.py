@@ -171,17 +171,16 @@ def cause_mistakes(program):
     """What is wrong where one end has another id for its peer than that has: each end says which
     ids differ, first, and nothing that follows from it."""
     with Link(program) as link:
+        words = [*link.puts(1, {"a": b"hello"})]
+        sender = link.starts(1, words)
         receiver = link.starts(2, ["--inbox", "to"], ids=(2, 3))
-        sender = link.starts(1, link.puts(1, {"a": b"hello"}))
         for it in (sender, receiver):
             is_told = lambda it=it: " differs: " in it.text("stderr")
             if not stations.waits_for(is_told):
                 yield f"station {it.own} tells {it.text('stderr')!r}"
         time.sleep(LATER)
         for it in (sender, receiver):
-            # On a slow machine the peer's beacon may take as long as a station waits in silence.
-            told = re.sub("note: .* waits for the peer's Finished; .*\n", "",
-                          stations.unheard(it.text("stderr")))
+            told = stations.unheard(it.text("stderr"))
             if not re.fullmatch(r"(note: id of (the peer|this station) differs: .*\n)+", told):
                 yield f"station {it.own} tells {told!r}"
 
