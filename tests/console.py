@@ -145,9 +145,8 @@ def all_of(it):
 
 # Paths with no station's state that has to be there, and the members that each object has.
 SHOWN = (
-    ("/status", {"closed", "counters", "dropped", "failed", "lines", "link", "notes", "open", "peer",
-                 "phases", "seconds", "station", "time", "timeout", "told", "version",
-                 "waiting"}),
+    ("/status", {"closed", "counters", "dropped", "lines", "link", "open", "peer", "seconds",
+                 "station", "time", "timeout", "waiting"}),
     ("/history", {"lost", "received", "seconds", "sent"}),
     ("/transactions", {"closed", "open"}),
     ("/transactions?after=0", {"closed", "open"}),

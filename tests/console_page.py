@@ -91,7 +91,7 @@ def opened(program, make, words=(), token=None, files=None):
 def put_mistakes(program, make):
     """What is wrong where files are put, cancelled, suspended and resumed by buttons."""
     with opened(program, make) as (link, it, page):
-        if not page.awaits(text_has("state", "link up"), SOON):
+        if not page.awaits(text_is("state", "link up"), SOON):
             yield f"the page says {page.finds(TEXT_OF.format('state'))}"
         for name in ("short.bin", "long.bin"):
             page.clicks("document.getElementById('source')")
@@ -109,13 +109,10 @@ def put_mistakes(program, make):
         yield from bar_mistakes(page)
         yield from held_mistakes(it, page)
         page.clicks("document.querySelector('#open .harm')")
-        if not page.awaits("document.querySelector('#open .harm').textContent === 'Really?'", SOON):
-            yield "cancel doesn't ask whether that is meant"
-        page.clicks("document.querySelector('#open .harm')")
         if not page.awaits("document.querySelectorAll('#closed tr').length === 2", SOON):
             yield "cancel didn't end the file"
-        if not page.awaits(text_has("closed", "cancelled"), SOON) or page.finds(
-                "document.querySelectorAll('#closed .bad').length"):
+        failed = "document.querySelector('#closed .bad')?.textContent === 'failed'"
+        if not page.awaits(failed, SOON):
             yield f"closed: {page.finds(TEXT_OF.format('closed'))}"
         if "long.bin" in links.stations.files_at(link.folder, 2):
             yield "a file that was cancelled is at the peer"
@@ -151,7 +148,7 @@ def freeze_mistakes(it, page):
     if not page.awaits(text_is("state", "frozen"), SOON):
         yield "the key f didn't freeze the link"
     page.clicks("document.getElementById('freeze')")
-    if not page.awaits(text_has("state", "link up"), SOON):
+    if not page.awaits(text_is("state", "link up"), SOON):
         yield "the button didn't thaw the link"
     if it.gets("/status")["link"]["state"] != "up":
         yield "the station's link isn't up"
@@ -205,7 +202,7 @@ def markup_mistakes(program, make):
             page.finds("document.getElementById('token').focus()")
             page.types(text)
             page.presses("Enter", "Enter", "\r")
-            if page.awaits(text_has("state", "link up"), SOON if is_let_in else 3) != is_let_in:
+            if page.awaits(text_is("state", "link up"), SOON if is_let_in else 3) != is_let_in:
                 yield f"the page with the token {text}: {page.finds(TEXT_OF.format('state'))}"
         name = "<b>x</b><img/src=x/onerror=alert(1)>"
         it.does("/puts", {"source": "plain", "destination": name})
@@ -220,7 +217,7 @@ def markup_mistakes(program, make):
 def anew_mistakes(program, make):
     """What is wrong where the station is killed and started anew: the page says so, and goes on."""
     with opened(program, make) as (link, it, page):
-        if not page.awaits(text_has("state", "link up"), SOON):
+        if not page.awaits(text_is("state", "link up"), SOON):
             yield "the page isn't up"
         it.does("/puts", {"source": "short.bin"})
         page.awaits("document.querySelectorAll('#closed tr').length === 1", SOON)
@@ -229,7 +226,7 @@ def anew_mistakes(program, make):
             yield f"where the station is gone: {page.finds(TEXT_OF.format('state'))}"
         words = ["--outbox", "from", "--inbox", "to", "--console", f"127.0.0.1:{it.port}"]
         link.starts(1, words, PATIENT)
-        if not page.awaits(text_has("state", "link up"), SOON):
+        if not page.awaits(text_is("state", "link up"), SOON):
             yield f"where it is there again: {page.finds(TEXT_OF.format('state'))}"
         if not page.awaits("document.querySelectorAll('#closed tr').length === 0", SOON):
             yield "what the station before closed is still shown"
@@ -259,7 +256,7 @@ def form_mistakes(program, make):
             yield "the button for light and dark does nothing"
         kept = page.finds(back)
         page.asks("Page.reload")
-        page.awaits(text_has("state", "link up"), SOON)
+        page.awaits(text_is("state", "link up"), SOON)
         if page.finds(back) != kept:
             yield "the form that was chosen isn't kept"
         for size in (DESK, TELEPHONE, (320, 640)):

@@ -25,10 +25,9 @@ SECONDS = 1200
 WANTED = """
 bin/cfdp_node include/cfdp.h include/cfdp_hooks.h lib/libcfdp_c.a lib/libcfdp_heap.a
 lib/pkgconfig/cfdp.pc
-lib/systemd/system/cfdp-station-watch@.service lib/systemd/system/cfdp-station-watch@.timer
-lib/systemd/system/cfdp-station@.service share/cfdp/errno.c share/cfdp/folders.c
-share/cfdp/cfdp-alerts.yml share/cfdp/cfdp-dashboard.json share/cfdp/cfdp-run
-share/cfdp/heap.c share/cfdp/pool.c share/cfdp/pool.h share/cfdp/transfer.c
+lib/systemd/system/cfdp-station-watch.service lib/systemd/system/cfdp-station-watch.timer
+lib/systemd/system/cfdp-station.service share/cfdp/errno.c share/cfdp/folders.c
+share/cfdp/control.nft share/cfdp/heap.c share/cfdp/pool.c share/cfdp/pool.h share/cfdp/transfer.c
 share/doc/cfdp/CONSOLE.md share/doc/cfdp/EMBEDDING.md share/doc/cfdp/FORMATS.md
 share/doc/cfdp/LICENSE share/doc/cfdp/OPERATING.md share/doc/cfdp/PLAY.md
 share/doc/cfdp/README.md share/doc/cfdp/SECURITY.md share/doc/cfdp/THIRD-PARTY
@@ -83,7 +82,7 @@ class Tree:
         told = run([self.path("bin/cfdp_node"), "--version"])
         if not re.match(r"cfdp_node \d", told):
             yield f"cfdp_node --version prints {told!r}"
-        with open(self.path("lib/systemd/system/cfdp-station@.service"), encoding="utf-8") as it:
+        with open(self.path("lib/systemd/system/cfdp-station.service"), encoding="utf-8") as it:
             if f"ExecStart={self.prefix}/bin/cfdp_node station" not in it.read():
                 yield "the unit starts another program"
 

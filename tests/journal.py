@@ -17,19 +17,15 @@ MEMBERS = {
     "eof-sent": ["transaction"],
     "metadata": ["transaction", "size"],
     "eof-recv": ["transaction"],
-    "finished": [
-        "transaction", "condition", "condition_name", "meaning", "delivery", "status",
-    ],
-    "suspended": ["transaction", "condition", "condition_name", "meaning"],
+    "finished": ["transaction", "condition", "meaning", "delivery", "status"],
+    "suspended": ["transaction", "condition", "meaning"],
     "resumed": ["transaction"],
-    "fault": ["transaction", "condition", "condition_name", "meaning"],
-    "abandoned": ["transaction", "condition", "condition_name", "meaning"],
+    "fault": ["transaction", "condition", "meaning"],
+    "abandoned": ["transaction", "condition", "meaning"],
     "progress": ["transaction", "octets"],
     "put": ["line", "answer", "meaning"],
     "change": ["answer", "meaning"],
     "file": ["name", "outcome"],
-    "note": ["topic", "text"],
-    "error": ["topic", "text"],
     "complete": ["complete", "asked"],
 }
 
@@ -75,7 +71,6 @@ def object_mistakes(text, own, has_time):
             yield f"the time: {line}"
         if event != "counters":
             known = {"time", "station", "event", *MEMBERS.get(event, ["none"]), *NAMES}
-            known |= {"transaction"} if event == "error" else set()
             if not known >= set(it) - {"meaning"} or not set(MEMBERS.get(event, [])) <= set(it):
                 yield f"its members: {line}"
         if not line.isascii() or re.search("[<>&']", line):

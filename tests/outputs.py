@@ -15,7 +15,7 @@ import stations
 from control import asked, controlled
 from links import SLACK, Link
 
-# So many puts of a file that is too large are asked for: each is a line of the log, and together
+# So many puts of files that aren't there are asked for: each is a line of the log, and together
 # they are more than what a pipe, a terminal and the station have room for.
 PUTS = 14_000
 
@@ -26,17 +26,10 @@ MOST_END = 3 + SLACK
 SOME_ROOM = 8192
 
 
-def makes_outbox(link):
-    """Makes the outbox of station 1, with a file that is longer than any that can be sent."""
-    os.makedirs(f"{link.folder}/1/from", exist_ok=True)
-    with open(f"{link.folder}/1/from/no", "wb") as it:
-        it.truncate(1 << 33)
-
-
 def line(number, is_json):
     """The line of a put that is refused, as it is compared."""
-    answer = {"station": 1, "event": "put", "line": number, "answer": "TooLarge"}
-    return answer if is_json else f"line {number} TooLarge"
+    answer = {"station": 1, "event": "put", "line": number, "answer": "NoSuchFile"}
+    return answer if is_json else f"line {number} NoSuchFile"
 
 
 def lost(count, is_json):
@@ -50,13 +43,12 @@ def read(text, is_json):
     if not is_json:
         return text.splitlines()
     objects = [json.loads(it) for it in text.splitlines()]
-    objects = [it for it in objects if it["event"] != "note"]
     keys = ("station", "event", "line", "answer", "lines", "complete", "asked")
     return [{key: it[key] for key in keys if key in it} for it in objects]
 
 
 def puts(port, count):
-    """Asks for so many puts of a file that is too large; the answers that are others than ok."""
+    """Asks for so many puts of a file that isn't there; the answers that are others than ok."""
     with control.Client(port) as client:
         asking = threading.Thread(target=client.says, args=(b"put no no\n" * count,))
         asking.start()
@@ -92,7 +84,7 @@ def unread_mistakes(program, is_terminal=False, is_json=False):
     while. Once it is read, whole lines come in order, then how many were lost, then all others."""
     outer, inner = pty.openpty() if is_terminal else os.pipe()
     with Link(program) as link:
-        makes_outbox(link)
+        os.makedirs(f"{link.folder}/1/from")
         words = ["--outbox", "from", "--json", "--no-time"]
         words = words if is_json else words[:2]
         it, port = controlled(link, 1, words, stdout=inner, reads=("stderr",))
@@ -125,7 +117,7 @@ def stuck_mistakes(program, is_broken=False):
     the station ends soon when it is told to, and says why its last lines are missing."""
     outer, inner = os.pipe()
     with Link(program) as link:
-        makes_outbox(link)
+        os.makedirs(f"{link.folder}/1/from")
         it, port = controlled(link, 1, ["--outbox", "from"], stdout=inner, reads=("stderr",))
         os.close(inner)
         if is_broken:
@@ -148,7 +140,7 @@ def full_mistakes(program):
     """What is wrong where the log is on a full disk: the station goes on, and says at its end that
     its last lines are missing."""
     with Link(program) as link, open("/dev/full", "wb") as full:
-        makes_outbox(link)
+        os.makedirs(f"{link.folder}/1/from")
         it, port = controlled(link, 1, ["--outbox", "from"], stdout=full, reads=("stderr",))
         if wrong := puts(port, PUTS):
             yield f"of {PUTS} puts {len(wrong)} were answered {wrong[:2]}"
@@ -165,7 +157,7 @@ def freed_mistakes(program):
     once there is room, the log goes on where it broke off, and tells how many lines are lost."""
     with Link(program) as link:
         folder = f"{link.folder}/1"
-        makes_outbox(link)
+        os.makedirs(f"{folder}/from")
         os.makedirs(f"{folder}/disk")
         with relay.small_disk(f"{folder}/disk") as is_mounted:
             if is_mounted:
@@ -208,7 +200,7 @@ def whole_mistakes(program):
     """What is wrong with the log in a file, of as many lines as are lost where nobody reads: all of
     them are there, in order."""
     with Link(program) as link:
-        makes_outbox(link)
+        os.makedirs(f"{link.folder}/1/from")
         with open(f"{link.folder}/1/log", "wb") as log:
             it, port = controlled(link, 1, ["--outbox", "from"], stdout=log, reads=("stderr",))
         puts(port, PUTS)
@@ -228,7 +220,7 @@ def once_mistakes(program):
     missing."""
     with Link(program) as link, contextlib.ExitStack() as stack:
         log = stack.enter_context(open(f"{link.folder}/log", "wb"))
-        makes_outbox(link)
+        os.makedirs(f"{link.folder}/1/from")
         words = ["--outbox", "from"]
         ways = {"stdout": log, "reads": ("stderr",), "faults": "full-once"}
         it, port = controlled(link, 1, words, **ways)
@@ -239,7 +231,7 @@ def once_mistakes(program):
         asked(program, port, "stop", "now")
         status, _, err = it.ended()
         told = text_of(f"{link.folder}/log")
-    if status != 1 or err or told != "".join(f"line {n} TooLarge\n" for n in (1, 2, 3)) + (
+    if status != 1 or err or told != "".join(f"line {n} NoSuchFile\n" for n in (1, 2, 3)) + (
         "complete 0 of 3\n"
     ):
         yield f"status {status}, {err!r}, {told!r}"
@@ -250,7 +242,7 @@ def input_mistakes(program):
     come, whole and in order, and then how many lines were lost."""
     outer, inner = os.pipe()
     with Link(program) as link:
-        makes_outbox(link)
+        os.makedirs(f"{link.folder}/1/from")
         ways = {"stdin": subprocess.PIPE, "stdout": inner, "reads": ("stderr",)}
         it, port = controlled(link, 1, ["--outbox", "from", "--commands"], **ways)
         os.close(inner)

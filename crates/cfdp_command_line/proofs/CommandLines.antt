@@ -123,7 +123,6 @@ plain = record {
   control = None;
   console = None;
   console_token = None;
-  console_host = None;
   puts = [];
   sets = [];
   shown = nothing;

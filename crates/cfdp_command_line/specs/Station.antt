@@ -95,8 +95,8 @@ operated_app = with_rule (with_rule incoming_app (flag_rule (codes "commands")))
     (file_rule (codes "control"))
 
 abbrev pub consoled_app : App
-consoled_app = with_rule (with_rule (with_rule operated_app (file_rule (codes "console")))
-    (file_rule (codes "console-token"))) (file_rule (codes "console-host"))
+consoled_app = with_rule (with_rule operated_app (file_rule (codes "console")))
+    (file_rule (codes "console-token"))
 
 abbrev pub told_app : App
 told_app = with_rule (with_rule consoled_app (flag_rule (codes "no-time")))
@@ -134,7 +134,6 @@ pub record StationAsked : Type 0 where
   pub control : Option Text
   pub console : Option Text
   pub console_token : Option Text
-  pub console_host : Option Text
   pub puts : List Text
   pub sets : List Text
   pub shown : ShownAsked
@@ -227,7 +226,6 @@ asked_with rows needed = record {
   control = first_of (codes "control") rows;
   console = first_of (codes "console") rows;
   console_token = first_of (codes "console-token") rows;
-  console_host = first_of (codes "console-host") rows;
   puts = words_for (codes "put") rows;
   sets = words_for (codes "set") rows;
   shown = shown_of rows;
@@ -255,7 +253,6 @@ station_asked request = record {
   control = option_map (λ address. address.bytes.items) request.control;
   console = option_map (λ address. address.bytes.items) request.console;
   console_token = option_map (λ file. file.bytes.items) request.console_token;
-  console_host = option_map (λ name. name.bytes.items) request.console_host;
   puts = map (λ name. name.bytes.items) request.puts.items;
   sets = map (λ word. word.bytes.items) request.sets.items;
   shown = asked_shown request.shown;

@@ -24,9 +24,9 @@ ghost use Rattle.cfdp_command_line.specs.Shown.{file_rule, flag_rule};
 ghost use Rattle.cfdp_command_line.specs.Shown as showing;
 
 use crate::looping::{LoopRequest, loop_command, loop_request, number_in};
-use crate::settings_file::{tell_option_line, with_settings};
+use crate::settings_file::with_settings;
 use crate::shown::{shown_by, shown_command};
-use crate::station::{StationRequest, is_carrier, owned_words, station_command, station_request};
+use crate::station::{StationRequest, owned_words, station_command, station_request};
 use aos_frame::{FrameFields, LEAST_ZONE, MOST_ZONE};
 use cfdp_config::value_said;
 use cfdp_dump::{DumpForm, DumpKind, DumpRequest, FrameShape};
@@ -74,8 +74,7 @@ pub struct SimRequest {
     pub file: Option<String>,
 }
 
-/// The version of the program.
-pub const VERSION: &str = "0.1.0";
+const VERSION: &str = "0.1.0";
 
 const MISTAKE: u8 = 2;
 
@@ -212,14 +211,10 @@ Commands of a station:
   stop [now]             finish the open puts, then exit; now: exit at once
   help                   list all commands
 
-ADDR is the --control address of the station: HOST:PORT or unix:PATH. With
---json before it the answer is one JSON object, whatever the station's option.
-
 Exit status: 0 done, 1 command refused, 2 bad arguments, 3 no answer.
 
 Examples:
   cfdp_node ask 127.0.0.1:5101 list
-  cfdp_node ask --json unix:/run/cfdp/one/control counters
   cfdp_node ask 127.0.0.1:5101 put --first a.bin b.bin";
 
 const PLAY_HELP: &str = "\
@@ -258,12 +253,8 @@ pub fn read(rt: &HostRuntime) -> Result<Request, u8>
 }
 
 /// The words of a command line, with `--` in front of those that `ask` sends: so none of these is
-/// taken for an option of the program. The word `--json` is the first of these, also if it stands
-/// before the address.
+/// taken for an option of the program.
 fn with_line_apart(alloc: Global, mut words: Vec<String>) -> Result<Vec<String>, AllocError> {
-    if words.len() > 3 && words[1].as_str() == "ask" && words[2].as_str() == "--json" {
-        words.swap(2, 3);
-    }
     if words.len() > 3 && words[1].as_str() == "ask" && words[3].as_str() != "--" {
         words.insert(3, String::from_str(alloc, "--")?)?;
     }
@@ -285,25 +276,8 @@ fn request_of(rt: &HostRuntime, words: &[String]) -> Result<Request, u8>
 {
     match parse(rt.alloc(), words) {
         Ok(request) => Ok(request),
-        Err(error) => Err(refused(rt, words, &error)),
+        Err(error) => Err(answered(rt, &error)),
     }
-}
-
-/// Prints what the parser has to say of these words, and in which line of a settings file the
-/// mistake stands, if one says it. Gives the status that goes with it.
-fn refused(rt: &HostRuntime, words: &[String], error: &Error) -> u8
-    ensures kind { IsStatusOf (kind_of error.now) result }
-    ensures status { (result ≡ 0) ⊎ (result ≡ 2) ⊎ (result ≡ 3) }
-{
-    let status = answered(rt, error);
-    if status == MISTAKE
-        && words.len() > 1
-        && words[1].as_str() == "station"
-        && let Ok(told) = format!(in rt.alloc(); "{error}")
-    {
-        tell_option_line(rt, told.as_str());
-    }
-    status
 }
 
 /// Prints the version, and gives the status of the process.
@@ -379,11 +353,9 @@ fn station_misfit(alloc: Global, said: &[String]) -> Result<Error, AllocError>
 {
     let carrier = value_said(said, "carrier").unwrap_or("frames");
     let unit = value_said(said, "unit").unwrap_or("s");
-    let wrong = if is_carrier(carrier) {
-        format!(in alloc; "--unit must be s or ms (got {unit})")?
-    } else {
-        format!(in alloc; "--carrier must be frames, packets or pdus (got {carrier})")?
-    };
+    let wrong = format!(in alloc;
+        "--carrier must be frames, packets or pdus (got {carrier}), and --unit s or ms (got {unit})"
+    )?;
     let mut station = station_command(alloc)?.bin_name("cfdp_node station")?;
     station.error(ErrorKind::InvalidValue, wrong.as_str())
 }

@@ -1,10 +1,10 @@
 //! The settings file that `--config` names, and the one that `--print-config` prints.
 ghost use Rattle.std.specs.Prelude.{◌≡◌, ◌⊎◌, ◌++◌, map, take, drop, IfErr, IfOk, OnOk};
 
-use cfdp_config::{EXAMPLE, OPTIONS, SettingsError, is_said, key_line, settings_words, value_said};
+use cfdp_config::{EXAMPLE, OPTIONS, SettingsError, is_said, settings_words, value_said};
 use cfdp_report::cause_text;
 use std::alloc::{AllocError, Global};
-use std::{env, fs};
+use std::fs;
 
 const MISTAKE: u8 = 2;
 
@@ -119,51 +119,4 @@ fn push_all(alloc: Global, all: &mut Vec<String>, words: &[String]) -> Result<()
         all.push(String::from_str(alloc, word.as_str())?)?;
     }
     Ok(())
-}
-
-/// Says on standard error in which line of the settings file a key stands, if the program was given
-/// one that has it, and the command line doesn't say the option or the key itself.
-pub fn tell_line(rt: &HostRuntime, key: &str) {
-    let Ok(args) = env::args(rt) else {
-        return;
-    };
-    let words: Vec<String> = match args.collect(rt.alloc()) {
-        Ok(words) => words,
-        Err(AllocError) => return,
-    };
-    let said = station_words(words.as_slice());
-    if let Some(path) = value_said(said, "config")
-        && !is_said(said, key)
-        && !said.iter().any(|word| word.as_str() == key)
-        && let Ok(octets) = fs::read(rt, path)
-        && let Ok(text) = str::from_utf8(octets.as_slice())
-        && let Some(line) = key_line(text, key)
-    {
-        let _ = eprintln!(rt; "help: {key} is set in line {line} of {path}");
-    }
-}
-
-/// Says the same of the option that a mistake names in the first line of its text.
-pub fn tell_option_line(rt: &HostRuntime, mistake: &str) {
-    let first = mistake.lines().next().unwrap_or("");
-    for option in OPTIONS {
-        if names(first, option.name) {
-            tell_line(rt, option.name);
-            return;
-        }
-    }
-}
-
-/// Whether a text has `--NAME` and a space behind it.
-fn names(text: &str, name: &str) -> bool {
-    for (place, _) in text.match_indices("--") {
-        let behind = text.get(place..).unwrap_or("");
-        if let Some(rest) = behind.strip_prefix("--")
-            && let Some(rest) = rest.strip_prefix(name)
-            && rest.starts_with(' ')
-        {
-            return true;
-        }
-    }
-    false
 }

@@ -59,8 +59,6 @@ pub struct StationRequest {
     pub console: Option<String>,
     /// The path of the file with the token that the console wants.
     pub console_token: Option<String>,
-    /// The name of the host by which a proxy asks the console.
-    pub console_host: Option<String>,
     /// The files that it sends: the name of each in that folder, and behind it the one that it is
     /// to have at the peer.
     pub puts: Vec<String>,
@@ -154,10 +152,11 @@ are dropped. File names are 1 to 64 of A-Z a-z 0-9 . _ - with no leading dot.
 Both stations must set the same --carrier, zone and spacecraft.
 
 --idle: make it longer than every timer of both stations.
---spool: write a file as .NAME, and rename it when it is whole. A sent file goes
-to .sent, a failed one to .failed; a fault that may pass is retried first.
---control: unix:PATH, for its owner alone, or like --console an address of this
-machine. A console with --console-token (16 to 256 visible ASCII) may have any.
+--spool: write a file under a name that begins with a dot, and rename it when
+it is whole. A sent file moves to .sent there, a failed one to .failed; after
+limits, silence, a wrong checksum or size, or a failed disk it is retried first.
+--control, --console: an address of this machine, e.g. 127.0.0.1:5101; with
+--console-token (16 to 256 visible ASCII characters) a console may have another.
 --keys: FILE has a line for each key: SPI (1 to 65534), send or receive, and 64
 hexadecimal digits. A second receive line is the peer's former key.
 --state: without it FOLDER.state, beside --outbox or --spool, otherwise --inbox.
@@ -243,13 +242,6 @@ fn consoled_command<'a>(alloc: Global) -> Result<Command<'a>, AllocError>
             "Operation",
             "console-token",
             "Ask visitors for the token in FILE",
-        ))?
-        .arg(word_for(
-            alloc,
-            "Operation",
-            "console-host",
-            "NAME",
-            "Accept a proxy's requests for the host NAME",
         ))
 }
 
@@ -269,7 +261,7 @@ fn operated_command<'a>(alloc: Global) -> Result<Command<'a>, AllocError>
             "Operation",
             "control",
             "ADDR",
-            "Accept commands at this TCP address or unix:PATH",
+            "Accept commands at this TCP address",
         ))
 }
 
@@ -709,11 +701,6 @@ fn carrier_of(word: &str) -> Option<CarrierKind>
     }
 }
 
-/// Returns `true` if a word says what a datagram carries.
-pub fn is_carrier(word: &str) -> bool {
-    carrier_of(word).is_some()
-}
-
 /// What this word says of the unit of times.
 fn unit_of(word: &str) -> Option<TimeUnit>
     ensures { result ≡ unit_of_word word.now }
@@ -749,7 +736,6 @@ impl StationWords<'_> {
             control: owned_word(alloc, arguments, "control")?,
             console: owned_word(alloc, arguments, "console")?,
             console_token: owned_word(alloc, arguments, "console-token")?,
-            console_host: owned_word(alloc, arguments, "console-host")?,
             puts: owned_words(alloc, arguments, "put")?,
             sets: owned_words(alloc, arguments, "set")?,
             shown: shown_by(alloc, arguments)?,

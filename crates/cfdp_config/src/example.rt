@@ -42,10 +42,9 @@ no-overwrite = false            # refuse a file whose name is taken
 
 # Operation.
 commands = false                # read commands from standard input
-# control = \"127.0.0.1:5101\"    # accept commands at this TCP address, or at \"unix:PATH\"
+# control = \"127.0.0.1:5101\"    # accept commands at this TCP address
 # console = \"127.0.0.1:8080\"    # serve a web console at this TCP address
 # console-token = \"TOKEN\"       # ask visitors for the token in this file
-# console-host = \"cfdp.example\" # accept requests of a proxy for this host
 
 # Output.
 no-time = false                 # omit timestamps
@@ -57,8 +56,6 @@ trace = false                   # print each event on standard error
 
 # Keys of --set.
 [set]
-# A frame has zone + 8 octets, and an Ethernet packet takes one of up to 1472: IP sends a longer one
-# in pieces, and a lost piece loses it whole.
 zone = 256                      # octets of the packet zone of a frame, 16 to 2040
 insert_zone = 0                 # octets of the insert zone in frames sent, 0 to 64
 control_field = 0               # 1: frames sent have an operational control field

@@ -25,7 +25,7 @@ pub struct SettingsOption {
 }
 
 /// All options of a station but those that name a settings file, in the order of its help.
-pub const OPTIONS: [SettingsOption; 36] = [
+pub const OPTIONS: [SettingsOption; 35] = [
     SettingsOption {
         name: "id",
         kind: ValueKind::Number,
@@ -140,10 +140,6 @@ pub const OPTIONS: [SettingsOption; 36] = [
     },
     SettingsOption {
         name: "console-token",
-        kind: ValueKind::Text,
-    },
-    SettingsOption {
-        name: "console-host",
         kind: ValueKind::Text,
     },
     SettingsOption {

@@ -7,11 +7,10 @@ ghost use Rattle.cfdp_config.specs.Words.{valued_word, words_at};
 ghost use Rattle.cfdp_config.specs.Words as says;
 ghost use Rattle.cfdp_config.specs.Said as counting;
 
-use crate::error::{SettingsError, key_line};
+use crate::error::SettingsError;
 use crate::options::{SettingsOption, ValueKind};
 use crate::said::is_said;
 use std::alloc::{AllocError, Global};
-use strsim::levenshtein;
 use toml::{Table, Value};
 
 /// The words of a command line that the text of a settings file says of these options, where its
@@ -34,9 +33,9 @@ pub fn settings_words(
 {
     match toml::table_from_str(alloc, text) {
         Ok(table) => {
-            check_keys(alloc, text, &table, options)?;
+            check_keys(alloc, &table, options)?;
             let left = unsaid(alloc, options, said)?;
-            table_words(alloc, text, &table, left.as_slice())
+            table_words(alloc, &table, left.as_slice())
         }
         Err(error) => Err(SettingsError::of_text(text, error)),
     }
@@ -45,47 +44,16 @@ pub fn settings_words(
 /// Whether each key is the name of one of these options.
 fn check_keys(
     alloc: Global,
-    text: &str,
     table: &Table,
     options: &[SettingsOption],
 ) -> Result<(), SettingsError> {
     for key in table.keys() {
         if !is_option(options, key.as_str()) {
-            return Err(SettingsError::NoSuchKey {
-                line: key_line(text, key.as_str()),
-                key: String::from_str(alloc, key.as_str())?,
-                nearest: nearest(alloc, options, key.as_str())?,
-            });
+            let key = String::from_str(alloc, key.as_str())?;
+            return Err(SettingsError::NoSuchKey(key));
         }
     }
     Ok(())
-}
-
-/// So many letters of a key may be others than those of an option that is near to it.
-const NEAR: usize = 2;
-
-/// A longer key is near to no option.
-const LONGEST: usize = 32;
-
-/// Returns the option whose name is most like a key, if at most two letters differ.
-fn nearest(
-    alloc: Global,
-    options: &[SettingsOption],
-    key: &str,
-) -> Result<Option<&'static str>, AllocError> {
-    if key.len() > LONGEST {
-        return Ok(None);
-    }
-    let mut found = None;
-    let mut least = NEAR + 1;
-    for option in options {
-        let edits = levenshtein(alloc, key, option.name)?;
-        if edits < least {
-            least = edits;
-            found = Some(option.name);
-        }
-    }
-    Ok(found)
 }
 
 fn is_option(options: &[SettingsOption], key: &str) -> bool {
@@ -129,7 +97,6 @@ fn counts(option: &SettingsOption, said: &[String]) -> bool
 /// `OtherValue` where a value is of another kind than its option's, or `NoMemory`.
 fn table_words(
     alloc: Global,
-    text: &str,
     table: &Table,
     options: &[SettingsOption],
 ) -> Result<Vec<String>, SettingsError>
@@ -140,17 +107,16 @@ fn table_words(
     for option in options {
         match found_words(alloc, table, option)? {
             Some(mut found) => words.append(&mut found)?,
-            None => return Err(option.misfit(text)),
+            None => return Err(option.misfit()),
         }
     }
     Ok(words)
 }
 
 impl SettingsOption {
-    /// That its value in this text is of another kind.
-    fn misfit(&self, text: &str) -> SettingsError {
+    /// That its value is of another kind.
+    fn misfit(&self) -> SettingsError {
         SettingsError::OtherValue {
-            line: key_line(text, self.name),
             key: self.name,
             expected: self.kind.wording(),
         }

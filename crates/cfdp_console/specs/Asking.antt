@@ -13,7 +13,7 @@ use Rattle.cfdp_console.specs.declared.deed.Deed.{Deed}
 use Rattle.cfdp_console.specs.declared.deed.Deed.TheVariants as deed
 use Rattle.cfdp_console.specs.declared.look.Look.{Look}
 use Rattle.cfdp_console.specs.declared.look.Look.TheVariants as look
-use Rattle.cfdp_console.specs.Guard.{IsAllowed, ShowsToken}
+use Rattle.cfdp_console.specs.Guard.{IsOwn, ShowsToken}
 
 -- ---- what is done: its path has these parts in front of the transaction's id and behind it, and
 -- its line is the command of the control address, with the id behind it
@@ -132,7 +132,7 @@ IsEntitled guard request (ask.Command line) = ShowsToken guard request
     × ((head_of request).method ≡ codes "POST")
     × Commands (uri_path (head_of request).uri) (body_of request) line.items
 
--- who may ask this: who is entitled to, and asks by the console's own address or through the proxy
+-- who may ask this: who is entitled to, and asks by the console's own address
 pub record May (guard : Guard) (request : Request (List ℕ)) (it : Ask) : Type 0 where
-  pub allowed : IsAllowed guard request
+  pub own : IsOwn request
   pub entitled : IsEntitled guard request it

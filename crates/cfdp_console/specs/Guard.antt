@@ -37,24 +37,6 @@ pub record IsOwn (request : Request (List ℕ)) : Type 0 where
   pub own : IsOwnHost host.bytes
   pub origin : OriginFits (field_of request (codes "origin")) host.bytes
 
--- where the origin is told, a page of this host sends it
-abbrev pub ProxyOriginFits : Option FieldValue → List ℕ → Type 0
-ProxyOriginFits None host = ⊤
-ProxyOriginFits (Some origin) host =
-    (origin.bytes ≡ codes "https://" ++ host) ⊎ (origin.bytes ≡ codes "http://" ++ host)
-
--- A proxy, whose host the operator named, asks for it: by that name, and no page of another site
--- sends it.
-pub record IsByProxy (guard : Guard) (request : Request (List ℕ)) : Type 0 where
-  pub host : FieldValue
-  pub is_there : field_of request (codes "host") ≡ Some host
-  pub named : host.bytes ≡ guard.proxy_host.items
-  pub origin : ProxyOriginFits (field_of request (codes "origin")) host.bytes
-
--- the request may be answered
-abbrev pub IsAllowed : Guard → Request (List ℕ) → Type 0
-IsAllowed guard request = IsOwn request ⊎ IsByProxy guard request
-
 -- the request shows the token
 abbrev pub ShowsToken : Guard → Request (List ℕ) → Type 0
 ShowsToken guard request = (shown : FieldValue)

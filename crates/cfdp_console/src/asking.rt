@@ -5,7 +5,7 @@ ghost use Rattle.cfdp_console.specs.Asking.{IsEntitled, May};
 
 use crate::deed::command_line;
 use crate::denial::Denial;
-use crate::guard::{Guard, is_allowed};
+use crate::guard::{Guard, is_own};
 use crate::look::{Look, look_at};
 use bytes::Bytes;
 use http::Request;
@@ -29,7 +29,7 @@ pub enum Ask {
 pub fn judge(alloc: Global, guard: &Guard, request: &Request<Bytes>) -> Result<Ask, Denial>
     ensures { IfOk result (λ ask. May guard.now request.now ask) }
 {
-    if !is_allowed(guard, request) {
+    if !is_own(request) {
         return Err(Denial::Foreign);
     }
     let method = request.method().as_str();

@@ -1,16 +1,13 @@
 //! What a station shows of itself, as JSON (RFC 8259).
 ghost use Rattle.std.specs.Prelude.{◌≡◌, IfOk};
 ghost use Rattle.serde_json.specs.View.{view};
-ghost use Rattle.cfdp_console.specs.Shown.{counters_data, dropped_data, failed_data, link_data};
-ghost use Rattle.cfdp_console.specs.Shown.{note_data, phases_data, told_data};
+ghost use Rattle.cfdp_console.specs.Shown.{counters_data, dropped_data, link_data};
 ghost use Rattle.cfdp_console.specs.Shown.{number_or_null, open_data, text_or_null, way_text};
 
 use crate::ledger::{Closed, Way};
 use crate::log_lines::LogLine;
 use crate::samples::Samples;
-use crate::shown::{
-    Counters, Dropped, Failed, LinkStatus, NoteShown, Open, OpenPhases, Shown, Told,
-};
+use crate::shown::{Counters, Dropped, LinkStatus, Open, Shown};
 use cfdp_header::TransactionId;
 use serde_json::{Map, Value, json};
 use std::alloc::{AllocError, Global};
@@ -64,7 +61,6 @@ pub fn open_value(alloc: Global, it: &Open) -> Result<Value, AllocError>
 {
     let (source, destination) = (text(alloc, &it.source)?, text(alloc, &it.destination)?);
     json!(in alloc; {
-        "deadline": number(it.deadline),
         "destination": destination,
         "id": it.id.as_str(),
         "octets": number(it.octets),
@@ -91,8 +87,6 @@ pub fn link_value(alloc: Global, link: &LinkStatus) -> Result<Value, AllocError>
         "carrier": link.carrier,
         "control_field": number(link.control_field),
         "missing": link.frames.missing,
-        "octets_received": link.octets_received,
-        "octets_sent": link.octets_sent,
         "received": link.frames.received,
         "sent": link.frames.sent,
         "silent": number(link.silent),
@@ -122,68 +116,6 @@ pub fn counters_value(alloc: Global, counters: &Counters) -> Result<Value, Alloc
         "pdus_sent": counters.pdus_sent,
         "puts_made": counters.puts_made,
         "puts_refused": counters.puts_refused,
-        "sends_failed": counters.sends_failed,
-    })
-}
-
-/// The object of how many transactions are open.
-///
-/// # Errors
-///
-/// `AllocError` if there is no memory for it.
-pub fn phases_value(alloc: Global, phases: &OpenPhases) -> Result<Value, AllocError>
-    ensures { IfOk result (λ it. view it ≡ phases_data phases.now) }
-{
-    json!(in alloc; {
-        "cancelling": phases.cancelling,
-        "finishing": phases.finishing,
-        "receiving": phases.receiving,
-        "sending": phases.sending,
-    })
-}
-
-/// The object of how often the operator was told something.
-///
-/// # Errors
-///
-/// `AllocError` if there is no memory for it.
-pub fn told_value(alloc: Global, told: &Told) -> Result<Value, AllocError>
-    ensures { IfOk result (λ it. view it ≡ told_data told.now) }
-{
-    json!(in alloc; {"errors": told.errors, "notes": told.notes})
-}
-
-/// The object of a condition by which transactions failed.
-///
-/// # Errors
-///
-/// `AllocError` if there is no memory for it.
-pub fn failed_value(alloc: Global, failed: &Failed) -> Result<Value, AllocError>
-    ensures { IfOk result (λ it. view it ≡ failed_data failed.now) }
-{
-    json!(in alloc; {
-        "code": failed.code,
-        "condition": failed.condition,
-        "count": failed.count,
-        "way": way_word(failed.way),
-    })
-}
-
-/// The object of what the operator was told on a topic.
-///
-/// # Errors
-///
-/// `AllocError` if there is no memory for it.
-pub fn note_value(alloc: Global, note: &NoteShown) -> Result<Value, AllocError>
-    ensures { IfOk result (λ it. view it ≡ note_data note.now) }
-{
-    json!(in alloc; {
-        "age": note.age,
-        "count": note.count,
-        "error": note.is_error,
-        "holds": note.holds,
-        "text": note.text.as_str(),
-        "topic": note.topic,
     })
 }
 
@@ -223,15 +155,13 @@ pub fn closed_value(alloc: Global, closed: &Closed) -> Result<Value, AllocError>
     insert_text(alloc, &mut object, "source", source)?;
     insert_text(alloc, &mut object, "destination", destination)?;
     insert_text(alloc, &mut object, "way", Some(way_word(known.way)))?;
-    let ending = closed.ending;
-    insert_text(alloc, &mut object, "why", Some(ending.why))?;
-    insert_text(alloc, &mut object, "condition", Some(ending.condition))?;
-    let complete = Value::Bool(ending.is_complete);
+    insert_text(alloc, &mut object, "why", Some(closed.why))?;
+    let complete = Value::Bool(closed.is_complete);
     insert(alloc, &mut object, "complete", complete)?;
     for (name, value) in &[
         ("number", Some(closed.number)),
         ("size", known.size),
-        ("time", Some(ending.time)),
+        ("time", Some(closed.time)),
     ] {
         insert(alloc, &mut object, name, number(*value))?;
     }
@@ -268,24 +198,9 @@ pub fn status_value(alloc: Global, shown: Shown<'_>) -> Result<Value, AllocError
     insert(alloc, &mut object, "link", link)?;
     let counters = counters_value(alloc, &status.counters)?;
     insert(alloc, &mut object, "counters", counters)?;
-    let phases = phases_value(alloc, &status.phases)?;
-    insert(alloc, &mut object, "phases", phases)?;
-    let told = told_value(alloc, &status.told)?;
-    insert(alloc, &mut object, "told", told)?;
-    insert_text(alloc, &mut object, "version", Some(status.version))?;
-    insert_lists(alloc, &mut object, shown)?;
-    Ok(object)
-}
-
-/// Adds what failed, what was told and what was dropped to the object of `/status`.
-fn insert_lists(alloc: Global, object: &mut Value, shown: Shown<'_>) -> Result<(), AllocError> {
-    let status = shown.status;
-    let failed = failed_values(alloc, status.failed.as_slice())?;
-    insert(alloc, object, "failed", failed)?;
-    let notes = note_values(alloc, status.notes.as_slice())?;
-    insert(alloc, object, "notes", notes)?;
     let dropped = dropped_values(alloc, status.dropped.as_slice())?;
-    insert(alloc, object, "dropped", dropped)
+    insert(alloc, &mut object, "dropped", dropped)?;
+    Ok(object)
 }
 
 /// An object of the numbers that are always known of a station.
@@ -333,24 +248,6 @@ fn insert_text(
 ) -> Result<(), AllocError> {
     let text = str_value(alloc, text)?;
     insert(alloc, object, name, text)
-}
-
-/// The array of the conditions by which transactions failed.
-fn failed_values(alloc: Global, failed: &[Failed]) -> Result<Value, AllocError> {
-    let mut values = Vec::new(alloc);
-    for it in failed {
-        values.push(failed_value(alloc, it)?)?;
-    }
-    Ok(Value::Array(values))
-}
-
-/// The array of what the operator was told.
-fn note_values(alloc: Global, notes: &[NoteShown]) -> Result<Value, AllocError> {
-    let mut values = Vec::new(alloc);
-    for it in notes {
-        values.push(note_value(alloc, it)?)?;
-    }
-    Ok(Value::Array(values))
 }
 
 /// The array of the causes by which something was dropped.

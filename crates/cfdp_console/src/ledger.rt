@@ -65,19 +65,10 @@ pub struct Closed {
     pub number: u64,
     pub id: TransactionId,
     pub known: Known,
-    /// How it ended.
-    pub ending: Ending,
-}
-
-/// How a transaction ended.
-#[derive(Clone, Copy)]
-pub struct Ending {
     /// Whether the file lies at its receiver.
     pub is_complete: bool,
     /// What its condition says.
     pub why: &'static str,
-    /// The standard's name of the condition.
-    pub condition: &'static str,
     /// When it was over, in milliseconds since 1970; 0 where the clock couldn't be read.
     pub time: u64,
 }
@@ -170,8 +161,8 @@ impl Ledger {
         }
     }
 
-    /// Notes that the transaction is over, and how it ended.
-    pub fn ends(&mut self, id: TransactionId, ending: Ending) {
+    /// Notes that the transaction is over.
+    pub fn ends(&mut self, id: TransactionId, is_complete: bool, why: &'static str, time: u64) {
         if self.closed_one(id).is_some() && !self.open.contains_key(&id) {
             return;
         }
@@ -187,7 +178,9 @@ impl Ledger {
             number: self.closings,
             id,
             known,
-            ending,
+            is_complete,
+            why,
+            time,
         });
     }
 

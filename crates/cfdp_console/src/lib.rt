@@ -29,11 +29,9 @@ pub use asking::{Ask, judge};
 pub use caller::Caller;
 pub use denial::Denial;
 pub use guard::{Guard, is_own};
-pub use ledger::{Closed, Ending, Known, Ledger, Names, Way};
+pub use ledger::{Closed, Known, Ledger, Names, Way};
 pub use log_lines::{LogLine, LogLines};
 pub use look::Look;
 pub use page::PAGE;
 pub use samples::{FrameCounts, Samples};
-pub use shown::{
-    Counters, Dropped, Failed, LinkStatus, NoteShown, Open, OpenPhases, Shown, Status, Told,
-};
+pub use shown::{Counters, Dropped, LinkStatus, Open, Shown, Status};

@@ -3,8 +3,8 @@
 /// What the page may do, as `Content-Security-Policy`: its own style and script run, by their
 /// checksums (SHA-256 of what stands between their tags), and it asks nobody but the console.
 pub const POLICY: &str = "default-src 'none'; connect-src 'self'; img-src data:; \
-    style-src 'sha256-CXo/19+T5/03LkYg9u7ZviXli/0NgcEA3tDk0HUdgXc='; \
-    script-src 'sha256-fNA42JaLhWgVmfe0xc+cIRHUG9xYhT1Eivh5uVr3UbE='; \
+    style-src 'sha256-ciEet665SB6eacwrvNPd1VaughUFKYuos5DUVB1DfVI='; \
+    script-src 'sha256-rN65vjt34m+ssfA0Yvn+1GlD1xq8JCj3rGyZkzCrnmw='; \
     base-uri 'none'; form-action 'none'; frame-ancestors 'none'";
 
 /// The page, in HTML.
@@ -57,9 +57,6 @@ header {
   border-bottom: 1px solid var(--line);
 }
 header .fill { flex: 1; }
-#notes { border-color: var(--amber); padding: 0.6rem 1rem; }
-#notes li::before { content: "\26A0  "; color: var(--amber); }
-#notes li.bad::before { color: var(--red); }
 main {
   display: grid; gap: 1rem; padding: 1rem 1.1rem 2rem; max-width: 84rem; margin: 0 auto;
   grid-template-columns: minmax(0, 1.7fr) minmax(17rem, 1fr);
@@ -97,7 +94,7 @@ input[type="text"], input[type="password"], input[type="search"] {
   background: var(--back); border: 1px solid var(--dim); border-radius: 7px;
   min-height: 2.1rem; padding: 0.2rem 0.6rem; width: 100%; min-width: 0;
 }
-.figures { display: grid; grid-template-columns: repeat(4, minmax(0, 1fr)); gap: 1px;
+.figures { display: grid; grid-template-columns: repeat(5, minmax(0, 1fr)); gap: 1px;
   background: var(--line); border-top: 1px solid var(--line); border-radius: 0 0 10px 10px;
   overflow: hidden; }
 .figures > div { background: var(--card); padding: 0.55rem 0.9rem 0.65rem; }
@@ -201,9 +198,6 @@ td.time { white-space: nowrap; font-variant-numeric: tabular-nums; }
       <button class="main">Continue</button>
     </form>
   </section>
-  <section class="wide" id="notes" role="alert" aria-label="Notes that hold" hidden>
-    <ul id="held"></ul>
-  </section>
   <section aria-labelledby="link-title">
     <div class="head"><h2 id="link-title">Link</h2><span id="route" class="dim"></span></div>
     <figure>
@@ -222,9 +216,7 @@ td.time { white-space: nowrap; font-variant-numeric: tabular-nums; }
       <div><dt>resent</dt><dd id="f-again">-</dd></div>
       <div><dt>files sent</dt><dd id="f-files-sent">-</dd></div>
       <div><dt>files received</dt><dd id="f-files-came">-</dd></div>
-      <div><dt>sends failed</dt><dd id="f-sends-failed">-</dd></div>
-      <div><dt>receptions failed</dt><dd id="f-failed">-</dd></div>
-      <div><dt>cancelled</dt><dd id="f-cancelled">-</dd></div>
+      <div><dt>files failed</dt><dd id="f-failed">-</dd></div>
       <div><dt>puts refused</dt><dd id="f-refused">-</dd></div>
       <div><dt>control field</dt><dd id="f-control">-</dd></div>
     </dl>
@@ -243,12 +235,6 @@ td.time { white-space: nowrap; font-variant-numeric: tabular-nums; }
         <button class="main">Send</button>
       </div>
     </form>
-    <div class="head"><h2>Failed transactions, by condition</h2></div>
-    <p id="no-fails" class="none">None failed.</p>
-    <table id="fails" hidden>
-      <thead><tr><th scope="col">Condition</th><th scope="col" class="num">Count</th></tr></thead>
-      <tbody></tbody>
-    </table>
     <div class="head"><h2>Dropped data, by cause</h2></div>
     <p id="no-drops" class="none">None dropped.</p>
     <table id="drops" hidden>
@@ -292,12 +278,9 @@ td.time { white-space: nowrap; font-variant-numeric: tabular-nums; }
 const at = (id) => document.getElementById(id);
 const SPAN = 600, CLOSED = 200, LINES = 1000;
 // What in a line tells of a fault, an incomplete file or a put that was refused.
-const BAD = new RegExp("(^| )(fault|abandoned|incomplete|failed:|change|error|line [0-9]+) "
-  + '|"event":"(fault|abandoned|put|change|error)"|:"(failed|incomplete)"');
-const INFORMS = ["authentication", "console", "control", "listening"];
-const CANCELLED = 15, STALE = 3000, PACE = 10, SURE = 4000;
+const BAD = new RegExp("(^| )(fault|abandoned|incomplete|failed:|change|line [0-9]+) "
+  + '|"event":"(fault|abandoned|put|change)"|:"(failed|incomplete)"');
 let token = null, status = null, before = null, samples = [], shownClosed = 0, shownLine = 0;
-let answeredAt = 0, rates = new Map();
 let isAsking = false, isRenewing = false, isWanted = false, isAnew = false, quiet = 0;
 
 function made(tag, text, className) {
@@ -363,10 +346,9 @@ function shows_status() {
   writes(at("title"), "Station " + status.station + " \u2192 peer " + status.peer);
   const is_silent = link.silent !== null && link.silent >= 10;
   const state = link.state === "frozen" ? "frozen" : is_silent ? "silent" : "up";
-  const is_noted = shows_notes();
-  at("state").className = "pill is-" + (is_noted && state === "up" ? "silent" : state);
+  at("state").className = "pill is-" + state;
   writes(at("state"), state === "frozen" ? "frozen" : state === "silent"
-    ? "link up, peer silent" : is_noted ? "link up, see the notes" : "link up");
+    ? "link up, peer silent" : "link up");
   writes(at("heard"), link.silent === null ? "" : "last received " + link.silent + " s ago");
   writes(at("clock"), clock(status.time) + " UTC");
   writes(at("route"), link.carrier + " to " + link.to
@@ -375,48 +357,19 @@ function shows_status() {
   const counters = status.counters;
   const figures = { "f-sent": link.sent, "f-came": link.received, "f-lost": link.missing,
     "f-again": counters.file_data_sent_again, "f-files-sent": counters.files_sent,
-    "f-files-came": counters.files_received, "f-failed": failed("receives"),
-    "f-sends-failed": failed("sends"), "f-cancelled": cancelled(),
+    "f-files-came": counters.files_received, "f-failed": counters.files_failed,
     "f-refused": counters.puts_refused };
   for (const [id, number] of Object.entries(figures)) writes(at(id), grouped(number));
   let dropped = 0;
   for (const it of status.dropped) dropped += it.count;
   writes(at("f-dropped"), grouped(dropped));
   at("f-lost").className = link.missing ? "bad" : "";
-  at("f-failed").className = failed("receives") ? "bad" : "";
-  at("f-sends-failed").className = failed("sends") ? "bad" : "";
+  at("f-failed").className = counters.files_failed ? "bad" : "";
   at("f-refused").className = counters.puts_refused ? "bad" : "";
   writes(at("f-control"), link.control_field === null ? "none"
     : link.control_field.toString(16).toUpperCase().padStart(8, "0"));
   shows_rates();
-  shows_counts("drops", status.dropped, (it) => it.layer + " " + it.number + " " + it.cause);
-  shows_counts("fails", status.failed, (it) => (it.way === "sends" ? "send " : "reception ")
-    + it.code + " " + it.condition);
-}
-// How many transactions of one way failed: what a user cancelled didn't.
-function failed(way) {
-  let count = 0;
-  for (const it of status.failed) if (it.way === way && it.code !== CANCELLED) count += it.count;
-  return count;
-}
-function cancelled() {
-  let count = 0;
-  for (const it of status.failed) if (it.code === CANCELLED) count += it.count;
-  return count;
-}
-// Shows the notes that hold, except what each start says.
-function shows_notes() {
-  const all = status.notes.filter((it) => it.holds && !INFORMS.includes(it.topic));
-  const list = at("held");
-  while (list.children.length > all.length) list.lastChild.remove();
-  all.forEach((it, place) => {
-    const line = list.children[place] || list.appendChild(made("li"));
-    line.className = it.error ? "bad" : "";
-    writes(line, it.text + " (" + grouped(it.count) + (it.count === 1 ? " time, " : " times, ")
-      + it.age + " s ago)");
-  });
-  at("notes").hidden = all.length === 0;
-  return all.length > 0;
+  shows_drops();
 }
 function shows_rates() {
   const last = samples[samples.length - 1] || { sent: 0, came: 0, lost: 0 };
@@ -427,10 +380,10 @@ function shows_rates() {
     + Math.round(last.sent) + " sent, " + Math.round(last.came) + " received, "
     + Math.round(last.lost) + " lost");
 }
-function shows_counts(id, all, words) {
-  const body = at(id).tBodies[0];
-  at(id).hidden = all.length === 0;
-  at("no-" + id).hidden = all.length > 0;
+function shows_drops() {
+  const body = at("drops").tBodies[0], all = status.dropped;
+  at("drops").hidden = all.length === 0;
+  at("no-drops").hidden = all.length > 0;
   while (body.rows.length > all.length) body.deleteRow(-1);
   all.forEach((it, place) => {
     let row = body.rows[place];
@@ -438,7 +391,7 @@ function shows_counts(id, all, words) {
       row = body.insertRow();
       row.append(made("td", "", "file"), made("td", "", "num"));
     }
-    writes(row.cells[0], words(it));
+    writes(row.cells[0], it.layer + " " + it.number + " " + it.cause);
     writes(row.cells[1], grouped(it.count));
   });
 }
@@ -529,14 +482,7 @@ function open_row(it) {
     does("/transactions/" + it.id + "/" + word, it.id + ": " + word + " done").then(renews);
   });
   cancel.addEventListener("click", () => {
-    if (row.dataset.sure) {
-      does("/transactions/" + it.id + "/cancel", it.id + ": cancel done").then(renews);
-      return;
-    }
-    // What was transferred is lost: a second click, within some seconds, does it.
-    row.dataset.sure = "yes";
-    setTimeout(() => { delete row.dataset.sure; names_cancel(row); }, SURE);
-    names_cancel(row);
+    does("/transactions/" + it.id + "/cancel", it.id + ": cancel done").then(renews);
   });
   acts.append(hold, cancel);
   top.append(acts);
@@ -544,12 +490,6 @@ function open_row(it) {
   bar.append(progress, made("span", "", "share num"), made("span", "", "dim num size"));
   row.append(top, bar);
   return row;
-}
-function names_cancel(row) {
-  const cancel = row.querySelector(".harm"), it = row.dataset;
-  writes(cancel, it.sure ? "Really?" : "Cancel");
-  cancel.setAttribute("aria-label", (it.sure ? "Really cancel " : "Cancel ") + it.id + ", "
-    + it.name);
 }
 function shows_open(all) {
   const list = at("open"), rows = new Map();
@@ -565,7 +505,7 @@ function shows_open(all) {
     place = row;
     fills_row(row, it);
   }
-  for (const [id, row] of rows) { row.remove(); rates.delete(id); }
+  for (const row of rows.values()) row.remove();
   list.hidden = all.length === 0;
   at("no-open").hidden = all.length > 0;
   const shown = all.length < status.open ? ", " + all.length + " shown" : "";
@@ -578,14 +518,11 @@ function fills_row(row, it) {
   row.className = it.way + (it.suspended ? " suspended" : "");
   writes(row.querySelector(".name"), name);
   writes(row.querySelector(".way"), it.phase);
-  const deadline = it.deadline === null ? ""
-    : "; the peer gives up in " + grouped(it.deadline) + " units of time";
-  writes(row.querySelector(".waits"), it.waits_for ? "waits for " + it.waits_for + deadline : "");
+  writes(row.querySelector(".waits"), it.waits_for ? "waits for " + it.waits_for : "");
   const hold = row.querySelector(".hold"), progress = row.querySelector("progress");
   writes(hold, it.suspended ? "Resume" : "Suspend");
   hold.setAttribute("aria-label", hold.textContent + " " + it.id + ", " + name);
-  row.dataset.name = name;
-  names_cancel(row);
+  row.querySelector(".harm").setAttribute("aria-label", "Cancel " + it.id + ", " + name);
   progress.setAttribute("aria-label", "Progress of " + it.id);
   const is_known = it.size !== null && it.octets !== null;
   if (is_known) {
@@ -596,23 +533,7 @@ function fills_row(row, it) {
     progress.removeAttribute("value");
     writes(row.querySelector(".share"), "-");
   }
-  writes(row.querySelector(".size"), grouped(it.octets) + " of " + grouped(it.size)
-    + (it.suspended ? "" : pace(it)));
-}
-// How fast a file goes, by its last ten seconds, and how long it still takes.
-function pace(it) {
-  const past = rates.get(it.id) || [], now = status.seconds;
-  if (it.octets === null) return "";
-  if (past.length === 0 || now > past[past.length - 1].second) {
-    past.push({ second: now, octets: it.octets });
-  }
-  while (past.length > PACE) past.shift();
-  rates.set(it.id, past);
-  const span = now - past[0].second, rate = span ? (it.octets - past[0].octets) / span : 0;
-  if (rate <= 0) return "";
-  const left = it.size === null ? "" : ", " + grouped(Math.ceil((it.size - it.octets) / rate))
-    + " s left";
-  return ", " + grouped(Math.round(rate)) + " octets/s" + left;
+  writes(row.querySelector(".size"), grouped(it.octets) + " of " + grouped(it.size));
 }
 function adds_closed(all) {
   const body = at("closed");
@@ -623,19 +544,14 @@ function adds_closed(all) {
     const row = made("tr");
     row.append(made("td", clock(it.time), "time"), made("td", it.id, "time"),
       made("td", (it.source || "-") + to, "file"), made("td", grouped(it.size), "num many"),
-      made("td", outcome(it), it.complete ? "good" : is_cancelled(it) ? "" : "bad"),
-      made("td", it.complete ? "" : it.condition + ": " + it.why, "why"));
+      made("td", it.complete ? (it.way === "sends" ? "sent" : "received") : "failed",
+        it.complete ? "good" : "bad"),
+      made("td", it.complete ? "" : it.why, "why"));
     body.insertBefore(row, body.firstChild);
   }
   while (body.rows.length > CLOSED) body.deleteRow(-1);
   at("closed-box").hidden = body.rows.length === 0;
   at("no-closed").hidden = body.rows.length > 0;
-}
-
-function is_cancelled(it) { return it.condition === "CANCEL_REQUEST_RECEIVED"; }
-function outcome(it) {
-  if (it.complete) return it.way === "sends" ? "sent" : "received";
-  return is_cancelled(it) ? "cancelled" : "failed";
 }
 
 // ---- the log
@@ -668,7 +584,6 @@ async function takes_all() {
     const answer = await asks("/status");
     if (!answer.ok) throw new Error("status " + answer.status);
     status = await answer.json();
-    answeredAt = performance.now();
     shows_token(false);
     if (is_anew()) await starts_anew();
     notes_sample();
@@ -684,16 +599,8 @@ async function takes_all() {
   } catch (error) {
     at("state").className = "pill is-gone";
     writes(at("state"), isAsking ? "token required" : "no answer");
-    writes(at("heard"), "");
   }
   draws();
-}
-// What was shown last is no longer so: the station hasn't answered for three seconds.
-function looks_at_age() {
-  if (!status || isAsking || performance.now() - answeredAt < STALE) return;
-  at("state").className = "pill is-gone";
-  writes(at("state"), "no answer");
-  writes(at("heard"), "");
 }
 async function begins() {
   try { await takes_token(); }
@@ -701,7 +608,6 @@ async function begins() {
   await takes_history();
   await renews();
   setInterval(renews, 1000);
-  setInterval(looks_at_age, 500);
 }
 async function takes_history() {
   try {

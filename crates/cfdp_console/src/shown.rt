@@ -9,8 +9,6 @@ pub struct Status {
     /// The ids of its entity and of its peer's.
     pub station: u64,
     pub peer: u64,
-    /// The version of the program.
-    pub version: &'static str,
     /// The time in milliseconds since 1970; 0 where the clock can't be read.
     pub time: u64,
     /// The whole seconds since it was started.
@@ -19,71 +17,11 @@ pub struct Status {
     /// How many transactions are open, and how many files wait for their put.
     pub open: u64,
     pub waiting: u64,
-    /// The open ones by how far they have come.
-    pub phases: OpenPhases,
     /// Units of the clock to the next time-out.
     pub timeout: Option<u64>,
     pub counters: Counters,
-    /// The conditions by which transactions failed.
-    pub failed: Vec<Failed>,
-    /// How often the operator was told something, and what, by topics.
-    pub told: Told,
-    pub notes: Vec<NoteShown>,
     /// The causes by which something was dropped.
     pub dropped: Vec<Dropped>,
-}
-
-/// How many transactions are open, by how far they have come.
-#[derive(Clone, Copy)]
-pub struct OpenPhases {
-    pub sending: u64,
-    pub cancelling: u64,
-    pub receiving: u64,
-    pub finishing: u64,
-}
-
-impl OpenPhases {
-    /// None is open.
-    pub const NONE: OpenPhases = OpenPhases {
-        sending: 0,
-        cancelling: 0,
-        receiving: 0,
-        finishing: 0,
-    };
-
-    /// Returns how many are open.
-    pub fn sum(self) -> u64 {
-        self.sending
-            .saturating_add(self.cancelling)
-            .saturating_add(self.receiving)
-            .saturating_add(self.finishing)
-    }
-}
-
-/// How many transactions failed by a condition.
-#[derive(Clone, Copy)]
-pub struct Failed {
-    /// Whether they sent a file or received one.
-    pub way: Way,
-    /// The condition's code and the standard's name of it.
-    pub code: u64,
-    pub condition: &'static str,
-    pub count: u64,
-}
-
-/// What the operator was told last on a topic.
-#[derive(Drop)]
-pub struct NoteShown {
-    pub topic: &'static str,
-    /// Whether a call for a file or a folder failed.
-    pub is_error: bool,
-    pub text: String,
-    /// How often something was told on the topic.
-    pub count: u64,
-    /// How many seconds ago that was last.
-    pub age: u64,
-    /// Whether that was so lately that it may still be so.
-    pub holds: bool,
 }
 
 /// What a link is, and what passed over it.
@@ -100,9 +38,6 @@ pub struct LinkStatus {
     /// For how many whole seconds nothing came; `None` where nothing has come yet.
     pub silent: Option<u64>,
     pub frames: FrameCounts,
-    /// Octets of frames that left and that came.
-    pub octets_sent: u64,
-    pub octets_received: u64,
     /// Datagrams that came while the link was down by plan.
     pub thrown_away: u64,
     /// The operational control field of the last frame that came, where frames have one.
@@ -123,14 +58,6 @@ pub struct Counters {
     pub file_data_sent: u64,
     pub file_data_sent_again: u64,
     pub naks_sent: u64,
-    pub sends_failed: u64,
-}
-
-/// How many notes and errors there were for the operator.
-#[derive(Clone, Copy)]
-pub struct Told {
-    pub notes: u64,
-    pub errors: u64,
 }
 
 /// How often something was dropped by a cause.
@@ -160,8 +87,6 @@ pub struct Open {
     pub is_suspended: bool,
     /// What it waits for; empty where it waits for its turn alone.
     pub waits_for: &'static str,
-    /// In how many units of the clock the peer gives it up, if it is suspended.
-    pub deadline: Option<u64>,
 }
 
 /// What a console can be asked for, lent while it answers.

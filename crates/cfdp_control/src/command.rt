@@ -1,5 +1,5 @@
 //! The lines by which an operator commands a station that runs.
-ghost use Rattle.std.specs.Prelude.{◌≡◌, ◌++◌, List, ℕ, IfOk, IsTrue, codes, not, option_map};
+ghost use Rattle.std.specs.Prelude.{◌≡◌, List, ℕ, IfOk, option_map};
 ghost use Rattle.std.specs.Result.{result_ok};
 ghost use Rattle.std.specs.Str.{IsTrimAsciiEnd};
 ghost use Rattle.cfdp_report.specs.Words.{left};
@@ -171,17 +171,6 @@ fn write_words<W: fmt::Write>(f: &mut fmt::Formatter<W>) -> fmt::Result {
         f.write_str(verb.word())?;
     }
     Ok(())
-}
-
-/// Returns whether a line asks for an answer in JSON, and the command without that word.
-pub fn split_form(line: &[u8]) -> (bool, &[u8])
-    ensures json { IsTrue result.0 → line.now ≡ codes "--json " ++ result.1.now }
-    ensures text { IsTrue (not result.0) → line.now ≡ result.1.now }
-{
-    match line.strip_prefix(b"--json ".as_slice()) {
-        Some(command) => (true, command),
-        None => (false, line),
-    }
 }
 
 /// Reads a line, without its line feed, as a command: words with one space between. White space at

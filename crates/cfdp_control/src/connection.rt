@@ -1,11 +1,11 @@
 //! A connection over which lines come and are answered.
 use crate::line::{LineFault, text_of};
 use crate::line_buffer::LineBuffer;
-use crate::stream::Stream;
 use libc::net::{POLLIN, POLLOUT};
 use std::alloc::Global;
 use std::io::{ErrorKind, Read, Write};
-use std::os::fd::RawFd;
+use std::net::{Shutdown, TcpStream};
+use std::os::fd::{AsRawFd, RawFd};
 
 /// The octets that are read at once, at most.
 const MOST_READ: usize = 4096;
@@ -43,7 +43,7 @@ enum Stage {
 #[derive(Drop)]
 pub struct Connection {
     number: u64,
-    stream: Stream,
+    stream: TcpStream,
     lines: LineBuffer,
     stage: Stage,
     // What is to be sent, and how many lines were taken that aren't answered yet.
@@ -56,7 +56,7 @@ pub struct Connection {
 
 impl Connection {
     /// A connection of this number, that came at this time. The stream doesn't wait.
-    pub fn new(alloc: Global, number: u64, stream: Stream, now: u64) -> Connection {
+    pub fn new(alloc: Global, number: u64, stream: TcpStream, now: u64) -> Connection {
         Connection {
             number,
             stream,
@@ -107,7 +107,7 @@ impl Connection {
         };
         let reading = if reads { POLLIN } else { 0 };
         let sending = if self.answers.is_empty() { 0 } else { POLLOUT };
-        (self.stream.fd(), reading | sending)
+        (self.stream.as_raw_fd(), reading | sending)
     }
 
     /// Whether a line may be taken: one lies here, and its answers aren't left to wait.
@@ -163,7 +163,7 @@ impl Connection {
         if self.answers.is_empty() {
             let _ = self.stream.write(why.as_bytes());
         }
-        let _ = self.stream.shuts();
+        let _ = self.stream.shutdown(Shutdown::Write);
         self.stage = Stage::Gone;
     }
 
@@ -257,7 +257,7 @@ impl Connection {
     /// Tells its other end that nothing more comes.
     fn leaves(&mut self, now: u64) {
         self.moved_at = now;
-        self.stage = match self.stream.shuts() {
+        self.stage = match self.stream.shutdown(Shutdown::Write) {
             Ok(()) => Stage::Leaving,
             Err(_) => Stage::Gone,
         };

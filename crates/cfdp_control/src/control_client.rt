@@ -1,13 +1,9 @@
 //! Asks a station that runs.
-use crate::cause::{address_cause, is_malformed};
-use crate::json_answer::JsonAnswer;
+use crate::cause::address_cause;
 use crate::shown::ShownAnswer;
-use crate::stream::{Stream, socket_path};
-use cfdp_report::cause_text;
 use std::alloc::{AllocError, Global};
 use std::io::{BufWriter, ErrorKind, Read, Write};
 use std::net::{TcpStream, ToSocketAddrs};
-use std::os::unix::net::UnixStream;
 use std::time::{Duration, Instant};
 use std::{fmt, io};
 
@@ -24,34 +20,6 @@ enum AskError {
     System(io::Error),
     /// The other end sends more than any station does.
     TooLong,
-}
-
-impl AskError {
-    /// Returns `true` if the address is written as no address is.
-    fn is_mistake(&self) -> bool {
-        match self {
-            AskError::System(error) => is_malformed(error.kind()),
-            AskError::TooLong => false,
-        }
-    }
-}
-
-/// Why the station at an address wasn't asked.
-#[derive(Clone, Copy)]
-struct Unasked<'a> {
-    address: &'a str,
-    error: &'a AskError,
-}
-
-impl fmt::Display for Unasked<'_> {
-    fn fmt<W: fmt::Write>(&self, f: &mut fmt::Formatter<W>) -> fmt::Result {
-        match self.error {
-            AskError::System(error) if socket_path(self.address).is_some() => {
-                f.write_str(cause_text(error.kind()))
-            }
-            error => write!(f, "{error}"),
-        }
-    }
 }
 
 impl From<io::Error> for AskError {
@@ -81,9 +49,6 @@ impl fmt::Display for AskError {
 /// The octets that are read at once, at most.
 const MOST_READ: usize = 4096;
 
-/// How a line begins that is answered in JSON.
-const JSON: &str = "--json ";
-
 /// The exit status where the station did what it was asked.
 const DONE: u8 = 0;
 
@@ -104,22 +69,11 @@ pub fn ask(rt: &HostRuntime, address: &str, words: &[String]) -> u8 {
         let _ = eprintln!(rt; "error: empty command, or a line break in it");
         return MISTAKE;
     };
-    let is_json = line.as_str().starts_with(JSON);
     match answer_to(rt, address, line.as_str()) {
-        Ok(answer) => told_status(rt, answer.as_slice(), is_json),
+        Ok(answer) => told_status(rt, answer.as_slice()),
         Err(error) => {
-            let _ = eprintln!(rt;
-                "error: {address}: {}",
-                Unasked {
-                    address,
-                    error: &error
-                }
-            );
-            if error.is_mistake() && socket_path(address).is_none() {
-                MISTAKE
-            } else {
-                UNANSWERED
-            }
+            let _ = eprintln!(rt; "error: {address}: {error}");
+            UNANSWERED
         }
     }
 }
@@ -139,15 +93,10 @@ fn line_of(alloc: Global, words: &[String]) -> Option<String> {
     Some(line)
 }
 
-/// Writes an answer, as JSON or as it came, and says by the exit status what it was.
-fn told_status(rt: &HostRuntime, answer: &[u8], is_json: bool) -> u8 {
+/// Writes an answer, and says by the exit status what it was.
+fn told_status(rt: &HostRuntime, answer: &[u8]) -> u8 {
     let text = answer.strip_suffix(b"\n".as_slice()).unwrap_or(answer);
-    let written = if is_json {
-        write_json(rt, text)
-    } else {
-        write_shown(rt, text)
-    };
-    if written.is_err() {
+    if write_shown(rt, text).is_err() {
         return UNANSWERED;
     }
     if answer.starts_with(b"error: ") {
@@ -164,29 +113,6 @@ fn write_shown(rt: &HostRuntime, text: &[u8]) -> io::Result<()> {
     out.flush()
 }
 
-/// Writes an answer to standard output as one object of JSON.
-fn write_json(rt: &HostRuntime, text: &[u8]) -> io::Result<()> {
-    let mut out = BufWriter::new(rt.alloc(), io::writer(rt))?;
-    writeln!(out, "{}", JsonAnswer(text))?;
-    out.flush()
-}
-
-/// Connects to the control address of a station.
-///
-/// # Errors
-///
-/// That of the system.
-fn connected(rt: &HostRuntime, address: &str, start: Instant) -> Result<Stream, AskError> {
-    if let Some(path) = socket_path(address) {
-        return Ok(Stream::Unix(UnixStream::connect(rt, path)?));
-    }
-    let Some(address) = address.to_socket_addrs(rt)?.next() else {
-        return Err(AskError::from(io::Error::from(ErrorKind::AddrNotAvailable)));
-    };
-    let left = time_left(rt, start)?;
-    Ok(Stream::Tcp(TcpStream::connect_timeout(rt, &address, left)?))
-}
-
 /// Sends a line, and answers what came, up to the empty line at its end.
 ///
 /// # Errors
@@ -195,15 +121,18 @@ fn connected(rt: &HostRuntime, address: &str, start: Instant) -> Result<Stream, 
 /// no end; `TooLong` where it is longer than any of a station.
 fn answer_to(rt: &HostRuntime, address: &str, line: &str) -> Result<Vec<u8>, AskError> {
     let start = Instant::now(rt)?;
-    let mut stream = connected(rt, address, start)?;
-    stream.writes_within(time_left(rt, start)?)?;
+    let Some(address) = address.to_socket_addrs(rt)?.next() else {
+        return Err(AskError::from(io::Error::from(ErrorKind::AddrNotAvailable)));
+    };
+    let mut stream = TcpStream::connect_timeout(rt, &address, time_left(rt, start)?)?;
+    stream.set_write_timeout(Some(time_left(rt, start)?))?;
     stream.write_all(line.as_bytes())?;
     let mut answer = Vec::new(rt.alloc());
     for _octet in 0..MOST_ANSWER {
         if is_whole(answer.as_slice()) {
             return Ok(answer);
         }
-        stream.reads_within(time_left(rt, start)?)?;
+        stream.set_read_timeout(Some(time_left(rt, start)?))?;
         read_more(&mut stream, &mut answer)?;
         if answer.len() > MOST_ANSWER {
             break;
@@ -230,7 +159,7 @@ fn is_whole(answer: &[u8]) -> bool {
 }
 
 /// Reads more of an answer.
-fn read_more(stream: &mut Stream, answer: &mut Vec<u8>) -> io::Result<()> {
+fn read_more(stream: &mut TcpStream, answer: &mut Vec<u8>) -> io::Result<()> {
     let mut buffer = [0u8; MOST_READ];
     match stream.read(&mut buffer) {
         Ok(0) => Err(io::Error::from(ErrorKind::UnexpectedEof)),

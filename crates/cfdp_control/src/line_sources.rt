@@ -1,17 +1,16 @@
 //! Where commands come from: lines, and the console.
-use crate::cause::{address_cause, is_malformed};
+use crate::cause::address_cause;
 use crate::connection::Connection;
 use crate::line::{LineFault, Speaker};
 use crate::standard_input::StandardInput;
-use crate::stream::{Listener, Stream, socket_path, unix_listener};
 use crate::web_door::WebDoor;
 use cfdp_console::{Answer, Ask};
 use cfdp_exchange::Watched;
-use cfdp_report::cause_text;
 use libc::net::POLLIN;
 use std::alloc::AllocError;
 use std::io::ErrorKind;
-use std::net::{SocketAddr, TcpListener, ToSocketAddrs};
+use std::net::{SocketAddr, TcpListener, TcpStream, ToSocketAddrs};
+use std::os::fd::AsRawFd;
 use std::time::Instant;
 use std::{fmt, io};
 
@@ -43,20 +42,8 @@ const GIVES_WAY: &str =
 pub enum ControlError {
     /// Others than this machine could reach it, and whoever reaches it commands the station.
     NotLoopback,
-    /// No Unix socket can be had at the path.
-    Socket(io::Error),
     /// Something stands against it, as that it is in use.
     System(io::Error),
-}
-
-impl ControlError {
-    /// Returns `true` if no address is written so: it is a mistake of whoever gave it.
-    pub fn is_mistake(&self) -> bool {
-        match self {
-            ControlError::NotLoopback | ControlError::Socket(_) => false,
-            ControlError::System(error) => is_malformed(error.kind()),
-        }
-    }
 }
 
 impl From<io::Error> for ControlError {
@@ -79,7 +66,6 @@ impl fmt::Display for ControlError {
                 "must be an address of this machine alone, 127.0.0.1 or [::1], since whoever \
                  reaches it commands the station",
             ),
-            ControlError::Socket(error) => f.write_str(cause_text(error.kind())),
             ControlError::System(error) => f.write_str(address_cause(error.kind())),
         }
     }
@@ -92,7 +78,7 @@ pub struct LineSources<'a> {
     rt: &'a HostRuntime,
     start: Option<Instant>,
     standard: Option<StandardInput>,
-    listener: Option<Listener>,
+    listener: Option<TcpListener>,
     connections: Vec<Connection>,
     door: Option<WebDoor<'a>>,
     // How many connections there were so far, and until when none is taken.
@@ -138,10 +124,10 @@ impl<'a> LineSources<'a> {
         })
     }
 
-    /// The control address, with its port; `None` where there is none, or it is a Unix socket.
+    /// The control address, with its port; `None` where there is none.
     pub fn control_address(&self) -> Option<SocketAddr> {
         match &self.listener {
-            Some(listener) => listener.tcp_address(),
+            Some(listener) => listener.local_addr().ok(),
             None => None,
         }
     }
@@ -267,7 +253,7 @@ impl<'a> LineSources<'a> {
         if let Some(listener) = &self.listener
             && self.hears(self.now())
         {
-            watched.watch(listener.fd(), POLLIN);
+            watched.watch(listener.as_raw_fd(), POLLIN);
         }
         for connection in self.connections.iter() {
             let (fd, events) = connection.watched();
@@ -326,7 +312,7 @@ impl<'a> LineSources<'a> {
             return;
         }
         match listener.accept() {
-            Ok(stream) => self.takes_in(stream, now),
+            Ok((stream, _)) => self.takes_in(stream, now),
             Err(error) => {
                 if !is_passing(error.kind()) {
                     self.deaf_until = now.saturating_add(AFTER_FAILURE);
@@ -337,10 +323,11 @@ impl<'a> LineSources<'a> {
 
     /// Has one more connection. Where eight may send lines already, the one of them that is idle
     /// the longest is told so, and closed; where none is idle for a second, the new one is.
-    fn takes_in(&mut self, stream: Stream, now: u64) {
-        if stream.never_waits().is_err() {
+    fn takes_in(&mut self, stream: TcpStream, now: u64) {
+        if stream.set_nonblocking(true).is_err() {
             return;
         }
+        let _ = stream.set_nodelay(true);
         self.numbered = self.numbered.saturating_add(1);
         let mut connection = Connection::new(self.rt.alloc(), self.numbered, stream, now);
         if self.open_count() >= MOST_OPEN && !self.closes_idle(now) {
@@ -422,11 +409,8 @@ pub(crate) fn is_passing(kind: ErrorKind) -> bool {
     )
 }
 
-/// What takes connections at an address of this machine alone, or at a Unix socket.
-fn listener(rt: &HostRuntime, address: &str) -> Result<Listener, ControlError> {
-    if let Some(path) = socket_path(address) {
-        return unix_listener(rt, path).map_err(ControlError::Socket);
-    }
+/// What takes connections at an address of this machine alone.
+fn listener(rt: &HostRuntime, address: &str) -> Result<TcpListener, ControlError> {
     let Some(address) = address.to_socket_addrs(rt)?.next() else {
         return Err(ControlError::System(io::Error::from(ErrorKind::AddrNotAvailable)));
     };
@@ -435,5 +419,5 @@ fn listener(rt: &HostRuntime, address: &str) -> Result<Listener, ControlError> {
     }
     let listener = TcpListener::bind(rt, address)?;
     listener.set_nonblocking(true)?;
-    Ok(Listener::Tcp(listener))
+    Ok(listener)
 }

@@ -105,8 +105,7 @@ pub struct WebDoor<'a> {
 
 impl<'a> WebDoor<'a> {
     /// The console at this address. Whoever asks has to show this token; without one, anybody on
-    /// this machine may look, and its page is told a token of its own. A proxy may ask for this
-    /// host, unless it is empty.
+    /// this machine may look, and its page is told a token of its own.
     ///
     /// # Errors
     ///
@@ -116,7 +115,6 @@ impl<'a> WebDoor<'a> {
         rt: &'a HostRuntime,
         address: &str,
         token: Option<String>,
-        proxy_host: &str,
     ) -> Result<WebDoor<'a>, DoorError> {
         let listener = listener(rt, address, token.is_some())?;
         let is_open = token.is_none();
@@ -131,7 +129,6 @@ impl<'a> WebDoor<'a> {
             guard: Guard {
                 token: kept,
                 is_open,
-                proxy_host: Vec::from_slice(rt.alloc(), proxy_host.as_bytes())?,
             },
             told_token: if is_open { Some(token) } else { None },
             visitors: Visitors::new(rt.alloc()),

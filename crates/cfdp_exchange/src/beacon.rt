@@ -45,8 +45,6 @@ impl Beacon {
         let (from, here) = (numbers(&self.sends), numbers(&other.receives));
         let (to, there) = (numbers(&other.sends), numbers(&self.receives));
         [
-            ("id of the peer", self.id, other.peer),
-            ("id of this station", self.peer, other.id),
             ("zone", from[0], here[0]),
             ("spacecraft", from[1], here[1]),
             ("directive channel from the peer", from[2], here[2]),
@@ -61,6 +59,8 @@ impl Beacon {
             ("insert zone to the peer", there[5], to[5]),
             ("control field to the peer", there[6], to[6]),
             ("error control to the peer", there[7], to[7]),
+            ("id of the peer", self.id, other.peer),
+            ("id of this station", self.peer, other.id),
         ]
     }
 
@@ -69,11 +69,6 @@ impl Beacon {
         self.beside(other)
             .iter()
             .all(|(_, theirs, ours)| theirs == ours)
-    }
-
-    /// Returns `true` if both stations don't mean the same two ids.
-    pub fn has_other_ids(&self, other: &Beacon) -> bool {
-        self.id != other.peer || self.peer != other.id
     }
 
     /// The octets of its frame: the header, of version 1 and channel 63, the mark, and the numbers.

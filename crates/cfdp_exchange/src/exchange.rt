@@ -2,7 +2,6 @@
 use crate::beacon::Beacon;
 use crate::drops::CarrierTally;
 use crate::lost_frames::FrameGaps;
-use crate::notes::NoteQueue;
 use crate::refusals::RefusalTally;
 use crate::watched::Watched;
 use frame_security::LinkKeys;
@@ -56,11 +55,6 @@ pub struct Exchange {
     pub dropped: CarrierTally,
     /// How many frames of a secured link were refused.
     pub refused: RefusalTally,
-    /// How many octets of frames left, and how many came. Each count stays at 2^64 - 1.
-    pub octets_sent: Cell<u64>,
-    pub octets_received: Cell<u64>,
-    /// What the operator is told, until the log has it.
-    pub notes: NoteQueue,
 }
 
 impl Exchange {
@@ -83,9 +77,6 @@ impl Exchange {
             gaps: FrameGaps::new(),
             dropped: CarrierTally::new(),
             refused: RefusalTally::new(),
-            octets_sent: Cell::new(0),
-            octets_received: Cell::new(0),
-            notes: NoteQueue::new(),
         }
     }
 }

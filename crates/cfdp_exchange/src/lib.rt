@@ -10,7 +10,6 @@ mod beacon;
 mod drops;
 mod exchange;
 mod lost_frames;
-mod notes;
 mod refusals;
 mod watched;
 
@@ -18,6 +17,5 @@ pub use beacon::{BEACON_LEN, Beacon};
 pub use drops::{CarrierDrop, CarrierTally};
 pub use exchange::{Exchange, Stop};
 pub use lost_frames::{FrameGaps, FrameMonitor, is_often_late};
-pub use notes::{Note, NoteKind, NoteQueue};
 pub use refusals::{REFUSALS, RefusalTally, refusal_name};
 pub use watched::Watched;

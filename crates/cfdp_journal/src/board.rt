@@ -1,17 +1,13 @@
 //! What a station's console shows of it.
-use crate::journal::meaning::{condition_name, condition_words, name_of_code};
-use crate::journal::noted::{Noted, NotedTopics};
-use crate::journal::totals::{CONDITIONS, Totals};
-use cfdp_console::{
-    Counters, Dropped, Ending, Failed, FrameCounts, Ledger, LinkStatus, Names, NoteShown,
-    OpenPhases, Samples, Status, Told, Way,
-};
+use crate::journal::meaning::condition_words;
+use crate::journal::totals::Totals;
+use cfdp_console::{Counters, Dropped, FrameCounts, Ledger, LinkStatus, Names, Samples, Status};
 use cfdp_directives::{Condition, Delivery, FileStatus, Indication};
-use cfdp_exchange::{CarrierDrop, Exchange, NoteKind, REFUSALS, refusal_name};
+use cfdp_exchange::{CarrierDrop, Exchange, REFUSALS, refusal_name};
 use cfdp_header::TransactionId;
 use cfdp_report::Name;
 use cfdp_service::PutNames;
-use cfdp_station::{EntityDrop, Lane, LinkDrop, Phase, Station};
+use cfdp_station::{EntityDrop, Lane, LinkDrop, Station};
 use cfdp_store::{Inbox, Outbox};
 use jiff::Timestamp;
 use std::alloc::{AllocError, Global};
@@ -31,8 +27,6 @@ pub struct BoardSetup<'a> {
     pub carrier: &'static str,
     /// The peer's address.
     pub to: &'a str,
-    /// The version of the program.
-    pub version: &'static str,
     /// Whether frames are authenticated.
     pub is_authenticated: bool,
     /// What passed over the link, and what of that was dropped.
@@ -137,13 +131,9 @@ impl<'a> Board<'a> {
     }
 
     fn ends(&mut self, id: TransactionId, is_complete: bool, condition: Condition) {
-        let ending = Ending {
-            is_complete,
-            why: condition_words(condition),
-            condition: condition_name(condition),
-            time: unix_time(self.setup.rt),
-        };
-        self.ledger.ends(id, ending);
+        let time = unix_time(self.setup.rt);
+        self.ledger
+            .ends(id, is_complete, condition_words(condition), time);
     }
 
     /// The frames that were counted.
@@ -165,30 +155,20 @@ impl<'a> Board<'a> {
         &self,
         station: &Station<O, I>,
         moment: Moment,
-        noted: &NotedTopics,
     ) -> Result<Status, AllocError> {
-        let (setup, alloc) = (self.setup, self.setup.rt.alloc());
+        let setup = self.setup;
         let timeout = station.next_timeout();
-        let phases = open_phases(station);
         Ok(Status {
             station: setup.own,
             peer: setup.peer,
-            version: setup.version,
             time: unix_time(setup.rt),
             seconds: moment.now / SECOND,
             link: self.link(station, moment)?,
-            open: phases.sum(),
-            phases,
+            open: open_count(station),
             waiting: moment.waiting as u64,
             timeout: timeout.map(|deadline| deadline.saturating_sub(moment.told)),
             counters: counters(station, moment.totals),
-            failed: failed(alloc, moment.totals)?,
-            told: Told {
-                notes: noted.notes(),
-                errors: noted.errors(),
-            },
-            notes: notes(alloc, noted, moment.now / SECOND)?,
-            dropped: dropped(alloc, station, setup.exchange)?,
+            dropped: dropped(setup.rt.alloc(), station, setup.exchange)?,
         })
     }
 
@@ -207,8 +187,6 @@ impl<'a> Board<'a> {
             to: String::from_str(setup.rt.alloc(), setup.to)?,
             silent: self.came_second.map(|came| second.saturating_sub(came)),
             frames: self.frames(),
-            octets_sent: setup.exchange.octets_sent.get(),
-            octets_received: setup.exchange.octets_received.get(),
             thrown_away: setup.exchange.gaps.thrown_away(),
             control_field: control_field(station),
         })
@@ -241,72 +219,13 @@ fn printed(alloc: Global, source: &[u8], destination: &[u8]) -> Option<Names> {
     })
 }
 
-/// How many transactions aren't closed, by how far they have come.
-fn open_phases<O: Outbox, I: Inbox>(station: &Station<O, I>) -> OpenPhases {
-    let mut phases = OpenPhases::NONE;
+/// How many transactions aren't closed.
+fn open_count<O: Outbox, I: Inbox>(station: &Station<O, I>) -> u64 {
+    let mut count = 0u64;
     for (_, phase) in station.transactions() {
-        let count = match phase {
-            Phase::Sending => &mut phases.sending,
-            Phase::Cancelling => &mut phases.cancelling,
-            Phase::Receiving => &mut phases.receiving,
-            Phase::Finishing => &mut phases.finishing,
-            Phase::Closed => continue,
-        };
-        *count = count.saturating_add(1);
+        count = count.saturating_add(u64::from(phase != cfdp_station::Phase::Closed));
     }
-    phases
-}
-
-/// The conditions by which transactions failed, and how many did.
-fn failed(alloc: Global, totals: Totals) -> Result<Vec<Failed>, AllocError> {
-    let mut all = Vec::new(alloc);
-    for code in 0..CONDITIONS {
-        add_failed(&mut all, Way::Sends, code, totals.failures.sends_by(code))?;
-    }
-    for code in 0..CONDITIONS {
-        add_failed(
-            &mut all,
-            Way::Receives,
-            code,
-            totals.failures.receptions_by(code),
-        )?;
-    }
-    Ok(all)
-}
-
-/// Adds a condition, if its count isn't zero.
-fn add_failed(all: &mut Vec<Failed>, way: Way, code: usize, count: u64) -> Result<(), AllocError> {
-    if count > 0
-        && let Ok(code) = u8::try_from(code)
-    {
-        all.push(Failed {
-            way,
-            code: u64::from(code),
-            condition: name_of_code(code),
-            count,
-        })?;
-    }
-    Ok(())
-}
-
-/// What the operator was told, as the console shows it in this second since the start.
-fn notes(alloc: Global, noted: &NotedTopics, second: u64) -> Result<Vec<NoteShown>, AllocError> {
-    let mut all = Vec::new(alloc);
-    for note in noted.topics() {
-        all.push(note_shown(alloc, note, second)?)?;
-    }
-    Ok(all)
-}
-
-fn note_shown(alloc: Global, note: &Noted, second: u64) -> Result<NoteShown, AllocError> {
-    Ok(NoteShown {
-        topic: note.topic,
-        is_error: note.kind == NoteKind::Error,
-        text: String::from_str(alloc, note.text.as_str())?,
-        count: note.count,
-        age: second.saturating_sub(note.second),
-        holds: note.holds(second),
-    })
+    count
 }
 
 /// What the station counted.
@@ -327,7 +246,6 @@ fn counters<O: Outbox, I: Inbox>(station: &Station<O, I>, totals: Totals) -> Cou
         file_data_sent: sent.file_data,
         file_data_sent_again: sent.file_data_again,
         naks_sent: sent.naks,
-        sends_failed: totals.sends_failed as u64,
     }
 }
 

@@ -2,7 +2,6 @@
 pub mod json;
 pub mod line;
 pub mod meaning;
-pub mod noted;
 pub mod overview;
 pub mod register;
 pub mod stopped;
@@ -11,19 +10,18 @@ pub mod telling;
 pub mod totals;
 
 use crate::journal::line::LINE_ROOM;
-use crate::journal::noted::NotedTopics;
 use crate::journal::overview::{
-    Clock, Figures, Form, Waiting, shown_alone, shown_open, write_counters, write_list,
+    Form, Waiting, shown_alone, shown_open, write_counters, write_list,
 };
 use crate::journal::register::{Register, copied, is_one_of, told_id};
 use crate::journal::style::{Log, Style};
 use crate::journal::telling::{
-    Why, tell_change, tell_end, tell_file, tell_indication, tell_note, tell_refusal, tell_rekey,
+    Why, tell_change, tell_end, tell_file, tell_indication, tell_refusal, tell_rekey,
 };
 use crate::journal::totals::Totals;
 use cfdp_console::Open;
 use cfdp_directives::Indication;
-use cfdp_exchange::{Exchange, Note};
+use cfdp_exchange::Exchange;
 use cfdp_header::TransactionId;
 use cfdp_report::Exit;
 use cfdp_service::{Outcome, PutNames, Reply};
@@ -57,7 +55,6 @@ pub struct Journal<'a, V: Write + Drop> {
     has_failed: bool,
     register: Register,
     totals: Totals,
-    noted: NotedTopics,
     // The last put that was refused.
     refused: Option<RefusedPut>,
 }
@@ -115,7 +112,6 @@ impl<'a, V: Write + Drop> Journal<'a, V> {
             has_failed: false,
             register: Register::new(alloc),
             totals: Totals::NONE,
-            noted: NotedTopics::new(alloc),
             refused: None,
         })
     }
@@ -191,8 +187,7 @@ impl<'a, V: Write + Drop> Journal<'a, V> {
     {
         let (log, id) = (self.setup.log, told_id(indication));
         let is_over = self.register.is_over(id);
-        self.register
-            .hears(indication, self.setup.exchange.told.get());
+        self.register.hears(indication);
         let size = self.register.size(id);
         self.totals.hears(log.own, indication, is_over, size);
         if self.has_failed {
@@ -200,21 +195,6 @@ impl<'a, V: Write + Drop> Journal<'a, V> {
         }
         let names = self.register.names(id);
         let told = tell_indication(&mut self.out, &mut self.line, log, indication, names);
-        self.has_failed = told.is_err();
-    }
-
-    /// Counts what the operator was told in this second since the start. A line reports it, except in
-    /// the plain style.
-    pub fn notes(&mut self, note: &Note, second: u64)
-        ensures logs { Logs Notes self.old self.new }
-        ensures totals { self.new.totals ≡ self.old.totals }
-    {
-        self.noted.counts(note, second);
-        if self.has_failed {
-            return;
-        }
-        let names = self.register.names_of(note.id);
-        let told = tell_note(&mut self.out, &mut self.line, self.setup.log, note, names);
         self.has_failed = told.is_err();
     }
 
@@ -258,16 +238,13 @@ impl<'a, V: Write + Drop> Journal<'a, V> {
         if self.has_failed {
             return;
         }
-        let figures = Figures {
-            totals: &self.totals,
-            exchange: self.setup.exchange,
-            noted: &self.noted,
-        };
+        let (log, exchange) = (self.setup.log, self.setup.exchange);
         let told = tell_end(
             &mut self.out,
             &mut self.line,
-            self.setup.log,
-            figures,
+            log,
+            &self.totals,
+            exchange,
             station,
         );
         self.has_failed = told.is_err();
@@ -347,12 +324,7 @@ impl<'a, V: Write + Drop> Journal<'a, V> {
         form: Form,
         station: &Station<O, I>,
     ) -> fmt::Result {
-        let figures = Figures {
-            totals: &self.totals,
-            exchange: self.setup.exchange,
-            noted: &self.noted,
-        };
-        write_counters(out, form, figures, station)
+        write_counters(out, form, &self.totals, self.setup.exchange, station)
     }
 
     /// The transactions that are open, in order of their ids, as the console shows them.
@@ -363,10 +335,10 @@ impl<'a, V: Write + Drop> Journal<'a, V> {
     pub fn shown<O: Outbox, I: Inbox>(
         &self,
         station: &Station<O, I>,
-        clock: Clock,
+        now: u64,
     ) -> Result<Vec<Open>, AllocError> {
         let log = self.setup.log;
-        shown_open(log.rt.alloc(), &self.register, station, clock, log.own)
+        shown_open(log.rt.alloc(), &self.register, station, now, log.own)
     }
 
     /// The transaction of this id, which is a word as `1:7`, as the console shows it; nothing where
@@ -378,40 +350,16 @@ impl<'a, V: Write + Drop> Journal<'a, V> {
     pub fn shown_alone<O: Outbox, I: Inbox>(
         &self,
         station: &Station<O, I>,
-        clock: Clock,
+        now: u64,
         word: &[u8],
     ) -> Result<Vec<Open>, AllocError> {
         let log = self.setup.log;
-        shown_alone(
-            log.rt.alloc(),
-            &self.register,
-            station,
-            clock,
-            log.own,
-            word,
-        )
-    }
-
-    /// Returns the id of the entity whose log it is.
-    pub fn own(&self) -> u64
-        ensures { result ≡ self.now.own }
-    {
-        self.setup.log.own
-    }
-
-    /// Returns the names of the file of a transaction, if they are known.
-    pub fn names(&self, id: TransactionId) -> Option<&PutNames> {
-        self.register.names(id)
+        shown_alone(log.rt.alloc(), &self.register, station, now, log.own, word)
     }
 
     /// How many octets the file of a transaction has, where that is known.
     pub fn size(&self, id: TransactionId) -> Option<u64> {
         self.register.size(id)
-    }
-
-    /// Returns what the operator was told since the start.
-    pub fn noted(&self) -> &NotedTopics {
-        &self.noted
     }
 
     /// The writer, lent.

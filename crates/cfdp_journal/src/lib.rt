@@ -11,11 +11,10 @@ mod line_queue;
 mod lossy_log;
 
 pub use board::{Board, BoardSetup, Moment};
-pub use journal::noted::{Noted, NotedTopics};
-pub use journal::overview::{Clock, Form, Waiting};
+pub use journal::overview::{Form, Waiting};
 pub use journal::stopped::Stopped;
 pub use journal::style::{Log, Style};
-pub use journal::totals::{Failures, Totals};
+pub use journal::totals::Totals;
 pub use journal::{Journal, JournalSetup};
 pub use kept_log::KeptLog;
 pub use line_queue::{LineQueue, MOST_WAITING};

@@ -5,7 +5,6 @@ pub mod console_door;
 pub mod notices;
 pub mod operation;
 pub mod operator;
-pub mod refusals;
 pub mod setup;
 
 use crate::station::console_door::door;
@@ -13,18 +12,15 @@ use crate::station::operation::{Context, SecuredEnds, StationParts, StationSpool
 use crate::station::setup::{StationSetup, key_hint};
 use crate::transfers::named_files::{check_file, check_name, folder, folder_outbox, tell_untold};
 use crate::transfers::secured_links::keys_in;
-use crate::transfers::teller::{SpoolNotes, Teller, note};
-use cfdp_command_line::{
-    CarrierKind, StationNumbers, StationRequest, TimeUnit, note_losses, tell_line,
-};
-use cfdp_control::{LineSources, address_cause, is_malformed, remove_socket, socket_path};
+use cfdp_command_line::{CarrierKind, StationNumbers, StationRequest, TimeUnit, note_losses};
+use cfdp_control::{LineSources, address_cause};
 use cfdp_datagrams::{Carrier, Pace, PeerSocket, SharedNumbers, Unit, Unusable};
 use cfdp_exchange::{Beacon, Exchange};
 use cfdp_files::{
     HeldFolder, Reservation, StateError, Wanted, is_same_folder, lies_in, try_folder,
 };
 use cfdp_report::{Hint, LineError, cause_text, parse_number, parse_setting};
-use cfdp_spool::FolderSpool;
+use cfdp_spool::{FolderSpool, StandardErrorTeller};
 use cfdp_station::StationConfig;
 use cfdp_watch::{Progress, shown_status};
 use frame_security::LinkKeys;
@@ -76,25 +72,13 @@ pub fn station_status(rt: &HostRuntime, request: &StationRequest) -> u8 {
 /// The exit status, where something is wrong at its start, which was told on standard error.
 fn started_status(rt: &HostRuntime, request: &StationRequest) -> Result<u8, u8> {
     // First of all: a process that was given no standard input has none once a file is opened.
-    let exchange = Exchange::new();
-    let sources = sources(rt, request, &exchange)?;
-    let status = match prepare(rt, request, &exchange) {
-        Ok(prepared) => bound_status(rt, request, sources, prepared, &exchange),
+    let sources = sources(rt, request)?;
+    match prepare(rt, request) {
+        Ok(prepared) => bound_status(rt, request, sources, prepared),
         Err(status) => {
             drop(sources);
             Err(status)
         }
-    };
-    remove_control(rt, request);
-    status
-}
-
-/// Removes the file of the control address, if that is a Unix socket.
-fn remove_control(rt: &HostRuntime, request: &StationRequest) {
-    if let Some(address) = &request.control
-        && let Some(path) = socket_path(address.as_str())
-    {
-        remove_socket(rt, path);
     }
 }
 
@@ -103,15 +87,11 @@ fn remove_control(rt: &HostRuntime, request: &StationRequest) {
 /// # Errors
 ///
 /// The exit status, where something is wrong, which was told on standard error.
-fn prepare<'a>(
-    rt: &'a HostRuntime,
-    request: &StationRequest,
-    exchange: &'a Exchange,
-) -> Result<Prepared<'a>, u8> {
+fn prepare<'a>(rt: &'a HostRuntime, request: &StationRequest) -> Result<Prepared<'a>, u8> {
     check_addresses(rt, request)?;
     let setup = set_up(rt, request)?;
     check_fields(rt, request, &setup)?;
-    begun(rt, request, &setup, exchange)
+    begun(rt, request, &setup)
 }
 
 /// Opens the station's socket, and runs the station.
@@ -124,7 +104,6 @@ fn bound_status<'a>(
     request: &'a StationRequest,
     sources: LineSources<'a>,
     prepared: Prepared<'a>,
-    exchange: &'a Exchange,
 ) -> Result<u8, u8> {
     let Prepared {
         config,
@@ -135,6 +114,7 @@ fn bound_status<'a>(
         held: _held,
         spool,
     } = prepared;
+    let exchange = Exchange::new();
     exchange.numbers_left.set(reservation.numbers_left());
     let frame_count = reservation.frame_count();
     let own = WorldConfig::station(config, side_of(request)).get();
@@ -142,7 +122,7 @@ fn bound_status<'a>(
     let pace = pace_of(request, &on_link, carrier);
     let ends = secured_ends(&setup, keys, &reservation);
     let numbers = SharedNumbers::over(reservation);
-    match socket(rt, request, pace, &numbers, exchange) {
+    match socket(rt, request, pace, &numbers, &exchange) {
         Ok(socket) => {
             let parts = StationParts {
                 socket,
@@ -154,7 +134,7 @@ fn bound_status<'a>(
                 numbers: &numbers,
                 ends,
             };
-            let status = ran_status(rt, request, parts, spool, exchange);
+            let status = ran_status(rt, request, parts, spool, &exchange);
             let _ = numbers.settles();
             Ok(status)
         }
@@ -203,11 +183,7 @@ fn check_addresses(rt: &HostRuntime, request: &StationRequest) -> Result<(), u8>
 ///
 /// The exit status, where the control address or the console can't be had, which was told on
 /// standard error.
-fn sources<'a>(
-    rt: &'a HostRuntime,
-    request: &StationRequest,
-    exchange: &Exchange,
-) -> Result<LineSources<'a>, u8> {
+fn sources<'a>(rt: &'a HostRuntime, request: &StationRequest) -> Result<LineSources<'a>, u8> {
     let control = match &request.control {
         Some(address) => Some(address.as_str()),
         None => None,
@@ -218,26 +194,24 @@ fn sources<'a>(
         Err(error) => {
             let address = control.unwrap_or("");
             let _ = eprintln!(rt; "error: --control {address}: {error}");
-            return Err(if error.is_mistake() { MISTAKE } else { DEVICE });
+            return Err(DEVICE);
         }
     };
     if has_any_port(control)
         && let Some(address) = sources.control_address()
     {
-        let text = format!(in rt.alloc(); "accepting commands at {address}");
-        note(rt, &exchange.notes, "control", text);
+        let _ = eprintln!(rt; "note: accepting commands at {address}");
     }
-    tell_console(rt, &sources, exchange);
+    tell_console(rt, &sources);
     Ok(sources)
 }
 
 /// Says where a browser is shown the station.
-fn tell_console(rt: &HostRuntime, sources: &LineSources<'_>, exchange: &Exchange) {
+fn tell_console(rt: &HostRuntime, sources: &LineSources<'_>) {
     if let Some(door) = sources.door()
         && let Ok(address) = door.listener().local_addr()
     {
-        let text = format!(in rt.alloc(); "console at http://{address}/");
-        note(rt, &exchange.notes, "console", text);
+        let _ = eprintln!(rt; "note: console at http://{address}/");
     }
 }
 
@@ -259,13 +233,12 @@ fn begun<'a>(
     rt: &'a HostRuntime,
     request: &StationRequest,
     setup: &StationSetup,
-    exchange: &'a Exchange,
 ) -> Result<Prepared<'a>, u8> {
     let _ = configuration(rt, request, setup)?;
     let keys = keys(rt, request)?;
     let held = held_inbox(rt, request)?;
     check_outbox(rt, request)?;
-    let spool = spool(rt, request, exchange)?;
+    let spool = spool(rt, request)?;
     let reservation = reserved(rt, request, setup)?;
     check_kept(rt, request, &reservation)?;
     let setup = setup.beginning_at(reservation.number());
@@ -340,7 +313,6 @@ fn check_kept(
 fn spool<'a>(
     rt: &'a HostRuntime,
     request: &StationRequest,
-    exchange: &'a Exchange,
 ) -> Result<Option<StationSpool<'a>>, u8> {
     let Some(path) = &request.spool else {
         return Ok(None);
@@ -351,10 +323,7 @@ fn spool<'a>(
     }
     folder(rt, path.as_str())?;
     check_apart(rt, request, path.as_str())?;
-    let teller = SpoolNotes {
-        rt,
-        notes: &exchange.notes,
-    };
+    let teller = StandardErrorTeller(rt);
     let spool = FolderSpool::open(rt, path.as_str(), request.flags.remove_sent, teller)?;
     Ok(Some(spool))
 }
@@ -423,20 +392,13 @@ fn check_fields(
 
 /// Says why a station can't be set up so.
 fn tell_bad(rt: &HostRuntime, setup: &StationSetup, id: u64, peer: u64) {
-    match setup.out_of_range() {
+    let _ = match setup.out_of_range() {
         Some((setting, value)) => {
             let (key, range) = (setting.key(), setting.range());
-            let _ = eprintln!(rt; "error: {key} must be {range} (got {value})");
-            tell_line(rt, key);
+            eprintln!(rt; "error: {key} must be {range} (got {value})")
         }
-        None => {
-            let misfit = setup.misfit(id, peer);
-            let _ = eprintln!(rt; "error: {misfit}");
-            if let Some(key) = misfit.key() {
-                tell_line(rt, key);
-            }
-        }
-    }
+        None => eprintln!(rt; "error: {}", setup.misfit(id, peer)),
+    };
 }
 
 /// What is set.
@@ -492,13 +454,11 @@ fn set_one(rt: &HostRuntime, setup: &mut StationSetup, key: &str, word: &str) ->
     let Some(value) = parse_number(word.as_bytes()) else {
         let hint = value_hint(key);
         let _ = eprintln!(rt; "error: --set {key} {word}: {}{hint}", LineError::BadNumber);
-        tell_line(rt, key);
         return Err(MISTAKE);
     };
     if !setup.set(key, value) {
         let hint = key_hint(rt.alloc(), key);
         let _ = eprintln!(rt; "error: --set {key} {word}: unknown key{hint}");
-        tell_line(rt, key);
         return Err(MISTAKE);
     }
     Ok(())
@@ -716,18 +676,22 @@ fn socket<'a, 'n>(
             if has_any_port(Some(listen))
                 && let Ok(address) = socket.local_address()
             {
-                let text = format!(in rt.alloc(); "listening at {address}");
-                note(rt, &exchange.notes, "listening", text);
+                let _ = eprintln!(rt; "note: listening at {address}");
             }
             Ok(socket)
         }
         Err(unusable) => {
-            let (option, address, kind) = match unusable {
-                Unusable::Own(error) => ("listen", listen, error.kind()),
-                Unusable::Peer(error) => ("to", to, error.kind()),
+            let _ = match unusable {
+                Unusable::Own(error) => eprintln!(rt;
+                    "error: --listen {listen}: {}",
+                    address_cause(error.kind())
+                ),
+                Unusable::Peer(error) => eprintln!(rt;
+                    "error: --to {to}: {}",
+                    address_cause(error.kind())
+                ),
             };
-            let _ = eprintln!(rt; "error: --{option} {address}: {}", address_cause(kind));
-            Err(if is_malformed(kind) { MISTAKE } else { DEVICE })
+            Err(DEVICE)
         }
     }
 }
@@ -763,7 +727,7 @@ fn ran_status<'a>(
         request,
         exchange,
         progress: &progress,
-        teller: Teller::new(rt, &progress, &told, Some(&exchange.notes)),
+        told: &told,
     };
     let ran = ran(context, parts, spool);
     tell_untold(rt, ran.exit, &told);

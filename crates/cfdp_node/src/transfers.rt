@@ -3,5 +3,4 @@
 pub mod fault;
 pub mod named_files;
 pub mod secured_links;
-pub mod teller;
 pub mod telling;

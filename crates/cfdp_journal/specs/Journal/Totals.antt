@@ -34,13 +34,6 @@ is_failed_reception own (Finished id condition delivery status) =
 is_failed_reception own (Abandoned id condition) = not (id.source == own)
 is_failed_reception own _ = false
 
--- whether by this a transaction of the entity itself is over, and the peer doesn't have its file
-abbrev pub is_failed_send : (own : ℕ) → Indication → Bool
-is_failed_send own (Finished id condition delivery status) =
-    id.source == own && not (is_complete condition delivery status)
-is_failed_send own (Abandoned id condition) = id.source == own
-is_failed_send own _ = false
-
 -- how a run ended, where so many files weren't received
 abbrev pub with_failures : (failed : ℕ) → Exit → Exit
 with_failures failed Complete = if failed == 0 then Complete else Incomplete

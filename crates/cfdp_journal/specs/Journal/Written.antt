@@ -9,7 +9,7 @@ use Rattle.cfdp_service.specs.declared.wish.Reply.TheVariants.{Put, Change}
 use Rattle.cfdp_journal.specs.declared.journal.style.Style.{Style}
 use Rattle.cfdp_journal.specs.declared.journal.totals.Totals.{Totals}
 use Rattle.cfdp_journal.specs.Journal.Lines.{Entry, Answers, Notes, WritesAs, refusal_answer}
-use Rattle.cfdp_journal.specs.Journal.Totals.{counted, is_failed_reception, is_failed_send, is_refused, is_short}
+use Rattle.cfdp_journal.specs.Journal.Totals.{counted, is_failed_reception, is_refused, is_short}
 
 -- whose log it is and how it is written; what was written so far, where that is known; whether the
 -- writer has failed; and what was done, in numbers
@@ -47,7 +47,6 @@ pub record CountsPut (answer : Result TransactionId PutError) (again : Bool) (ol
     pub short : new.is_short ≡ (old.is_short || is_short answer)
     pub complete : new.complete ≡ old.complete
     pub failed : new.failed ≡ old.failed
-    pub sends : new.sends_failed ≡ old.sends_failed
 
 -- What the station `own` indicated was counted, of a transaction that was told to be over before or
 -- wasn't.
@@ -55,7 +54,6 @@ pub record CountsTold (own : ℕ) (told : Indication) (old new : Totals) : Type 
   pub over : Bool
   pub complete : new.complete ≡ counted (is_own_completion own told) old.complete
   pub failed : new.failed ≡ counted (not over && is_failed_reception own told) old.failed
-  pub sends : new.sends_failed ≡ counted (not over && is_failed_send own told) old.sends_failed
   pub made : new.made ≡ old.made
   pub asked : new.asked ≡ old.asked
   pub refused : new.refused ≡ old.refused

@@ -4,10 +4,9 @@
 //! upper-case hexadecimal digits for `%` and for each octet that is no visible ASCII character, so
 //! any octets come back from it; of the others, those that mean something in JSON or in markup are
 //! escaped.
-use crate::journal::meaning::{condition_name, condition_words, delivery_word, status_word};
+use crate::journal::meaning::{condition_words, delivery_word, status_word};
 use crate::journal::style::Log;
 use cfdp_directives::{Condition, Indication};
-use cfdp_exchange::Note;
 use cfdp_header::TransactionId;
 use cfdp_report::Name;
 use cfdp_service::PutNames;
@@ -42,39 +41,6 @@ impl fmt::Display for JsonOctet {
             }
             octet => write!(f, "{}", Name(slice::from_ref(&octet))),
         }
-    }
-}
-
-/// A text as the log for people prints it: each octet as in a name, and spaces as they are.
-#[derive(Clone, Copy)]
-pub struct PlainText<'a>(pub &'a [u8]);
-
-impl fmt::Display for PlainText<'_> {
-    fn fmt<W: fmt::Write>(&self, f: &mut fmt::Formatter<W>) -> fmt::Result {
-        for octet in self.0 {
-            match octet {
-                b' ' => write!(f, " ")?,
-                octet => write!(f, "{}", Name(slice::from_ref(octet)))?,
-            }
-        }
-        Ok(())
-    }
-}
-
-/// The same as a text of JSON with its quotes.
-#[derive(Clone, Copy)]
-pub struct JsonText<'a>(pub &'a [u8]);
-
-impl fmt::Display for JsonText<'_> {
-    fn fmt<W: fmt::Write>(&self, f: &mut fmt::Formatter<W>) -> fmt::Result {
-        write!(f, "\"")?;
-        for octet in self.0 {
-            match octet {
-                b' ' => write!(f, " ")?,
-                octet => write!(f, "{}", JsonOctet(*octet))?,
-            }
-        }
-        write!(f, "\"")
     }
 }
 
@@ -202,30 +168,6 @@ pub fn write_file_object<V: Write, D: fmt::Display + Drop>(
     end_object(out)
 }
 
-/// Writes the object of what the operator was told on standard error, with the names of its
-/// transaction's file if they are known.
-///
-/// # Errors
-///
-/// That of the writer.
-pub fn write_note_object<V: Write>(
-    out: &mut V,
-    log: Log<'_>,
-    note: &Note,
-    names: Option<&PutNames>,
-) -> io::Result<()> {
-    match note.id {
-        Some(id) => write_event(out, log, note.kind.word(), id)?,
-        None => begin_object(out, log, note.kind.word())?,
-    }
-    let (topic, text) = (note.topic, JsonText(note.text.as_bytes()));
-    write!(out, ",\"topic\":\"{topic}\",\"text\":{text}")?;
-    if let Some(names) = names {
-        write_names(out, names.source.as_slice(), names.destination.as_slice())?;
-    }
-    end_object(out)
-}
-
 /// Writes the last object: how many of how many files were sent.
 ///
 /// # Errors
@@ -284,12 +226,8 @@ fn write_fault<V: Write>(
     condition: Condition,
 ) -> io::Result<()> {
     write_event(out, log, event, id)?;
-    let (code, name) = (condition.code(), condition_name(condition));
-    let words = condition_words(condition);
-    write!(
-        out,
-        ",\"condition\":{code},\"condition_name\":\"{name}\",\"meaning\":\"{words}\""
-    )
+    let (code, words) = (condition.code(), condition_words(condition));
+    write!(out, ",\"condition\":{code},\"meaning\":\"{words}\"")
 }
 
 /// Writes the names of a file into an object.

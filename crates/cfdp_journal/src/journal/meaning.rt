@@ -21,32 +21,6 @@ pub fn condition_words(condition: Condition) -> &'static str {
     }
 }
 
-/// Returns the standard's name of a condition, in one word (CCSDS 727.0-B-5, table 5-5).
-pub fn condition_name(condition: Condition) -> &'static str {
-    name_of_code(condition.code())
-}
-
-/// Returns the standard's name of the condition of this code, in one word.
-pub fn name_of_code(code: u8) -> &'static str {
-    match code {
-        0 => "NO_ERROR",
-        1 => "POSITIVE_ACK_LIMIT_REACHED",
-        2 => "KEEP_ALIVE_LIMIT_REACHED",
-        3 => "INVALID_TRANSMISSION_MODE",
-        4 => "FILESTORE_REJECTION",
-        5 => "FILE_CHECKSUM_FAILURE",
-        6 => "FILE_SIZE_ERROR",
-        7 => "NAK_LIMIT_REACHED",
-        8 => "INACTIVITY_DETECTED",
-        9 => "INVALID_FILE_STRUCTURE",
-        10 => "CHECK_LIMIT_REACHED",
-        11 => "UNSUPPORTED_CHECKSUM_TYPE",
-        14 => "SUSPEND_REQUEST_RECEIVED",
-        15 => "CANCEL_REQUEST_RECEIVED",
-        _ => "RESERVED",
-    }
-}
-
 /// The word for a delivery code.
 pub fn delivery_word(delivery: Delivery) -> &'static str {
     match delivery {

@@ -1,10 +1,9 @@
 //! What an operator asks of a station: its open transactions, and its counters.
 use crate::journal::json::JsonName;
-use crate::journal::meaning::{name_of_code, phase_word};
-use crate::journal::noted::NotedTopics;
-use crate::journal::register::{Known, Register};
+use crate::journal::meaning::phase_word;
+use crate::journal::register::{Known, Register, is_open};
 use crate::journal::stopped::Stopped;
-use crate::journal::totals::{CONDITIONS, Failures, Totals};
+use crate::journal::totals::Totals;
 use cfdp_console::Way;
 use cfdp_exchange::{Exchange, REFUSALS, refusal_name};
 use cfdp_header::TransactionId;
@@ -32,20 +31,6 @@ pub struct Waiting {
     pub stopped: Option<Stopped>,
     /// The time now, in units of the clock that the station is told.
     pub now: u64,
-    /// After how many units without a PDU the peer gives a transaction up, if it is set as this
-    /// station is.
-    pub inactivity: u64,
-}
-
-/// What the counters are made of, besides what the station counts itself.
-#[derive(Clone, Copy)]
-pub struct Figures<'a> {
-    /// What was done for the user.
-    pub totals: &'a Totals,
-    /// What passed over the link.
-    pub exchange: &'a Exchange,
-    /// What the operator was told.
-    pub noted: &'a NotedTopics,
 }
 
 /// A transaction that is open, and how far it has come.
@@ -64,34 +49,6 @@ struct Open {
 struct NextTimer {
     timer: Timer,
     left: u64,
-}
-
-/// Returns in how many units of the clock the peer gives a suspended transaction up, for want of
-/// PDUs; `None` if it isn't suspended.
-fn peer_gives_up(known: Option<&Known>, clock: Clock) -> Option<u64> {
-    let known = known?;
-    if known.is_over {
-        return None;
-    }
-    let deadline = known.suspended_at?.saturating_add(clock.inactivity);
-    Some(deadline.saturating_sub(clock.now))
-}
-
-/// The time now, and after how long without a PDU the peer gives a transaction up, both in units of
-/// the clock that the station is told.
-#[derive(Clone, Copy)]
-pub struct Clock {
-    pub now: u64,
-    pub inactivity: u64,
-}
-
-impl Waiting {
-    fn clock(&self) -> Clock {
-        Clock {
-            now: self.now,
-            inactivity: self.inactivity,
-        }
-    }
 }
 
 /// All timers of a transaction, in the order in which those of one deadline expire.
@@ -187,13 +144,13 @@ pub fn shown_open<O: Outbox, I: Inbox>(
     alloc: Global,
     register: &Register,
     station: &Station<O, I>,
-    clock: Clock,
+    now: u64,
     own: u64,
 ) -> Result<Vec<cfdp_console::Open>, AllocError> {
     let mut shown = Vec::new(alloc);
     for (id, phase) in open_ids(alloc, station)?.iter().take(MOST_SHOWN) {
-        let open = open_at(station, *id, *phase, clock.now);
-        shown.push(shown_one(alloc, own, open, register.get(*id), clock)?)?;
+        let open = open_at(station, *id, *phase, now);
+        shown.push(shown_one(alloc, own, open, register.get(*id))?)?;
     }
     Ok(shown)
 }
@@ -208,7 +165,7 @@ pub fn shown_alone<O: Outbox, I: Inbox>(
     alloc: Global,
     register: &Register,
     station: &Station<O, I>,
-    clock: Clock,
+    now: u64,
     own: u64,
     word: &[u8],
 ) -> Result<Vec<cfdp_console::Open>, AllocError> {
@@ -217,8 +174,8 @@ pub fn shown_alone<O: Outbox, I: Inbox>(
         && let Some(phase) = station.phase(id)
         && phase != Phase::Closed
     {
-        let open = open_at(station, id, phase, clock.now);
-        shown.push(shown_one(alloc, own, open, register.get(id), clock)?)?;
+        let open = open_at(station, id, phase, now);
+        shown.push(shown_one(alloc, own, open, register.get(id))?)?;
     }
     Ok(shown)
 }
@@ -259,7 +216,6 @@ fn shown_one(
     own: u64,
     open: Open,
     known: Option<&Known>,
-    clock: Clock,
 ) -> Result<cfdp_console::Open, AllocError> {
     let (source, destination) = match known.and_then(|known| known.names.as_ref()) {
         Some(names) => (
@@ -282,7 +238,6 @@ fn shown_one(
         octets: open.progress,
         is_suspended: is_suspended(known),
         waits_for: waits_for(open, is_suspended(known)),
-        deadline: peer_gives_up(known, clock),
     })
 }
 
@@ -341,18 +296,13 @@ fn write_lines<W: fmt::Write>(
         writeln!(out, "{stopped}")?;
     }
     for it in open {
-        write_line(out, *it, register.get(it.id), waiting.clock())?;
+        write_line(out, *it, register.get(it.id))?;
     }
     Ok(())
 }
 
 /// Writes the line of a transaction.
-fn write_line<W: fmt::Write>(
-    out: &mut W,
-    open: Open,
-    known: Option<&Known>,
-    clock: Clock,
-) -> fmt::Result {
+fn write_line<W: fmt::Write>(out: &mut W, open: Open, known: Option<&Known>) -> fmt::Result {
     let Open {
         id,
         phase,
@@ -376,15 +326,15 @@ fn write_line<W: fmt::Write>(
     if let Some(held) = known.and_then(|known| known.held) {
         write!(out, " held {held}")?;
     }
-    if let Some(left) = peer_gives_up(known, clock) {
-        write!(out, " suspended peer-gives-up {left}")?;
+    if is_suspended(known) {
+        write!(out, " suspended")?;
     }
     writeln!(out)
 }
 
 fn is_suspended(known: Option<&Known>) -> bool {
     match known {
-        Some(known) => known.suspended_at.is_some() && !known.is_over,
+        Some(known) => known.is_suspended && !known.is_over,
         None => false,
     }
 }
@@ -409,18 +359,13 @@ fn write_array<W: fmt::Write>(
         if place > 0 {
             write!(out, ",")?;
         }
-        write_object(out, *it, register.get(it.id), waiting.clock())?;
+        write_object(out, *it, register.get(it.id))?;
     }
     writeln!(out, "]}}")
 }
 
 /// Writes the object of a transaction.
-fn write_object<W: fmt::Write>(
-    out: &mut W,
-    open: Open,
-    known: Option<&Known>,
-    clock: Clock,
-) -> fmt::Result {
+fn write_object<W: fmt::Write>(out: &mut W, open: Open, known: Option<&Known>) -> fmt::Result {
     let Open {
         id,
         phase,
@@ -446,8 +391,6 @@ fn write_object<W: fmt::Write>(
         out,
         ",\"size\":{size},\"progress\":{progress},\"held\":{held},\"suspended\":{suspended}"
     )?;
-    let deadline = OrNull(peer_gives_up(known, clock));
-    write!(out, ",\"deadline\":{deadline}")?;
     match next {
         Some(next) => {
             let (left, word) = (next.left, timer_word(next.timer));
@@ -465,21 +408,21 @@ fn write_object<W: fmt::Write>(
 pub fn write_counters<O: Outbox, I: Inbox, W: fmt::Write>(
     out: &mut W,
     form: Form,
-    figures: Figures<'_>,
+    totals: &Totals,
+    exchange: &Exchange,
     station: &Station<O, I>,
 ) -> fmt::Result {
     match form {
         Form::Text => {
-            for (name, count) in counts(figures, station) {
+            for (name, count) in figures(totals, exchange, station) {
                 writeln!(out, "{name} {count}")?;
             }
-            write_failed_lines(out, &figures.totals.failures)?;
-            write_refused_lines(out, figures.exchange)?;
+            write_refused_lines(out, exchange)?;
             write_dropped_lines(out, station)
         }
         Form::Json => {
             write!(out, "{{")?;
-            write_counter_members(out, figures, station)?;
+            write_counter_members(out, totals, exchange, station)?;
             writeln!(out, "}}")
         }
     }
@@ -492,26 +435,22 @@ pub fn write_counters<O: Outbox, I: Inbox, W: fmt::Write>(
 /// That of the writer.
 pub fn write_counter_members<O: Outbox, I: Inbox, W: fmt::Write>(
     out: &mut W,
-    figures: Figures<'_>,
+    totals: &Totals,
+    exchange: &Exchange,
     station: &Station<O, I>,
 ) -> fmt::Result {
-    let counts = counts(figures, station);
-    write_members(out, &counts)?;
-    write_failed_members(out, &figures.totals.failures)?;
-    write_refused_members(out, figures.exchange)?;
+    let figures = figures(totals, exchange, station);
+    write_members(out, &figures)?;
+    write_refused_members(out, exchange)?;
     write_dropped_members(out, station)
 }
 
-/// The counters except what was dropped and by what transactions failed, by their names.
-fn counts<O: Outbox, I: Inbox>(
-    figures: Figures<'_>,
+/// The counters but for what was dropped, by their names.
+fn figures<O: Outbox, I: Inbox>(
+    totals: &Totals,
+    exchange: &Exchange,
     station: &Station<O, I>,
-) -> [(&'static str, u64); 18] {
-    let Figures {
-        totals,
-        exchange,
-        noted,
-    } = figures;
+) -> [(&'static str, u64); 15] {
     let (sent, gaps) = (station.counters().sent, &exchange.gaps);
     let pdus = sent
         .file_data
@@ -537,57 +476,7 @@ fn counts<O: Outbox, I: Inbox>(
             station.link_drops(LinkDrop::Frame(FrameError::Damaged)),
         ),
         ("datagrams_thrown_away", gaps.thrown_away()),
-        ("sends_failed", totals.sends_failed as u64),
-        ("notes", noted.notes()),
-        ("errors", noted.errors()),
     ]
-}
-
-/// Writes a line for each condition by which transactions failed.
-fn write_failed_lines<W: fmt::Write>(out: &mut W, failures: &Failures) -> fmt::Result {
-    for code in 0..CONDITIONS {
-        write_failed(out, "send", code, failures.sends_by(code))?;
-    }
-    for code in 0..CONDITIONS {
-        write_failed(out, "reception", code, failures.receptions_by(code))?;
-    }
-    Ok(())
-}
-
-/// Writes the line of a condition, if its count isn't zero.
-fn write_failed<W: fmt::Write>(out: &mut W, of: &str, code: usize, count: u64) -> fmt::Result {
-    if count > 0 {
-        writeln!(out, "failed {of} {code} {} {count}", code_name(code))?;
-    }
-    Ok(())
-}
-
-/// Returns the standard's name of the condition of this code.
-fn code_name(code: usize) -> &'static str {
-    match u8::try_from(code) {
-        Ok(code) => name_of_code(code),
-        Err(_) => "RESERVED",
-    }
-}
-
-/// Writes by what transactions failed as two members of an object.
-fn write_failed_members<W: fmt::Write>(out: &mut W, failures: &Failures) -> fmt::Result {
-    write!(out, ",\"failed_sends\":{{")?;
-    let mut has_one = false;
-    for code in 0..CONDITIONS {
-        has_one = write_member(out, code_name(code), failures.sends_by(code), has_one)?;
-    }
-    write!(out, "}},\"failed_receptions\":{{")?;
-    write_failed_receptions(out, failures)?;
-    write!(out, "}}")
-}
-
-fn write_failed_receptions<W: fmt::Write>(out: &mut W, failures: &Failures) -> fmt::Result {
-    let mut has_one = false;
-    for code in 0..CONDITIONS {
-        has_one = write_member(out, code_name(code), failures.receptions_by(code), has_one)?;
-    }
-    Ok(())
 }
 
 /// Writes a line for each cause by which frames of a secured link were refused.

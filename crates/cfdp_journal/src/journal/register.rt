@@ -19,8 +19,8 @@ pub struct Known {
     pub size: Option<u64>,
     /// Up to which offset its receiver said that it holds the file, by a Keep Alive.
     pub held: Option<u64>,
-    /// When it was suspended, if it is, in units of the clock that the station is told.
-    pub suspended_at: Option<u64>,
+    /// Whether it is suspended.
+    pub is_suspended: bool,
     /// What went wrong last, or why it is over.
     pub condition: Option<Condition>,
     /// Whether the user was told that it is over.
@@ -34,7 +34,7 @@ impl Known {
             names: None,
             size: None,
             held: None,
-            suspended_at: None,
+            is_suspended: false,
             condition: None,
             is_over: false,
         }
@@ -77,11 +77,6 @@ impl Register {
         }
     }
 
-    /// Returns the names of the file of a transaction, if there is one and they are known.
-    pub fn names_of(&self, id: Option<TransactionId>) -> Option<&PutNames> {
-        self.names(id?)
-    }
-
     /// How many octets its file has, where that is known.
     pub fn size(&self, id: TransactionId) -> Option<u64> {
         match self.known.get(&id) {
@@ -112,8 +107,8 @@ impl Register {
         }
     }
 
-    /// Notes what the user hears at this time, in units of the clock that the station is told.
-    pub fn hears(&mut self, indication: &Indication, now: u64) {
+    /// Notes what the user hears.
+    pub fn hears(&mut self, indication: &Indication) {
         match indication {
             Indication::MetadataRecv {
                 id,
@@ -123,7 +118,7 @@ impl Register {
             } => self.comes(*id, source, destination, *size),
             Indication::Finished { id, condition, .. } => self.ends(*id, *condition),
             Indication::Abandoned(id, condition) => self.ends(*id, *condition),
-            Indication::Suspended(id, _) => self.suspends(*id, Some(now)),
+            Indication::Suspended(id, condition) => self.suspends(*id, Some(*condition)),
             Indication::Resumed(id) => self.suspends(*id, None),
             Indication::Fault(id, condition) => self.fails(*id, *condition),
             Indication::Progress(id, octets) => self.comes_to(*id, *octets),
@@ -177,9 +172,9 @@ impl Register {
         }
     }
 
-    fn suspends(&mut self, id: TransactionId, since: Option<u64>) {
+    fn suspends(&mut self, id: TransactionId, condition: Option<Condition>) {
         if let Some(known) = self.known_mut(id) {
-            known.suspended_at = since;
+            known.is_suspended = condition.is_some();
         }
     }
 

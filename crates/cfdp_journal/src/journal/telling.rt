@@ -8,15 +8,16 @@ ghost use Rattle.cfdp_report.specs.Report.Lines.{answer_text, count_line, indica
 ghost use Rattle.cfdp_report.specs.Report.Lines.{indication_text};
 
 use crate::journal::json::{
-    PlainText, begin_object, end_object, write_change_object, write_count_object,
-    write_file_object, write_indication_object, write_note_object, write_put_object,
+    begin_object, end_object, write_change_object, write_count_object, write_file_object,
+    write_indication_object, write_put_object,
 };
 use crate::journal::line::{add_names, add_time, write_line};
 use crate::journal::meaning::condition_words;
-use crate::journal::overview::{Figures, Form, write_counter_members, write_counters};
+use crate::journal::overview::{Form, write_counter_members, write_counters};
 use crate::journal::style::{Log, Style};
+use crate::journal::totals::Totals;
 use cfdp_directives::{Condition, Indication};
-use cfdp_exchange::Note;
+use cfdp_exchange::Exchange;
 use cfdp_report::{Answer, Answered, Name, write_answer, write_indications};
 use cfdp_service::{Outcome, PutNames};
 use cfdp_station::{PutError, RequestError, Station};
@@ -113,7 +114,7 @@ fn make_answer(
     line.clear();
     add_time(line, log)?;
     write_refusal(line, made, answer)?;
-    add_names(line, Some(names), None)
+    add_names(line, Some(names))
 }
 
 /// Tells what the station indicates, with the names of the transaction's file where they are known.
@@ -162,7 +163,7 @@ fn make_indication(
     line.clear();
     add_time(line, log)?;
     write_indication(line, log.own, indication)?;
-    add_names(line, names_behind(indication, names), fault_of(indication))
+    add_names(line, names_behind(indication, names))
 }
 
 /// The names that are put behind the line of an indication.
@@ -170,17 +171,6 @@ fn names_behind<'a>(indication: &Indication, names: Option<&'a PutNames>) -> Opt
     match indication {
         Indication::MetadataRecv { .. } => None,
         _ => names,
-    }
-}
-
-/// Returns the condition by which an indication reports a fault, if it reports one.
-fn fault_of(indication: &Indication) -> Option<Condition> {
-    match indication {
-        Indication::Finished { condition, .. } if condition.code() != 0 => Some(*condition),
-        Indication::Suspended(_, condition)
-        | Indication::Fault(_, condition)
-        | Indication::Abandoned(_, condition) => Some(*condition),
-        _ => None,
     }
 }
 
@@ -232,46 +222,6 @@ pub fn tell_rekey<V: Write>(out: &mut V, line: &mut Vec<u8>, log: Log<'_>) -> io
             end_object(out)
         }
     }
-}
-
-/// Reports what the operator was told on standard error, with the names of its transaction's file if
-/// they are known.
-///
-/// # Errors
-///
-/// Those of the writer.
-pub fn tell_note<V: Write>(
-    out: &mut V,
-    line: &mut Vec<u8>,
-    log: Log<'_>,
-    note: &Note,
-    names: Option<&PutNames>,
-) -> io::Result<()>
-    ensures { OnOk result (WritesAs log.entry.own log.entry.style Notes (V.contents out.old)
-        (V.contents out.new)) }
-{
-    match log.style {
-        Style::Plain => Ok(()),
-        Style::Text => {
-            make_note(line, log, note, names)?;
-            write_line(out, line.as_slice())
-        }
-        Style::Json { .. } => write_note_object(out, log, note, names),
-    }
-}
-
-/// Makes the line of a note.
-fn make_note(
-    line: &mut Vec<u8>,
-    log: Log<'_>,
-    note: &Note,
-    names: Option<&PutNames>,
-) -> io::Result<()> {
-    line.clear();
-    add_time(line, log)?;
-    let (word, text) = (note.kind.word(), note.text.as_str());
-    writeln!(line, "{word} {}", PlainText(text.as_bytes()))?;
-    add_names(line, names, None)
 }
 
 /// Tells what became of a file that lay in a spool, and why, where that is known.
@@ -336,25 +286,26 @@ pub fn tell_end<O: Outbox, I: Inbox, V: Write>(
     out: &mut V,
     line: &mut Vec<u8>,
     log: Log<'_>,
-    figures: Figures<'_>,
+    totals: &Totals,
+    exchange: &Exchange,
     station: &Station<O, I>,
 ) -> io::Result<()>
     ensures { OnOk result (WritesAs log.entry.own log.entry.style
-        (Completes figures.entry.totals.now.complete figures.entry.totals.now.asked) (V.contents out.old)
+        (Completes totals.now.complete totals.now.asked) (V.contents out.old)
         (V.contents out.new)) }
 {
-    let (complete, asked) = (figures.totals.complete, figures.totals.asked);
+    let (complete, asked) = (totals.complete, totals.asked);
     match log.style {
         Style::Plain => write_count(out, complete, asked),
         Style::Text => {
             line.clear();
-            add_counters(line, log, figures, station)?;
+            add_counters(line, log, totals, exchange, station)?;
             add_time(line, log)?;
             write_count(line, complete, asked)?;
             write_line(out, line.as_slice())
         }
         Style::Json { .. } => {
-            write_counters_object(out, log, figures, station)?;
+            write_counters_object(out, log, totals, exchange, station)?;
             write_count_object(out, log, complete, asked)
         }
     }
@@ -372,11 +323,12 @@ fn write_count<W: Write>(out: &mut W, complete: usize, asked: usize) -> io::Resu
 fn add_counters<O: Outbox, I: Inbox>(
     line: &mut Vec<u8>,
     log: Log<'_>,
-    figures: Figures<'_>,
+    totals: &Totals,
+    exchange: &Exchange,
     station: &Station<O, I>,
 ) -> io::Result<()> {
     let mut text = String::new(log.rt.alloc());
-    let _ = write_counters(&mut text, Form::Text, figures, station);
+    let _ = write_counters(&mut text, Form::Text, totals, exchange, station);
     for row in text.as_str().lines() {
         add_time(line, log)?;
         writeln!(line, "{row}")?;
@@ -388,11 +340,12 @@ fn add_counters<O: Outbox, I: Inbox>(
 fn write_counters_object<O: Outbox, I: Inbox, V: Write>(
     out: &mut V,
     log: Log<'_>,
-    figures: Figures<'_>,
+    totals: &Totals,
+    exchange: &Exchange,
     station: &Station<O, I>,
 ) -> io::Result<()> {
     let mut text = String::new(log.rt.alloc());
-    if write_counter_members(&mut text, figures, station).is_err() {
+    if write_counter_members(&mut text, totals, exchange, station).is_err() {
         return Ok(());
     }
     begin_object(out, log, "counters")?;

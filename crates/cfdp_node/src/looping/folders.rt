@@ -8,7 +8,6 @@ use crate::looping::{LoopEnds, LoopOptions, run_loop};
 use crate::transfers::named_files::{
     check_file, check_name, folder, folder_outbox, tell_of_file, tell_untold,
 };
-use crate::transfers::teller::Teller;
 use crate::transfers::telling::{LoopLookout, TellingInbox, TellingOutbox};
 use cfdp_command_line::{LoopRequest, frame_losses, note_losses};
 use cfdp_files::HeldFolder;
@@ -70,12 +69,7 @@ fn from_folder(
     match found(rt, request) {
         Ok(outbox) => {
             let from = request.from.as_str();
-            let outbox = TellingOutbox::over(
-                rt,
-                from,
-                outbox,
-                Teller::new(rt, progress, told, None),
-            );
+            let outbox = TellingOutbox::over(rt, from, outbox, told, progress);
             sent_status(rt, request, prepared, outbox, told, progress)
         }
         Err(status) => status,
@@ -197,8 +191,7 @@ fn sent<O: Outbox, W: Wire>(
     told: &Cell<bool>,
     progress: &Progress<'_>,
 ) -> Ran {
-    let teller = Teller::new(rt, progress, told, None);
-    match TellingInbox::new(rt, request.to.as_str(), true, 0, teller, progress) {
+    match TellingInbox::new(rt, request.to.as_str(), true, 0, told, progress) {
         Ok(inbox) => {
             let ends = LoopEnds {
                 outbox,

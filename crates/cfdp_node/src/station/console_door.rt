@@ -1,6 +1,6 @@
 //! The console's address, and the token that it wants.
 use cfdp_command_line::StationRequest;
-use cfdp_control::{DoorError, WebDoor, is_malformed};
+use cfdp_control::{DoorError, WebDoor};
 use cfdp_files::{SecretError, read_secret};
 
 /// The exit status of bad arguments.
@@ -31,7 +31,7 @@ pub fn door<'a>(rt: &'a HostRuntime, request: &StationRequest) -> Result<Option<
         Some(path) => Some(token_in(rt, path.as_str())?),
         None => None,
     };
-    match WebDoor::new(rt, address.as_str(), token, proxy_host(rt, request)?) {
+    match WebDoor::new(rt, address.as_str(), token) {
         Ok(door) => Ok(Some(door)),
         Err(error) => {
             let _ = eprintln!(rt; "error: --console {address}: {error}");
@@ -40,28 +40,10 @@ pub fn door<'a>(rt: &'a HostRuntime, request: &StationRequest) -> Result<Option<
     }
 }
 
-/// Returns the name of the host by which a proxy asks; empty if none does.
-///
-/// # Errors
-///
-/// The exit status, if no token is asked of those who come through the proxy, which was told on
-/// standard error.
-fn proxy_host<'a>(rt: &HostRuntime, request: &'a StationRequest) -> Result<&'a str, u8> {
-    match (&request.console_host, &request.console_token) {
-        (None, _) => Ok(""),
-        (Some(host), Some(_)) => Ok(host.as_str()),
-        (Some(_), None) => {
-            let _ = eprintln!(rt; "error: --console-host needs --console-token FILE");
-            Err(MISTAKE)
-        }
-    }
-}
-
 /// The exit status where a console can't be had for this reason.
 fn status_of(error: &DoorError) -> u8 {
     match error {
         DoorError::WantsToken => MISTAKE,
-        DoorError::System(error) if is_malformed(error.kind()) => MISTAKE,
         DoorError::System(_) => DEVICE,
     }
 }

@@ -1,13 +1,9 @@
 //! What an operator is told on standard error while a station runs.
-use crate::station::operation::unit_word;
-use crate::transfers::teller::Teller;
 use crate::transfers::telling::LoopLookout;
 use cfdp_command_line::{CarrierKind, TimeUnit};
 use cfdp_datagrams::frame_len;
 use cfdp_directives::{Handler, Indication, Phase, Policy};
-use cfdp_exchange::{
-    Beacon, CarrierDrop, Exchange, FrameMonitor, REFUSALS, is_often_late, refusal_name,
-};
+use cfdp_exchange::{Beacon, CarrierDrop, Exchange, FrameMonitor, REFUSALS, is_often_late};
 use cfdp_header::TransactionId;
 use cfdp_journal::Stopped;
 use cfdp_port::{Lookout, Passed};
@@ -15,8 +11,6 @@ use cfdp_report::cause_text;
 use cfdp_station::{EntityDrop, FrameError, LinkDrop, Station, StationConfig};
 use cfdp_store::{Inbox, Outbox};
 use station_pair::Side;
-use std::alloc::AllocError;
-use std::cell::Cell;
 use std::fmt;
 use std::io::ErrorKind;
 use std::time::Instant;
@@ -34,19 +28,14 @@ const QUIET: u64 = 10;
 /// Over so many seconds it is looked how many frames come late.
 const LOOK: u64 = 10;
 
-/// What a peer that is set up otherwise may be the cause of is told so many seconds after it
-/// happened: until then the peer's beacon may say in what it differs.
-const HOLD: u64 = 3;
-
 /// How often something was dropped for a cause.
 #[derive(Clone, Copy)]
 struct Tally {
     /// As of the last look, and as of the last time that it was told.
     seen: u64,
     told: u64,
-    /// When it was told last, and since when there is something to tell.
+    /// When it was told last.
     at: Option<u64>,
-    since: Option<u64>,
 }
 
 impl Tally {
@@ -54,7 +43,6 @@ impl Tally {
         seen: 0,
         told: 0,
         at: None,
-        since: None,
     };
 
     /// Whether it is more now than as of the last look.
@@ -67,21 +55,6 @@ impl Tally {
     /// Takes what there is so far as told.
     fn passes_over(&mut self) {
         self.told = self.seen;
-        self.since = None;
-    }
-
-    /// How often since it was told last, where it is to be told at this time: so many seconds after
-    /// it began.
-    fn news_after(&mut self, now: u64, hold: u64) -> Option<u64> {
-        if self.seen == self.told {
-            return None;
-        }
-        let since = self.since.unwrap_or(now);
-        self.since = Some(since);
-        if now < since.saturating_add(hold) {
-            return None;
-        }
-        self.news(now)
     }
 
     /// How often since it was told last, where it is to be told at this time.
@@ -90,7 +63,7 @@ impl Tally {
         if news == 0 || !is_over(&mut self.at, now) {
             return None;
         }
-        self.passes_over();
+        self.told = self.seen;
         Some(news)
     }
 }
@@ -143,7 +116,6 @@ impl fmt::Display for MoreOctets {
 pub struct Notices<'a> {
     pub lookout: LoopLookout<'a>,
     rt: &'a HostRuntime,
-    teller: Teller<'a>,
     exchange: &'a Exchange,
     // How the station is set up, and the same with the frames that are on the link, which are longer
     // if they are secured.
@@ -178,7 +150,6 @@ impl<'a> Notices<'a> {
     /// first configuration; the second one has the frames that are on the link.
     pub fn new(
         rt: &'a HostRuntime,
-        teller: Teller<'a>,
         lookout: LoopLookout<'a>,
         exchange: &'a Exchange,
         configs: (StationConfig, StationConfig),
@@ -188,7 +159,6 @@ impl<'a> Notices<'a> {
         Notices {
             lookout,
             rt,
-            teller,
             exchange,
             config,
             on_link,
@@ -254,39 +224,14 @@ impl<'a> Notices<'a> {
         }
     }
 
-    /// Tells what there is to tell at this time: causes before what follows from them.
-    fn tells<O: Outbox, I: Inbox>(&mut self, now: u64, station: &Station<O, I>) {
-        self.tell_beacon(now);
-        self.tell_failure(now);
-        self.tell_stop(now);
-        self.tell_drops(now, station);
-        self.tell_datagram_drops(now);
-        self.tell_refusals(now);
-        self.tell_order(now);
-        self.tell_waiting(now, station);
-    }
-
-    /// Whether the peer's beacon said lately in what the peer is set up otherwise. What follows from
-    /// that isn't told then.
-    fn is_explained(&self, now: u64) -> bool {
-        match self.beacon_at {
-            Some(before) => now < before.saturating_add(PAUSE),
-            None => false,
-        }
-    }
-
     /// Tells what was dropped.
     fn tell_drops<O: Outbox, I: Inbox>(&mut self, now: u64, station: &Station<O, I>) {
-        let is_explained = self.is_explained(now);
         for (place, by) in LinkDrop::ALL.iter().enumerate() {
-            let hold = if is_misfit(*by) { HOLD } else { 0 };
-            if self.link[place].grows(station.link_drops(*by)) && hold > 0 {
+            if self.link[place].grows(station.link_drops(*by)) && is_misfit(*by) {
                 self.exchange.differs.set(true);
             }
-            if hold > 0 && is_explained {
-                self.link[place].passes_over();
-            } else if is_wrong(*by)
-                && let Some(count) = self.link[place].news_after(now, hold)
+            if is_wrong(*by)
+                && let Some(count) = self.link[place].news(now)
             {
                 self.tell_link_drop(*by, count);
             }
@@ -295,16 +240,14 @@ impl<'a> Notices<'a> {
     }
 
     fn tell_pdu_drops<O: Outbox, I: Inbox>(&mut self, now: u64, station: &Station<O, I>) {
-        let (is_full, is_explained) = (station.records_left() == 0, self.is_explained(now));
+        let is_full = station.records_left() == 0;
         for (place, by) in EntityDrop::ALL.iter().enumerate() {
-            let is_misfit = *by == EntityDrop::NotForUs;
-            let hold = if is_misfit { HOLD } else { 0 };
-            if self.pdus[place].grows(station.drops(*by)) && is_misfit {
+            if self.pdus[place].grows(station.drops(*by)) && *by == EntityDrop::NotForUs {
                 self.exchange.differs.set(true);
             }
-            if !is_told(*by, is_full) || is_misfit && is_explained {
+            if !is_told(*by, is_full) {
                 self.pdus[place].passes_over();
-            } else if let Some(count) = self.pdus[place].news_after(now, hold) {
+            } else if let Some(count) = self.pdus[place].news(now) {
                 self.tell_pdu_drop(*by, count);
             }
         }
@@ -315,8 +258,8 @@ impl<'a> Notices<'a> {
         for (place, by) in CarrierDrop::ALL.iter().enumerate() {
             let _ = self.datagrams[place].grows(self.exchange.dropped.of(*by));
             if let Some(count) = self.datagrams[place].news(now) {
-                let text = format!(in self.rt.alloc(); "{count} dropped: {by}");
-                self.teller.notes(by.name(), text);
+                self.lookout.progress.yields();
+                let _ = eprintln!(self.rt; "note: {count} dropped: {by}");
             }
         }
     }
@@ -326,61 +269,57 @@ impl<'a> Notices<'a> {
         for (place, cause) in REFUSALS.iter().enumerate() {
             let _ = self.refused[place].grows(self.exchange.refused.of(*cause));
             if let Some(count) = self.refused[place].news(now) {
-                let text = format!(in self.rt.alloc(); "{count} dropped: {cause}");
-                self.teller.notes(refusal_name(*cause), text);
+                self.lookout.progress.yields();
+                let _ = eprintln!(self.rt; "note: {count} dropped: {cause}");
             }
         }
     }
 
     fn tell_link_drop(&self, by: LinkDrop, count: u64) {
-        self.teller.notes(by.name(), self.link_drop_text(by, count));
-    }
-
-    fn link_drop_text(&self, by: LinkDrop, count: u64) -> Result<String, AllocError> {
-        let (up, foreign, alloc) = (self.on_link.receives, self.foreign, self.rt.alloc());
+        let (up, foreign) = (self.on_link.receives, self.foreign);
         let more = frame_len(&up).saturating_sub(frame_len(&self.config.receives));
-        match by {
-            LinkDrop::Frame(FrameError::Length) => format!(in alloc;
-                "{count} dropped: a frame has {} octets, but must have {}: the zone is {}{}",
+        self.lookout.progress.yields();
+        let _ = match by {
+            LinkDrop::Frame(FrameError::Length) => eprintln!(self.rt;
+                "note: {count} dropped: a frame has {} octets, but must have {}: the zone is {}{}",
                 foreign.len.saturating_add(more),
                 frame_len(&up),
                 up.zone,
                 MoreOctets(up.fields.extra())
             ),
-            LinkDrop::Frame(FrameError::OtherSpacecraft) => format!(in alloc;
-                "{count} dropped: a frame has spacecraft id {}, but must have {}",
+            LinkDrop::Frame(FrameError::OtherSpacecraft) => eprintln!(self.rt;
+                "note: {count} dropped: a frame has spacecraft id {}, but must have {}",
                 foreign.spacecraft, up.spacecraft
             ),
-            LinkDrop::Frame(FrameError::OtherChannel) => format!(in alloc;
-                "{count} dropped: a frame has channel {}, but must have {} or {}",
+            LinkDrop::Frame(FrameError::OtherChannel) => eprintln!(self.rt;
+                "note: {count} dropped: a frame has channel {}, but must have {} or {}",
                 foreign.virtual_channel, up.virtual_channel, up.data_virtual_channel
             ),
-            LinkDrop::OtherApid => format!(in alloc;
-                "{count} dropped: a packet has another APID, but must have {}",
+            LinkDrop::OtherApid => eprintln!(self.rt;
+                "note: {count} dropped: a packet has another APID, but must have {}",
                 up.apid
             ),
-            _ => format!(in alloc; "{count} dropped: {by}"),
-        }
+            _ => eprintln!(self.rt; "note: {count} dropped: {by}"),
+        };
     }
 
     fn tell_pdu_drop(&self, by: EntityDrop, count: u64) {
-        let (entity, alloc) = (self.config.entity, self.rt.alloc());
-        let text = match by {
-            EntityDrop::NotForUs => format!(in alloc;
-                "{count} dropped: a PDU has other ids: here the id of the peer is {}, ours {}",
+        let entity = self.config.entity;
+        self.lookout.progress.yields();
+        let _ = match by {
+            EntityDrop::NotForUs => eprintln!(self.rt;
+                "note: {count} dropped: a PDU has other ids: here the id of the peer is {}, ours {}",
                 entity.peer, entity.entity
             ),
-            EntityDrop::TableFull => format!(in alloc;
-                "{count} dropped: the table is full: 4096 transactions are open, and a new one \
-                 must wait until one of them ends"
+            EntityDrop::TableFull => eprintln!(self.rt;
+                "note: {count} dropped: the table is full: 4096 transactions are open, and a new \
+                 one must wait until one of them ends"
             ),
-            _ => format!(in alloc; "{count} dropped: {by}"),
+            _ => eprintln!(self.rt; "note: {count} dropped: {by}"),
         };
-        self.teller.notes(by.name(), text);
     }
 
-    /// Tells in what the peer is set up otherwise, where its beacon came: in the ids alone if these
-    /// differ, since the defaults of channels and APIDs follow from them.
+    /// Tells in what the peer is set up otherwise, where its beacon came.
     fn tell_beacon(&mut self, now: u64) {
         let Some(beacon) = self.exchange.beacon.take() else {
             return;
@@ -390,13 +329,12 @@ impl<'a> Notices<'a> {
             return;
         }
         self.exchange.differs.set(true);
-        let has_other_ids = beacon.has_other_ids(&own);
+        self.lookout.progress.yields();
         for (what, theirs, ours) in beacon.beside(&own) {
-            if theirs != ours && (is_id(what) || !has_other_ids) {
-                let text = format!(in self.rt.alloc();
-                    "{what} differs: {theirs} at the peer, {ours} here"
+            if theirs != ours {
+                let _ = eprintln!(self.rt;
+                    "note: {what} differs: {theirs} at the peer, {ours} here"
                 );
-                self.teller.notes(what, text);
             }
         }
     }
@@ -409,12 +347,14 @@ impl<'a> Notices<'a> {
         if !is_over(&mut self.failure_at, now) {
             return;
         }
-        let alloc = self.rt.alloc();
-        let text = match kind {
-            ErrorKind::ConnectionRefused => format!(in alloc; "nothing listens at {}", self.to),
-            kind => format!(in alloc; "the socket failed: {}", cause_text(kind)),
+        self.lookout.progress.yields();
+        let _ = match kind {
+            ErrorKind::ConnectionRefused => eprintln!(self.rt;
+                "note: nothing listens at {}",
+                self.to
+            ),
+            kind => eprintln!(self.rt; "note: the socket failed: {}", cause_text(kind)),
         };
-        self.teller.notes("socket", text);
     }
 
     /// Says that nothing is sent if counts of frames can't be reserved, or that no file is sent if
@@ -423,8 +363,8 @@ impl<'a> Notices<'a> {
         if let Some(stopped) = Stopped::at(self.exchange)
             && is_over(&mut self.stopped_at, now)
         {
-            self.teller
-                .notes("state-file", format!(in self.rt.alloc(); "{stopped}"));
+            self.lookout.progress.yields();
+            let _ = eprintln!(self.rt; "note: {stopped}");
         }
     }
 
@@ -434,12 +374,12 @@ impl<'a> Notices<'a> {
         let late = gaps.late().saturating_sub(self.order.late);
         let came = gaps.came().saturating_sub(self.order.came);
         if is_often_late(late, came) && is_over(&mut self.order_at, now) {
-            let text = format!(in self.rt.alloc();
-                "{late} of {came} frames arrived out of order, or twice: PDUs in several frames \
-                 are lost then; use --carrier pdus at both ends, or a zone so large that a PDU \
-                 fits in a frame"
+            self.lookout.progress.yields();
+            let _ = eprintln!(self.rt;
+                "note: {late} of {came} frames arrived out of order, or twice: PDUs in several \
+                 frames are lost then; use --carrier pdus at both ends, or a zone so large that \
+                 a PDU fits in a frame"
             );
-            self.teller.notes("order", text);
         }
         if now >= self.order.at.saturating_add(LOOK) {
             self.order = OrderLook {
@@ -467,7 +407,7 @@ impl<'a> Notices<'a> {
     /// Tells which file the peer doesn't tell to be finished, where nothing has come for a while.
     fn tell_waiting<O: Outbox, I: Inbox>(&mut self, now: u64, station: &Station<O, I>) {
         let is_early = now == self.looked || now < self.heard.saturating_add(QUIET);
-        if is_early || self.exchange.is_frozen.get() || self.is_explained(now) {
+        if is_early || self.exchange.is_frozen.get() {
             return;
         }
         self.looked = now;
@@ -477,18 +417,18 @@ impl<'a> Notices<'a> {
         };
         if is_over(&mut self.waits_at, now) {
             let quiet = now.saturating_sub(self.heard);
-            let text = format!(in self.rt.alloc();
-                "{}:{} waits for the peer's Finished; nothing received for {quiet} seconds",
+            self.lookout.progress.yields();
+            let _ = eprintln!(self.rt;
+                "note: {}:{} waits for the peer's Finished; nothing received for {quiet} seconds",
                 id.source, id.number
             );
-            self.teller.notes("finished", text);
         }
     }
 }
 
 /// Says that a transaction ends before anything of it is sent again, if a time after which that is
 /// done is longer than that of inactivity.
-pub fn tell_timers(rt: &HostRuntime, teller: Teller<'_>, config: &StationConfig, unit: TimeUnit) {
+pub fn tell_timers(rt: &HostRuntime, config: &StationConfig, unit: TimeUnit) {
     let Policy {
         times,
         handlers,
@@ -498,45 +438,30 @@ pub fn tell_timers(rt: &HostRuntime, teller: Teller<'_>, config: &StationConfig,
     if times.inactivity >= longest || handlers.inactivity == Handler::Ignore {
         return;
     }
-    let unit = unit_word(unit);
+    let unit = match unit {
+        TimeUnit::Seconds => "s",
+        TimeUnit::Milliseconds => "ms",
+    };
     let inactivity = times.inactivity;
-    let text = format!(in rt.alloc();
-        "inactivity_time is {inactivity} {unit}, but requests are repeated after up to \
+    let _ = eprintln!(rt;
+        "note: inactivity_time is {inactivity} {unit}, but requests are repeated after up to \
          {longest} {unit}: a silent peer ends a transaction before that"
     );
-    teller.notes("timers", text);
 }
 
 /// Says whether frames are authenticated, by MACs of so many octets.
-pub fn tell_authentication(
-    rt: &HostRuntime,
-    teller: Teller<'_>,
-    carrier: CarrierKind,
-    mac_len: Option<u64>,
-) {
-    let alloc = rt.alloc();
-    let text = match (mac_len, carrier) {
+pub fn tell_authentication(rt: &HostRuntime, carrier: CarrierKind, mac_len: Option<u64>) {
+    let _ = match (mac_len, carrier) {
         (Some(octets), _) => {
-            format!(in alloc; "frames are authenticated: MAC of {octets} octets")
+            eprintln!(rt; "note: frames are authenticated: MAC of {octets} octets")
         }
-        (None, CarrierKind::Frames) => format!(in alloc;
-            "frames are not authenticated: without --keys anybody on the network can send them"
+        (None, CarrierKind::Frames) => eprintln!(rt;
+            "note: frames are not authenticated: without --keys anybody on the network can send them"
         ),
-        (None, CarrierKind::Packets | CarrierKind::Pdus) => format!(in alloc;
-            "datagrams are not authenticated: anybody on the network can send them"
+        (None, CarrierKind::Packets | CarrierKind::Pdus) => eprintln!(rt;
+            "note: datagrams are not authenticated: anybody on the network can send them"
         ),
     };
-    teller.notes("authentication", text);
-}
-
-/// Adds a length to a count.
-fn adds(count: &Cell<u64>, len: usize) {
-    count.set(count.get().saturating_add(len as u64));
-}
-
-/// Whether a beacon says an id by these words.
-fn is_id(what: &str) -> bool {
-    what == "id of the peer" || what == "id of this station"
 }
 
 /// Whether a transaction is open at its sender.
@@ -585,18 +510,23 @@ impl Lookout for Notices<'_> {
             Passed::Took(datagram) => {
                 self.monitor.takes(datagram);
                 self.looks_at(datagram);
-                adds(&self.exchange.octets_received, datagram.len());
             }
-            Passed::Left { frame, .. } => adds(&self.exchange.octets_sent, frame.len()),
             Passed::Ticked(_) => {
                 let now = self.now();
                 if self.hears {
                     self.hears = false;
                     self.heard = now;
                 }
-                self.tells(now, station);
+                self.tell_drops(now, station);
+                self.tell_datagram_drops(now);
+                self.tell_refusals(now);
+                self.tell_beacon(now);
+                self.tell_failure(now);
+                self.tell_stop(now);
+                self.tell_order(now);
+                self.tell_waiting(now, station);
             }
-            Passed::Put | Passed::Polled(_) => {}
+            Passed::Put | Passed::Polled(_) | Passed::Left { .. } => {}
         }
         self.lookout.sees(side, passed, station);
     }

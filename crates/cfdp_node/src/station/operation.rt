@@ -1,12 +1,10 @@
 //! A station that serves its operator over its stores, from its first turn to its last.
 use crate::station::notices::{Notices, tell_authentication, tell_timers};
 use crate::station::operator::{OperatorConsole, OperatorPost};
-use crate::station::refusals::FileLimits;
 use crate::station::{outbox_of, side_of};
 use crate::transfers::named_files::folder_outbox;
-use crate::transfers::teller::{SpoolNotes, Teller};
 use crate::transfers::telling::{LoopLookout, TellingInbox, TellingNoInbox, TellingOutbox};
-use cfdp_command_line::{CarrierKind, StationRequest, TimeUnit, VERSION, frame_losses};
+use cfdp_command_line::{CarrierKind, StationRequest, frame_losses};
 use cfdp_console::LogLines;
 use cfdp_control::LineSources;
 use cfdp_datagrams::{Carrier, CarrierWire, PeerSocket, SharedNumbers, StationKeeper, frame_len};
@@ -17,7 +15,7 @@ use cfdp_report::{Exit, Fault};
 use cfdp_service::{
     Clerk, ClerkLimits, NoSpool, PutNames, ServiceEnds, ServiceOptions, Spool, run,
 };
-use cfdp_spool::FolderSpool;
+use cfdp_spool::{FolderSpool, StandardErrorTeller};
 use cfdp_station::StationConfig;
 use cfdp_store::{Inbox, SeekingOutbox};
 use cfdp_watch::{Onlooker, Progress, Ran, Screen};
@@ -25,14 +23,14 @@ use frame_security::{Opener, Sealer};
 use secured_wire::SecuredWire;
 use station_pair::WorldConfig;
 use std::alloc::{AllocError, Global};
+use std::cell::Cell;
 use valid_config::Valid;
 
 /// The longest frame over which a wire can be secured.
 const MOST_FRAME: usize = 65_536;
 
-/// A spool over a folder, which tells what its operator has to know on standard error and in the
-/// log.
-pub type StationSpool<'a> = FolderSpool<'a, SpoolNotes<'a>>;
+/// A spool over a folder, which tells what its operator has to know on standard error.
+pub type StationSpool<'a> = FolderSpool<'a, StandardErrorTeller<'a>>;
 
 /// What a station needs to run.
 #[derive(Drop)]
@@ -78,8 +76,8 @@ pub struct Context<'a> {
     pub request: &'a StationRequest,
     pub exchange: &'a Exchange,
     pub progress: &'a Progress<'a>,
-    /// Who tells the operator what is wrong.
-    pub teller: Teller<'a>,
+    /// Whether it was said why a store failed.
+    pub told: &'a Cell<bool>,
 }
 
 /// Runs the station over the folder that it sends from. Without one it has no put, and asks for no
@@ -93,7 +91,7 @@ pub fn ran<'a>(
     let path = outbox_of(context.request).unwrap_or("");
     match folder_outbox(rt, path) {
         Ok(outbox) => {
-            let outbox = TellingOutbox::over(rt, path, outbox, context.teller);
+            let outbox = TellingOutbox::over(rt, path, outbox, context.told, context.progress);
             match spool {
                 Some(spool) => ran_from(context, parts, outbox, spool),
                 None => ran_from(context, parts, outbox, NoSpool::new()),
@@ -114,20 +112,20 @@ fn ran_from<'a, O: SeekingOutbox, S: Spool>(
         rt,
         request,
         progress,
-        teller,
+        told,
         ..
     } = context;
     match &request.inbox {
         Some(path) => {
             let replaces = !request.flags.no_overwrite;
             let most = request.limits.most_size;
-            match TellingInbox::new(rt, path.as_str(), replaces, most, teller, progress) {
+            match TellingInbox::new(rt, path.as_str(), replaces, most, told, progress) {
                 Ok(inbox) => ran_over(context, parts, (outbox, inbox), spool),
                 Err(AllocError) => Ran::unseen(Exit::Device(Fault::NoMemoryAtStart)),
             }
         }
         None => {
-            let inbox = TellingNoInbox::new(rt, teller);
+            let inbox = TellingNoInbox::new(rt, told, progress);
             ran_over(context, parts, (outbox, inbox), spool)
         }
     }
@@ -145,7 +143,7 @@ fn ran_over<'a, O: SeekingOutbox, I: Inbox, S: Spool>(
         request,
         exchange,
         progress,
-        teller,
+        ..
     } = context;
     let config = parts.config;
     let screen = Screen {
@@ -156,15 +154,14 @@ fn ran_over<'a, O: SeekingOutbox, I: Inbox, S: Spool>(
         Ok(onlooker) => {
             let own = WorldConfig::station(config, side_of(request)).get();
             let lookout = LoopLookout::new(onlooker, progress);
-            tell_timers(rt, teller, &own, request.unit);
+            tell_timers(rt, &own, request.unit);
             tell_authentication(
                 rt,
-                teller,
                 request.carrier,
                 parts.ends.as_ref().map(|it| it.mac_len),
             );
-            let (configs, to) = ((own, parts.on_link), request.to.as_str());
-            let mut notices = Notices::new(rt, teller, lookout, exchange, configs, to);
+            let configs = (own, parts.on_link);
+            let mut notices = Notices::new(rt, lookout, exchange, configs, request.to.as_str());
             let exit = wired(context, parts, stores, spool, &mut notices);
             Ran {
                 exit,
@@ -262,7 +259,7 @@ fn operated<'a, O: SeekingOutbox, I: Inbox, W: PeerWire, S: Spool, L: Lookout>(
         request,
         exchange,
         progress,
-        teller,
+        ..
     } = context;
     let Served {
         stores,
@@ -296,14 +293,6 @@ fn operated<'a, O: SeekingOutbox, I: Inbox, W: PeerWire, S: Spool, L: Lookout>(
         board,
         form,
         keys: keys_of(request),
-        outbox: outbox_of(request),
-        limits: FileLimits {
-            most_size: request.limits.most_size,
-            most_open: request.limits.most_open,
-        },
-        inactivity: u64::from(options.config.get().entity.policy.times.inactivity),
-        unit: unit_word(request.unit),
-        teller,
     };
     let console = OperatorConsole::new(rt, post, exchange, progress);
     let own = request.numbers.id;
@@ -363,17 +352,8 @@ fn board_setup(context: Context<'_>) -> BoardSetup<'_> {
             CarrierKind::Pdus => "pdus",
         },
         to: request.to.as_str(),
-        version: VERSION,
         is_authenticated: request.keys.is_some(),
         exchange,
-    }
-}
-
-/// Returns the word for a unit of times.
-pub fn unit_word(unit: TimeUnit) -> &'static str {
-    match unit {
-        TimeUnit::Seconds => "s",
-        TimeUnit::Milliseconds => "ms",
     }
 }
 

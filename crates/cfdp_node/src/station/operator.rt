@@ -1,18 +1,14 @@
 //! Where the operator of a station stands: the lines of commands, the console, and the log.
-use crate::station::refusals::{FileLimits, Refusing, put_fault};
-use crate::transfers::teller::Teller;
 use cfdp_console::{Answer, Ask, Look, Shown};
-use cfdp_control::{
-    Asked, CommandHelp, LineFault, LineSources, Speaker, parse_command, split_form,
-};
+use cfdp_control::{Asked, CommandHelp, LineFault, LineSources, Speaker, parse_command};
 use cfdp_directives::Indication;
 use cfdp_exchange::Exchange;
 use cfdp_files::{SecretError, read_keys};
 use cfdp_header::TransactionId;
-use cfdp_journal::{Board, Clock, Form, Journal, KeptLog, LossyLog, Moment, Stopped, Waiting};
+use cfdp_journal::{Board, Form, Journal, KeptLog, LossyLog, Moment, Stopped, Waiting};
 use cfdp_report::{Exit, Fault};
 use cfdp_service::{Command, Console, Outcome, PutNames, Reply};
-use cfdp_station::{Request, Station};
+use cfdp_station::Station;
 use cfdp_store::{Inbox, Outbox};
 use cfdp_watch::Progress;
 use std::alloc::AllocError;
@@ -21,9 +17,6 @@ use std::io::Write;
 
 /// The most lines that are answered before one turn.
 const MOST_LINES: u32 = 64;
-
-/// Milliseconds of a second.
-const SECOND: u64 = 1_000;
 
 /// What an operator has before the first command.
 #[derive(Drop)]
@@ -36,15 +29,6 @@ pub struct OperatorPost<'a> {
     pub form: Form,
     /// The path of the file of keys, if frames are authenticated.
     pub keys: Option<&'a str>,
-    /// The path of the folder that files are sent from, if there is one.
-    pub outbox: Option<&'a str>,
-    /// What limits the files that are received.
-    pub limits: FileLimits,
-    /// After how many units of time without a PDU a transaction is given up, and the unit's name.
-    pub inactivity: u64,
-    pub unit: &'static str,
-    /// Who tells the operator what is wrong.
-    pub teller: Teller<'a>,
 }
 
 /// Where the operator of a station stands: lines of commands come from standard input and from a
@@ -56,10 +40,8 @@ pub struct OperatorConsole<'a> {
     post: OperatorPost<'a>,
     exchange: &'a Exchange,
     progress: &'a Progress<'a>,
-    // Who asked for the change of a transaction that is being made, and whether it suspends that.
-    asker: Option<(Speaker, bool)>,
-    // The files that are refused since they are beyond the limits.
-    refusing: Refusing,
+    // Who asked for the change of a transaction that is being made.
+    asker: Option<Speaker>,
     // Whether a file waits for which no number was reserved.
     wants_number: bool,
 }
@@ -78,7 +60,6 @@ impl<'a> OperatorConsole<'a> {
             exchange,
             progress,
             asker: None,
-            refusing: Refusing::NONE,
             wants_number: false,
         }
     }
@@ -126,16 +107,17 @@ impl<'a> OperatorConsole<'a> {
         station: &Station<O, I>,
         waiting: usize,
     ) -> Option<Command> {
-        let (is_json, line) = split_form(line);
-        let form = if is_json { Form::Json } else { self.post.form };
         match parse_command(self.rt.alloc(), line) {
-            Ok(Asked::Command(command)) => self.commanded(speaker, command),
+            Ok(Asked::Command(command)) => {
+                self.accepts(speaker, &command);
+                Some(command)
+            }
             Ok(Asked::Rekey) => {
                 self.rekeys(speaker);
                 None
             }
             Ok(asked) => {
-                self.answers(speaker, &asked, form, station, waiting);
+                self.answers(speaker, &asked, station, waiting);
                 None
             }
             Err(error) => {
@@ -143,18 +125,6 @@ impl<'a> OperatorConsole<'a> {
                 None
             }
         }
-    }
-
-    /// Accepts a command, unless it is a put of a file that can't be sent.
-    fn commanded(&mut self, speaker: Speaker, command: Command) -> Option<Command> {
-        if let Command::Put { names, .. } = &command
-            && let Some(fault) = put_fault(self.rt, self.post.outbox, names)
-        {
-            self.refuses(speaker, &fault);
-            return None;
-        }
-        self.accepts(speaker, &command);
-        Some(command)
     }
 
     /// Does what the console is asked next, and gives the command that it is, if it is one.
@@ -187,15 +157,11 @@ impl<'a> OperatorConsole<'a> {
         let (Some(board), Some(log)) = (&self.post.board, self.post.journal.writer().lines()) else {
             return Err(AllocError);
         };
-        let journal = &self.post.journal;
-        let status = board.status(station, self.moment(waiting), journal.noted())?;
-        let clock = Clock {
-            now: self.exchange.told.get(),
-            inactivity: self.post.inactivity,
-        };
+        let status = board.status(station, self.moment(waiting))?;
+        let (journal, told) = (&self.post.journal, self.exchange.told.get());
         let open = match look {
-            Look::Transactions(_) => journal.shown(station, clock)?,
-            Look::Transaction(id) => journal.shown_alone(station, clock, id.as_slice())?,
+            Look::Transactions(_) => journal.shown(station, told)?,
+            Look::Transaction(id) => journal.shown_alone(station, told, id.as_slice())?,
             _ => Vec::new(alloc),
         };
         let shown = Shown {
@@ -235,16 +201,13 @@ impl<'a> OperatorConsole<'a> {
             files,
             stopped,
             now: self.exchange.told.get(),
-            inactivity: self.post.inactivity,
         }
     }
 
     /// Answers a command: the change of a transaction once it is made, any other at once.
     fn accepts(&mut self, speaker: Speaker, command: &Command) {
         match command {
-            Command::Change(_, request) => {
-                self.asker = Some((speaker, matches!(request, Request::Suspend)));
-            }
+            Command::Change(..) => self.asker = Some(speaker),
             Command::Put { .. } | Command::Stop | Command::StopNow => self.is_done(speaker, ""),
         }
     }
@@ -254,7 +217,6 @@ impl<'a> OperatorConsole<'a> {
         &mut self,
         speaker: Speaker,
         asked: &Asked,
-        form: Form,
         station: &Station<O, I>,
         waiting: usize,
     ) {
@@ -264,7 +226,7 @@ impl<'a> OperatorConsole<'a> {
             Asked::List | Asked::Counters | Asked::Rekey | Asked::Help | Asked::Command(_) => {}
         }
         let mut text = String::new(self.rt.alloc());
-        match self.tells(&mut text, asked, form, station, waiting) {
+        match self.tells(&mut text, asked, station, waiting) {
             Ok(()) => self.is_done(speaker, text.as_str()),
             Err(fmt::Error) => self.refuses(speaker, &"out of memory"),
         }
@@ -301,16 +263,17 @@ impl<'a> OperatorConsole<'a> {
         &self,
         out: &mut String,
         asked: &Asked,
-        form: Form,
         station: &Station<O, I>,
         waiting: usize,
     ) -> fmt::Result {
         match asked {
             Asked::List => {
                 let waiting = self.waiting(waiting);
-                self.post.journal.list(out, form, station, waiting)
+                self.post
+                    .journal
+                    .list(out, self.post.form, station, waiting)
             }
-            Asked::Counters => self.post.journal.counters(out, form, station),
+            Asked::Counters => self.post.journal.counters(out, self.post.form, station),
             Asked::Help => fmt::Write::write_fmt(out, format_args!("{CommandHelp}")),
             Asked::Freeze | Asked::Thaw | Asked::Rekey | Asked::Command(_) => Ok(()),
         }
@@ -321,41 +284,6 @@ impl<'a> OperatorConsole<'a> {
         if let Some(text) = self.post.sources.done(speaker, lines) {
             self.says(text.as_str());
         }
-    }
-
-    /// Answers that a transaction is suspended, and after how long the peer gives it up.
-    fn is_suspended(&mut self, speaker: Speaker) {
-        let (inactivity, unit) = (self.post.inactivity, self.post.unit);
-        let text = format!(in self.rt.alloc();
-            "the peer gives the transaction up after {inactivity} {unit}, as inactivity_time says, \
-             unless it is resumed before\n"
-        );
-        match text {
-            Ok(text) => self.is_done(speaker, text.as_str()),
-            Err(AllocError) => self.is_done(speaker, ""),
-        }
-    }
-
-    /// Has the log and the counters have what the operator was told since the last time.
-    fn takes_notes(&mut self) {
-        let Some(notes) = self.exchange.notes.take() else {
-            return;
-        };
-        let second = self.post.sources.now() / SECOND;
-        for note in notes.iter() {
-            self.post.journal.notes(note, second);
-        }
-    }
-
-    /// Says which file was refused, by which limit, if an indication ends one that was.
-    fn tells_refusal(&mut self, indication: &Indication) {
-        let Some(id) = self.refusing.ends(self.post.journal.own(), indication) else {
-            return;
-        };
-        let alloc = self.rt.alloc();
-        let (names, size) = (self.post.journal.names(id), self.post.journal.size(id));
-        let text = self.post.limits.refusal_text(alloc, id, names, size);
-        self.post.teller.refuses("limits", id, text);
     }
 
     /// Something is told to the log, which is written out when commands are looked for next: so the
@@ -406,7 +334,6 @@ impl Console for OperatorConsole<'_> {
         if let Some(command) = self.serves_console(station, waiting) {
             return Some(command);
         }
-        self.takes_notes();
         self.post.journal.looks_at(station);
         let mut watched = self.post.sources.watched();
         self.post.journal.writer().inner().watches(&mut watched);
@@ -439,13 +366,11 @@ impl Console for OperatorConsole<'_> {
 
     fn change_answered(&mut self, reply: Reply) {
         self.is_told();
-        match (self.asker.take(), reply) {
-            (Some((speaker, _)), Reply::Change(Err(error))) => self.refuses(speaker, &error),
-            (Some((speaker, true)), Reply::Change(Ok(()))) => self.is_suspended(speaker),
-            (Some((speaker, _)), _) => self.is_done(speaker, ""),
-            // Nobody asked for it: the clerk cancelled a file that is beyond the limits.
-            (None, Reply::Change(Ok(()))) => self.refusing.begins(),
-            (None, _) => {}
+        if let Some(speaker) = self.asker.take() {
+            match reply {
+                Reply::Change(Err(error)) => self.refuses(speaker, &error),
+                Reply::Change(Ok(())) | Reply::Put(_) => self.is_done(speaker, ""),
+            }
         }
         self.post.journal.change_answered(reply);
     }
@@ -455,7 +380,6 @@ impl Console for OperatorConsole<'_> {
         if let Some(board) = &mut self.post.board {
             board.hears(indication);
         }
-        self.tells_refusal(indication);
         self.post.journal.hears(indication);
     }
 
@@ -468,7 +392,6 @@ impl Console for OperatorConsole<'_> {
     fn ends<O: Outbox, I: Inbox>(&mut self, station: &Station<O, I>) {
         // The line that says how far it is stands in front of the last lines.
         self.progress.ends();
-        self.takes_notes();
         self.post.journal.ends(station);
     }
 

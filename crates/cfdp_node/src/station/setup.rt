@@ -4,7 +4,6 @@ ghost use Rattle.frame_fields.specs.Fields.{no_fields};
 
 use crate::transfers::secured_links::{SECURITY_HEADER, bare_link};
 use cfdp_command_line::CarrierKind;
-use cfdp_config::OPTIONS;
 use cfdp_datagrams::{Carrier, PacketForm};
 use cfdp_report::{Keys, Nearest, Setting, Settings, consider_keys, parse_setting};
 use cfdp_station::{LinkConfig, StationConfig};
@@ -118,22 +117,6 @@ pub enum Misfit {
     Other,
 }
 
-impl Misfit {
-    /// Returns the key or the option that is set wrongly, if it is one.
-    pub fn key(&self) -> Option<&'static str> {
-        match self {
-            Misfit::OneId(_) => Some("id"),
-            Misfit::WideId(option, _) => Some(*option),
-            Misfit::WideNumber(_) => Some("first-number"),
-            Misfit::TooGreat(key, _, _) => Some(*key),
-            Misfit::Mac(_) => Some("mac"),
-            Misfit::ShortZone(..) => Some("zone"),
-            Misfit::OneChannel(key, _, _) => Some(*key),
-            Misfit::Other => None,
-        }
-    }
-}
-
 impl fmt::Display for Misfit {
     fn fmt<W: fmt::Write>(&self, f: &mut fmt::Formatter<W>) -> fmt::Result {
         match self {
@@ -188,8 +171,6 @@ const OWN_KEYS: [&'static str; 14] = [
 pub enum KeyHint {
     /// The key that is most like it.
     Nearest(&'static str),
-    /// It is an option, and no key.
-    Option(&'static str),
     /// All keys.
     All,
 }
@@ -199,10 +180,6 @@ impl fmt::Display for KeyHint {
     fn fmt<W: fmt::Write>(&self, f: &mut fmt::Formatter<W>) -> fmt::Result {
         match self {
             KeyHint::Nearest(key) => write!(f, "; did you mean {key}"),
-            KeyHint::Option(name) => write!(
-                f,
-                "; it is the option --{name}, which stands above [set] in a settings file"
-            ),
             KeyHint::All => {
                 write!(f, "; the keys are {Keys}")?;
                 for key in &OWN_KEYS {
@@ -216,11 +193,6 @@ impl fmt::Display for KeyHint {
 
 /// What may stand in the place of this word, which is no key.
 pub fn key_hint(alloc: Global, word: &str) -> KeyHint {
-    for option in OPTIONS {
-        if option.name == word {
-            return KeyHint::Option(option.name);
-        }
-    }
     match nearest(alloc, word) {
         Ok(Some(key)) => KeyHint::Nearest(key),
         Ok(None) | Err(AllocError) => KeyHint::All,

@@ -1,6 +1,5 @@
 //! Stores in folders that say on standard error why a call failed, and one who looks on at turns.
 use crate::transfers::fault::fault_text;
-use crate::transfers::teller::Teller;
 use cfdp_files::InboxFiles;
 use cfdp_header::TransactionId;
 use cfdp_port::{Lookout, Passed};
@@ -10,6 +9,7 @@ use cfdp_store::{FolderInbox, FolderOutbox, Inbox, NoInbox, Outbox, SeekingOutbo
 use cfdp_watch::{Onlooker, Progress, Reception};
 use station_pair::Side;
 use std::alloc::AllocError;
+use std::cell::Cell;
 
 /// One who looks on at the turns, and says how far the transfer is.
 #[derive(Drop)]
@@ -68,7 +68,8 @@ pub struct TellingInbox<'a> {
     rt: &'a HostRuntime,
     folder: &'a str,
     inbox: FolderInbox<InboxFiles<'a>>,
-    teller: Teller<'a>,
+    /// Whether it said so.
+    told: &'a Cell<bool>,
     progress: &'a Progress<'a>,
     reception: Reception<'a>,
 }
@@ -76,7 +77,7 @@ pub struct TellingInbox<'a> {
 impl<'a> TellingInbox<'a> {
     /// An inbox over this folder, which is there. Where it `replaces`, a file that comes takes the
     /// place of the one that has its name; else it is refused, and the other stays. One of more
-    /// than `most_size` octets is refused, unless that is 0.
+    /// than `most_size` octets is refused, unless that is 0. It sets `told` once it said so.
     ///
     /// # Errors
     ///
@@ -86,7 +87,7 @@ impl<'a> TellingInbox<'a> {
         folder: &'a str,
         replaces: bool,
         most_size: u64,
-        teller: Teller<'a>,
+        told: &'a Cell<bool>,
         progress: &'a Progress<'a>,
     ) -> Result<TellingInbox<'a>, AllocError> {
         let files = InboxFiles::new(rt, replaces, most_size);
@@ -94,7 +95,7 @@ impl<'a> TellingInbox<'a> {
             rt,
             folder,
             inbox: FolderInbox::new(files, rt.alloc(), folder)?,
-            teller,
+            told,
             progress,
             reception: Reception::new(rt.alloc(), progress),
         })
@@ -105,13 +106,10 @@ impl<'a> TellingInbox<'a> {
         if answer.is_err()
             && let Some(fault) = self.inbox.fault()
         {
+            self.begins_to_tell();
             let (folder, cause) = (self.folder, fault_text(fault));
             let TransactionId { source, number } = id;
-            let text = format!(in self.rt.alloc();
-                "{folder}: {cause} (transaction {source}:{number})"
-            );
-            self.progress.ends();
-            self.teller.fails("inbox", Some(id), text);
+            let _ = eprintln!(self.rt; "error: {folder}: {cause} (transaction {source}:{number})");
         }
     }
 
@@ -120,14 +118,18 @@ impl<'a> TellingInbox<'a> {
         if answer.is_err()
             && let Some(fault) = self.inbox.fault()
         {
+            self.begins_to_tell();
             let (folder, name, cause) = (self.folder, Name(name), fault_text(fault));
             let TransactionId { source, number } = id;
-            let text = format!(in self.rt.alloc();
-                "{folder}/{name}: {cause} (transaction {source}:{number})"
+            let _ = eprintln!(self.rt;
+                "error: {folder}/{name}: {cause} (transaction {source}:{number})"
             );
-            self.progress.ends();
-            self.teller.fails("inbox", Some(id), text);
         }
+    }
+
+    fn begins_to_tell(&self) {
+        self.told.set(true);
+        self.progress.ends();
     }
 }
 
@@ -177,27 +179,35 @@ impl<'a> Inbox for TellingInbox<'a> {
 pub struct TellingNoInbox<'a> {
     rt: &'a HostRuntime,
     inbox: NoInbox,
-    teller: Teller<'a>,
+    /// Whether something was said.
+    told: &'a Cell<bool>,
+    progress: &'a Progress<'a>,
 }
 
 impl<'a> TellingNoInbox<'a> {
-    /// One that says so by this teller.
-    pub fn new(rt: &'a HostRuntime, teller: Teller<'a>) -> TellingNoInbox<'a> {
+    /// It sets `told` once it said so.
+    pub fn new(
+        rt: &'a HostRuntime,
+        told: &'a Cell<bool>,
+        progress: &'a Progress<'a>,
+    ) -> TellingNoInbox<'a> {
         TellingNoInbox {
             rt,
             inbox: NoInbox::new(),
-            teller,
+            told,
+            progress,
         }
     }
 
     /// Says that a file came, where that wasn't said: the first one, of this transaction.
     fn tell(&self, id: TransactionId) {
         if self.inbox.failures() == 0 {
+            self.told.set(true);
+            self.progress.yields();
             let TransactionId { source, number } = id;
-            let text = format!(in self.rt.alloc();
-                "a file arrived, but there is no --inbox (transaction {source}:{number})"
+            let _ = eprintln!(self.rt;
+                "error: a file arrived, but there is no --inbox (transaction {source}:{number})"
             );
-            self.teller.fails("no-inbox", Some(id), text);
         }
     }
 }
@@ -241,31 +251,36 @@ pub struct TellingOutbox<'a> {
     rt: &'a HostRuntime,
     folder: &'a str,
     outbox: FolderOutbox<&'a HostRuntime>,
-    teller: Teller<'a>,
+    /// Whether it said so.
+    told: &'a Cell<bool>,
+    progress: &'a Progress<'a>,
 }
 
 impl<'a> TellingOutbox<'a> {
-    /// One over this outbox of this folder, which says so by this teller.
+    /// One over this outbox of this folder. It sets `told` once it said so.
     pub fn over(
         rt: &'a HostRuntime,
         folder: &'a str,
         outbox: FolderOutbox<&'a HostRuntime>,
-        teller: Teller<'a>,
+        told: &'a Cell<bool>,
+        progress: &'a Progress<'a>,
     ) -> TellingOutbox<'a> {
         TellingOutbox {
             rt,
             folder,
             outbox,
-            teller,
+            told,
+            progress,
         }
     }
 
     /// Says why the last call failed, which was of this file.
     fn tell(&self, name: &[u8]) {
         if let Some(fault) = self.outbox.fault() {
+            self.told.set(true);
+            self.progress.yields();
             let (folder, cause) = (self.folder, fault_text(fault));
-            let text = format!(in self.rt.alloc(); "{folder}/{}: {cause}", Name(name));
-            self.teller.fails("outbox", None, text);
+            let _ = eprintln!(self.rt; "error: {folder}/{}: {cause}", Name(name));
         }
     }
 }
