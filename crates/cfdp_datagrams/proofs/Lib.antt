@@ -1,2 +1,3 @@
 mod CarrierLemmas
 mod Paces
+mod StationLemmas

@@ -1,3 +1,6 @@
 pub mod Carrier
 pub mod CarrierWire
 pub mod Pacer
+pub mod PeerSocket
+pub mod Silence
+pub mod StationTime

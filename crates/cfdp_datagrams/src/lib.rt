@@ -6,16 +6,29 @@
 //! program above.
 #![tactic(auto)]
 
+mod beacons;
 mod carrier;
+mod clock;
 mod keeper;
 mod link_clock;
+mod outlet;
+mod pace;
 mod pacer;
 mod peer_socket;
 mod reports;
 mod shared_numbers;
+mod silence;
+mod station_time;
+mod transport;
+mod turn;
+mod udp;
+mod upkeep;
 
 pub use carrier::{Carrier, CarrierWire, PacketForm, PduCarrier};
 pub use keeper::StationKeeper;
+pub use pace::{Pace, Unit, frame_len};
 pub use pacer::{Pacer, a_rate_is_kept};
-pub use peer_socket::{Pace, PeerSocket, Unit, Unusable, frame_len};
+pub use peer_socket::{PacedWire, PeerSocket};
 pub use shared_numbers::SharedNumbers;
+pub use transport::Transport;
+pub use udp::{UdpTransport, Unusable};

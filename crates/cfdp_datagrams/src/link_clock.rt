@@ -1,5 +1,5 @@
 //! The time of a link, which is the time of its station.
-ghost use Rattle.std.specs.Prelude.{◌≡◌, ◌+◌, ◌-◌, ◌^◌, ◌<◌, ◌≤◌, if◌then◌else◌, min, max};
+ghost use Rattle.std.specs.Prelude.{◌≡◌, ◌+◌, ◌-◌, ◌^◌, ◌<◌, ◌≤◌, if◌then◌else◌, min, max, true};
 
 use crate::pacer::SECOND;
 
@@ -29,6 +29,8 @@ impl LinkClock {
         ensures passed { self.old.passed + MOST_STEP < 2 ^ 64 → self.new.passed ≡ self.old.passed
             + (if is_frozen then 0 else min (now - self.old.seen) MOST_STEP) }
         ensures forward { self.old.passed ≤ self.new.passed }
+        ensures within { self.old.passed ≤ self.old.seen → self.new.passed ≤ self.new.seen }
+        ensures frozen { is_frozen ≡ true → self.new.passed ≡ self.old.passed }
         ensures told { result ≡ self.new.passed }
     {
         let step = if is_frozen {
