@@ -1,3 +1,2 @@
 mod CarrierLemmas
 mod Paces
-mod StationLemmas

@@ -1,6 +1,5 @@
 pub mod Carrier
 pub mod CarrierWire
+pub mod Outlet
 pub mod Pacer
-pub mod PeerSocket
-pub mod Silence
 pub mod StationTime

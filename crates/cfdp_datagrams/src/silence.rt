@@ -1,6 +1,5 @@
 //! For how long a link has been silent.
-ghost use Rattle.std.specs.Prelude.{◌≡◌, false};
-ghost use Rattle.cfdp_datagrams.specs.Silence.{AsksSilence};
+ghost use Rattle.std.specs.Prelude.{◌≡◌, ◌≤◌, ◌<◌, ◌-◌, ◌/◌, false, true};
 
 use crate::pacer::SECOND;
 
@@ -37,7 +36,13 @@ impl Silence {
     /// Returns `true` if the link has been silent for long enough at this time. A transaction that
     /// is closed now was open until now.
     pub fn is_silent(&mut self, now: u64, is_open: bool, is_frozen: bool) -> bool
-        ensures { AsksSilence now is_open is_frozen result self.old self.new }
+        ensures closed { result ≡ true → is_open ≡ false }
+        ensures was_closed { result ≡ true → self.old.was_open ≡ false }
+        ensures up { result ≡ true → is_frozen ≡ false }
+        ensures limited { result ≡ true → 0 < self.old.idle }
+        ensures quiet { result ≡ true → self.old.idle ≤ (now - self.old.since) / 1000000000 }
+        ensures asked { self.new.was_open ≡ is_open }
+        ensures idle { self.new.idle ≡ self.old.idle }
     {
         if is_open || self.was_open || is_frozen {
             self.since = now;

