@@ -231,8 +231,6 @@ impl<'a, 'n, T: Transport> PacedWire<'a, 'n, T> {
 }
 
 impl<T: Transport> Wire for PacedWire<'_, '_, T> {
-    ghost steps = { λ old call new. Does call old new };
-
     fn send(&mut self, frame: &[u8]) -> Result<(), WireFault> {
         self.turn.sends();
         self.upkeep.passes();
