@@ -139,6 +139,7 @@ static void on_a_closed_handle(void)
 
     memset(&told, 0x5A, sizeof told);
     IS(cfdp_add(&s, NAME_A, 1, OCTETS, 5), CFDP_CLOSED);
+    IS(cfdp_remove_source(&s, NAME_A, 1), CFDP_CLOSED);
     IS(cfdp_put(&s, NAME_A, 1, NAME_B, 1, &id), CFDP_CLOSED);
     IS(cfdp_cancel(&s, &id), CFDP_CLOSED);
     IS(cfdp_suspend(&s, &id), CFDP_CLOSED);
@@ -568,6 +569,36 @@ static void transmitted(void)
     IS(cfdp_file_count(&two), 1);
     cfdp_close(&one);
     cfdp_close(&two);
+    IS(live, 0);
+}
+
+/* A file leaves the outbox once no transaction is sending it, and gives its memory back. */
+static void gives_files_up(void)
+{
+    cfdp_station one = CFDP_STATION_INIT;
+    const cfdp_config c = config_of(1);
+    cfdp_id ids[2];
+    long before, given;
+    int at;
+
+    IS(cfdp_open(&one, &c), CFDP_OK);
+    IS(cfdp_remove_source(&one, NAME_A, 1), CFDP_NO_SUCH_FILE);
+    before = live;
+    IS(cfdp_add(&one, NAME_A, 1, OCTETS, sizeof OCTETS), CFDP_OK);
+    given = live - before;
+    for (at = 0; at < 2; at++)
+        IS(cfdp_put(&one, NAME_A, 1, NAME_B, 1, &ids[at]), CFDP_OK);
+    for (at = 0; at < 2; at++) {
+        IS(cfdp_remove_source(&one, NAME_A, 1), CFDP_SOURCE_WANTED);
+        IS(cfdp_cancel(&one, &ids[at]), CFDP_OK);
+    }
+    before = live;
+    IS(cfdp_remove_source(&one, NAME_A, 1), CFDP_OK);
+    IS(before - live, given);
+    IS(cfdp_remove_source(&one, NAME_A, 1), CFDP_NO_SUCH_FILE);
+    IS(cfdp_put(&one, NAME_A, 1, NAME_B, 1, &ids[0]), CFDP_NO_SUCH_FILE);
+    IS(cfdp_add(&one, NAME_A, 1, OCTETS, 1), CFDP_OK);
+    cfdp_close(&one);
     IS(live, 0);
 }
 
@@ -1194,6 +1225,7 @@ int main(void)
     transferred();
     at_the_limits();
     transmitted();
+    gives_files_up();
     put_into_words();
     counts_of_causes();
     listed();

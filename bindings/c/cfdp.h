@@ -35,7 +35,7 @@ extern "C" {
 #endif
 
 /* The number of this interface. It grows by one wherever a call, a struct or a number changes. */
-#define CFDP_VERSION 6
+#define CFDP_VERSION 7
 
 /* The release that this header belongs to (docs/EMBEDDING.md, "Versions"). */
 #define CFDP_RELEASE "1.0.0-rc.1"
@@ -62,6 +62,8 @@ enum {
     CFDP_NO_OUTBOX = 12,    /* the folder to send from isn't there, or can't be read */
     CFDP_NO_INBOX = 13,     /* the folder to receive into isn't, or can't be */
     CFDP_INBOX_IN_USE = 14, /* another station receives into it */
+
+    CFDP_SOURCE_WANTED = 15, /* cfdp_remove_source: a transaction is sending the file */
 
     /* cfdp_put: the first that holds, in the order 22, 24, 25, 26, 21, 23; then CFDP_NO_MEMORY */
     CFDP_NO_SUCH_FILE = 21,  /* the outbox has no file of that name */
@@ -311,10 +313,16 @@ typedef struct cfdp_id {
     uint64_t number;
 } cfdp_id;
 
-/* Copies a file into the outbox, under a name that it has no file of. It stays there until the
- * station is closed. CFDP_OK, CFDP_CLOSED, CFDP_IN_FOLDERS, CFDP_NAME_TAKEN or CFDP_NO_MEMORY. */
+/* Copies a file into the outbox, under a name that it has no file of. It stays there until it is
+ * removed, or the station is closed. CFDP_OK, CFDP_CLOSED, CFDP_IN_FOLDERS, CFDP_NAME_TAKEN or
+ * CFDP_NO_MEMORY. */
 cfdp_answer cfdp_add(cfdp_station *station, const void *name, size_t name_len,
                      const void *octets, size_t octets_len);
+
+/* Removes a file from the outbox, which no transaction is sending any more. It needs no memory.
+ * CFDP_OK, CFDP_CLOSED, CFDP_IN_FOLDERS, CFDP_NO_SUCH_FILE, or CFDP_SOURCE_WANTED where a
+ * transaction is sending it; but for CFDP_OK nothing has changed. */
+cfdp_answer cfdp_remove_source(cfdp_station *station, const void *name, size_t name_len);
 
 /* Sends a file of the outbox, which the peer publishes under the name destination; *id is the
  * transaction. In a folder the file is looked for first. CFDP_OK, CFDP_CLOSED, 21 to 26 or
@@ -719,6 +727,7 @@ static inline const char *cfdp_answer_text(cfdp_answer answer)
     case CFDP_NO_OUTBOX: text = "cannot read the folder to send from"; break;
     case CFDP_NO_INBOX: text = "cannot use the folder to receive into"; break;
     case CFDP_INBOX_IN_USE: text = "another station already receives into that folder"; break;
+    case CFDP_SOURCE_WANTED: text = "a transaction is still sending the file"; break;
     case CFDP_NAME_TAKEN: text = "a file of that name already exists"; break;
     case CFDP_NO_SUCH_FILE: text = "no such file"; break;
     case CFDP_BAD_NAME: text = "file names must be 1 to 255 octets that the folder allows"; break;

@@ -20,6 +20,8 @@ pub enum Error {
     NoInbox,
     /// Another station receives into that folder.
     InboxInUse,
+    /// A transaction is sending the file.
+    SourceWanted,
     /// The outbox has a file of that name.
     NameTaken,
     /// The outbox has no file of that name.
@@ -155,6 +157,7 @@ impl Error {
             12 => Error::NoOutbox,
             13 => Error::NoInbox,
             14 => Error::InboxInUse,
+            15 => Error::SourceWanted,
             21 => Error::NoSuchFile,
             22 => Error::BadName,
             23 => Error::TooLarge,
@@ -223,6 +226,7 @@ impl fmt::Display for Error {
             Error::NoOutbox => "cannot read the folder to send from",
             Error::NoInbox => "cannot use the folder to receive into",
             Error::InboxInUse => "another station already receives into that folder",
+            Error::SourceWanted => "a transaction is still sending the file",
             Error::NameTaken => "a file of that name already exists",
             Error::NoSuchFile => "no such file",
             Error::BadName => "file names must be 1 to 255 octets that the folder allows",

@@ -299,6 +299,7 @@ extern "C" {
     ) -> u32;
     fn cfdp_close(station: &mut Handle);
     fn cfdp_add(s: &mut Handle, name: *const u8, n: usize, octets: *const u8, m: usize) -> u32;
+    fn cfdp_remove_source(station: &mut Handle, name: *const u8, n: usize) -> u32;
     fn cfdp_put(
         s: &mut Handle,
         source: *const u8,
@@ -409,6 +410,11 @@ impl Handle {
     pub fn add(&mut self, name: &[u8], octets: &[u8]) -> u32 {
         // SAFETY: both slices are readable for their lengths, and only read.
         unsafe { cfdp_add(self, name.as_ptr(), name.len(), octets.as_ptr(), octets.len()) }
+    }
+
+    pub fn remove_source(&mut self, name: &[u8]) -> u32 {
+        // SAFETY: the slice is readable for its length.
+        unsafe { cfdp_remove_source(self, name.as_ptr(), name.len()) }
     }
 
     pub fn put(&mut self, source: &[u8], destination: &[u8], id: &mut Id) -> u32 {

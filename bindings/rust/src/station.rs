@@ -151,6 +151,16 @@ impl Station {
         Error::check(self.handle.get_mut().add(name, octets))
     }
 
+    /// Removes a file from the outbox, which no transaction is sending any more.
+    ///
+    /// # Errors
+    ///
+    /// `InFolders` if the station has folders; `NoSuchFile` if there is no file of that name;
+    /// `SourceWanted` if a transaction is sending it. Nothing changed.
+    pub fn remove_source(&mut self, name: &[u8]) -> Result<(), Error> {
+        Error::check(self.handle.get_mut().remove_source(name))
+    }
+
     /// Sends a file of the outbox, which the peer publishes under the name `destination`.
     ///
     /// # Errors

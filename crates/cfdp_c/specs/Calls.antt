@@ -1,5 +1,5 @@
 -- What a user's calls answer and do, in the words of the station's own clauses.
-use Rattle.std.specs.Prelude.{◌≡◌, ◌≤◌, ℕ, max, Bool, List, Option, MatchOption, Result, IfOk, IfErr, OnOk, OnErr}
+use Rattle.std.specs.Prelude.{◌≡◌, ◌≤◌, ℕ, max, Bool, List, Option, MatchOption, IsSome, Result, IfOk, IfErr, OnOk, OnErr}
 use Rattle.std.specs.FinMap as map
 use Rattle.std.specs.declared.alloc.AllocError.{AllocError}
 use Rattle.link_stack.specs.Downward.{first_down}
@@ -12,14 +12,16 @@ use Rattle.cfdp_entity.specs.declared.error.AddError.{AddError}
 use Rattle.cfdp_entity.specs.declared.error.RequestError.{RequestError}
 use Rattle.cfdp_entity.specs.declared.error.ForgetError.{ForgetError}
 use Rattle.cfdp_entity.specs.declared.error.PutError.{PutError}
+use Rattle.cfdp_entity.specs.declared.error.RemoveError.{RemoveError}
 use Rattle.cfdp_entity.specs.Entity.{first_entity, with_table}
 use Rattle.cfdp_entity.specs.Forgetting.{Forgets, ForgetsSome, HasNoneOver, IsForgetRefusal, forget_refusal}
 use Rattle.cfdp_entity.specs.Putting.{Accepts, put_refusal, IsPutRefusal, stored_by_error}
 use Rattle.cfdp_entity.specs.Table.{Ticks}
+use Rattle.cfdp_entity.specs.Withdrawing.{RefusesToRemove, RemovesFile}
 use Rattle.cfdp_station.specs.Requests.{StationAnswers}
 use Rattle.cfdp_station.specs.Station.{StationState, KeepsLink}
 use Rattle.cfdp_station.specs.declared.config.StationConfig.{StationConfig}
-use Rattle.cfdp_c.specs.Codes.{add_answer, put_answer, look_code, request_answer, forget_answer, memory_answer}
+use Rattle.cfdp_c.specs.Codes.{add_answer, remove_answer, put_answer, look_code, request_answer, forget_answer, memory_answer}
 use Rattle.cfdp_c.specs.declared.calls.CfdpId.{CfdpId}
 use Rattle.cfdp_c.specs.declared.held.AnyStation.{AnyStation}
 use Rattle.cfdp_c.specs.declared.held.AnyStation.TheVariants.{Memory, Folders}
@@ -42,6 +44,17 @@ pub record Adds (name octets : List ℕ) (answer : ℕ) (old new : StationState)
   pub code : answer ≡ add_answer told
   pub added : OnOk told (AddsFile name octets old.entity.state new.entity.state)
   pub refused : IfErr told (RefusesToAdd name old.entity.state.table.sources)
+  pub err : OnErr told (new ≡ old)
+  pub link : KeepsLink old new
+
+-- A file was removed from the outbox, or this is why not.
+pub record Withdraws (name : List ℕ) (answer : ℕ) (old new : StationState) : Type 0 where
+  pub told : Result (Unit {0}) RemoveError
+  pub code : answer ≡ remove_answer told
+  pub removed : OnOk told (RemovesFile name old.entity.state new.entity.state)
+  pub there : OnOk told (IsSome (map.get old.entity.state.table.sources name))
+  pub refused : IfErr told (RefusesToRemove (map.get old.entity.state.table.sources name) name
+      old.entity.state.table)
   pub err : OnErr told (new ≡ old)
   pub link : KeepsLink old new
 

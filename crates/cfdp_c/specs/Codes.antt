@@ -12,6 +12,8 @@ use Rattle.cfdp_entity.specs.declared.error.ForgetError.{ForgetError}
 use Rattle.cfdp_entity.specs.declared.error.ForgetError.TheVariants as forgets
 use Rattle.cfdp_entity.specs.declared.error.PutError.{PutError}
 use Rattle.cfdp_entity.specs.declared.error.PutError.TheVariants as puts
+use Rattle.cfdp_entity.specs.declared.error.RemoveError.{RemoveError}
+use Rattle.cfdp_entity.specs.declared.error.RemoveError.TheVariants as removes
 use Rattle.aos_frame.specs.declared.config.LinkField.{LinkField}
 use Rattle.aos_frame.specs.declared.config.LinkField.TheVariants as links
 use Rattle.cfdp_station.specs.declared.amiss.StationField.{StationField}
@@ -57,6 +59,10 @@ abbrev pub add_code : AddError → ℕ
 add_code adds.Taken = 11
 add_code adds.NoMemory = no_memory
 
+abbrev pub remove_code : RemoveError → ℕ
+remove_code removes.NoSuchFile = 21
+remove_code removes.Sending = 15
+
 abbrev pub folders_code : FoldersError → ℕ
 folders_code folders.NoOutbox = 12
 folders_code folders.NoInbox = 13
@@ -101,6 +107,10 @@ poll_code polls.SourceFailed = 26
 abbrev pub add_answer : {T : Type 0} → Result T AddError → ℕ
 add_answer (Ok value) = ok
 add_answer (Err by) = add_code by
+
+abbrev pub remove_answer : {T : Type 0} → Result T RemoveError → ℕ
+remove_answer (Ok value) = ok
+remove_answer (Err by) = remove_code by
 
 abbrev pub put_answer : {T : Type 0} → Result T PutError → ℕ
 put_answer (Ok value) = ok

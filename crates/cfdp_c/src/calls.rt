@@ -1,11 +1,14 @@
 //! Files that the user of a station gives it and has sent, and the time.
 ghost use Rattle.std.specs.Prelude.{◌≡◌, ◌≢◌, false, Some, None, MatchOption};
 ghost use Rattle.cfdp_c.specs.Calls.{id_of, Adds, Puts, PutsFrom, Seeks, TellsTime, IsTimeout};
+ghost use Rattle.cfdp_c.specs.Calls.{Withdraws};
 ghost use Rattle.cfdp_c.specs.Held.{has_folders, state_of, OfMemory};
 ghost use Rattle.cfdp_c.specs.Codes as codes;
 ghost use Rattle.cfdp_c.specs.Handles.{Becomes};
 
-use crate::codes::{CLOSED, IN_FOLDERS, NOTHING, OK, of_add, of_look, of_memory, of_put};
+use crate::codes::{
+    CLOSED, IN_FOLDERS, NOTHING, OK, of_add, of_look, of_memory, of_put, of_remove,
+};
 use crate::handle::CfdpStation;
 use crate::held::{AnyStation, Held};
 use cfdp_header::TransactionId;
@@ -109,6 +112,18 @@ impl Held {
         }
     }
 
+    fn remove_source(&mut self, name: &[u8]) -> u32
+        ensures withdraws { OfMemory self.old.station result
+            (Withdraws name.now result (state_of self.old.station) (state_of self.new.station))
+            (state_of self.new.station ≡ state_of self.old.station) }
+        ensures place { has_folders self.new.station ≡ has_folders self.old.station }
+    {
+        match &mut self.station {
+            AnyStation::Memory(station) => of_remove(station.remove_source(name)),
+            AnyStation::Folders(_) => IN_FOLDERS,
+        }
+    }
+
     fn put(&mut self, source: &[u8], destination: &[u8], id: &mut CfdpId) -> u32
         ensures puts { PutsFrom self.old.station source.now destination.now result id.new
             (state_of self.new.station) }
@@ -165,6 +180,25 @@ pub extern "C" fn cfdp_add(
         return CLOSED;
     };
     let answer = held.add(name, octets);
+    *station = CfdpStation::holding(held);
+    answer
+}
+
+/// Removes a file from the outbox that no transaction is sending. The first cause that holds: 0,
+/// `CLOSED`, `IN_FOLDERS` where the outbox is a folder, 21 where there is no file of that name, or 15
+/// where a transaction is sending it. But for 0 nothing changed.
+#[unsafe(no_mangle)]
+pub extern "C" fn cfdp_remove_source(alloc: Global, station: &mut CfdpStation, name: &[u8]) -> u32
+    ensures open { station.new.is_open ≡ station.old.is_open }
+    ensures closed { station.old.is_open ≡ false → result ≡ codes.closed }
+    ensures withdraws { Becomes station.old station.new (λ x y. OfMemory x.station result
+        (Withdraws name.now result (state_of x.station) (state_of y.station))
+        (state_of y.station ≡ state_of x.station)) }
+{
+    let Some(mut held) = station.lift(alloc) else {
+        return CLOSED;
+    };
+    let answer = held.remove_source(name);
     *station = CfdpStation::holding(held);
     answer
 }

@@ -3,11 +3,12 @@ ghost use Rattle.std.specs.Prelude.{◌≡◌, MatchOption};
 ghost use Rattle.cfdp_c.specs.Codes as codes;
 ghost use Rattle.cfdp_c.specs.Codes.{folders_code, look_code};
 ghost use Rattle.cfdp_c.specs.Codes.{add_answer, request_answer, forget_answer, put_answer};
+ghost use Rattle.cfdp_c.specs.Codes.{remove_answer};
 ghost use Rattle.cfdp_c.specs.Codes.{poll_answer, transmit_answer, memory_answer};
 
 use crate::held::FoldersError;
 use cfdp_header::TransactionId;
-use cfdp_station::{AddError, ForgetError, Lane, Polled, PutError, RequestError};
+use cfdp_station::{AddError, ForgetError, Lane, Polled, PutError, RemoveError, RequestError};
 use cfdp_store::StoreError;
 use frame_security::Refusal;
 use std::alloc::AllocError;
@@ -28,6 +29,8 @@ pub(crate) const NO_ROOM: u32 = 5;
 pub(crate) const NOTHING: u32 = 6;
 /// The files are in folders, and the call is of files in memory.
 pub(crate) const IN_FOLDERS: u32 = 7;
+/// The outbox has no file of that name.
+const NO_SUCH_FILE: u32 = 21;
 /// A name isn't as it has to be.
 const BAD_NAME: u32 = 22;
 /// No number is left.
@@ -45,6 +48,17 @@ pub(crate) fn of_add(answer: Result<(), AddError>) -> u32
         Ok(()) => OK,
         Err(AddError::Taken) => 11,
         Err(AddError::NoMemory) => NO_MEMORY,
+    }
+}
+
+/// What a caller is told of a file that it removes from the outbox.
+pub(crate) fn of_remove(answer: Result<(), RemoveError>) -> u32
+    ensures { result ≡ remove_answer answer }
+{
+    match answer {
+        Ok(()) => OK,
+        Err(RemoveError::NoSuchFile) => NO_SUCH_FILE,
+        Err(RemoveError::Sending) => 15,
     }
 }
 
@@ -87,7 +101,7 @@ pub(crate) fn of_put(answer: Result<TransactionId, PutError>) -> u32
 {
     match answer {
         Ok(_) => OK,
-        Err(PutError::NoSuchFile) => 21,
+        Err(PutError::NoSuchFile) => NO_SUCH_FILE,
         Err(PutError::Name) => BAD_NAME,
         Err(PutError::TooLarge) => 23,
         Err(PutError::TableFull) => 24,

@@ -29,7 +29,7 @@ mod securing;
 mod station_slot;
 mod version;
 
-pub use calls::{CfdpId, cfdp_add, cfdp_next_timeout, cfdp_put, cfdp_tick};
+pub use calls::{CfdpId, cfdp_add, cfdp_next_timeout, cfdp_put, cfdp_remove_source, cfdp_tick};
 pub use config::{CfdpConfig, CfdpLink, cfdp_fill_defaults};
 pub use control::{cfdp_control_field, cfdp_set_control_field};
 pub use counters::{CfdpCounters, CfdpFrameDrops, CfdpPduDrops, CfdpSentPdus, cfdp_counters};

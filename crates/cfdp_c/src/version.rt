@@ -5,7 +5,7 @@ ghost use Rattle.std.specs.Prelude.{◌≡◌};
 /// changes.
 #[unsafe(no_mangle)]
 pub extern "C" fn cfdp_version() -> u32
-    ensures { result ≡ 6 }
+    ensures { result ≡ 7 }
 {
-    6
+    7
 }

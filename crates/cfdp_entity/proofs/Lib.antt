@@ -18,6 +18,7 @@ pub mod LettingGo
 pub mod Left
 pub mod Lent
 mod Looked
+mod Withdrawn
 pub mod Speaking
 pub mod Masked
 pub mod Records

@@ -27,6 +27,7 @@ pub mod Looking
 pub mod Polling
 pub mod Putting
 pub mod Adding
+pub mod Withdrawing
 pub mod History
 pub mod Truth
 pub mod Sending

@@ -1,12 +1,13 @@
 // Files that an outbox is given, or looks for, while an entity is at work.
 ghost use Rattle.std.specs.FinMap as map;
-ghost use Rattle.std.specs.Prelude.{◌≡◌, is_ok, is_some, IfErr, IfOk, OnOk, OnErr};
+ghost use Rattle.std.specs.Prelude.{◌≡◌, is_ok, is_some, IfErr, IfOk, IsSome, OnOk, OnErr};
 ghost use Rattle.cfdp_store.specs.Stores.{failures_after};
 ghost use Rattle.cfdp_entity.specs.Adding.{AddsFile, RefusesToAdd};
 ghost use Rattle.cfdp_entity.specs.Looking.{LooksUp};
+ghost use Rattle.cfdp_entity.specs.Withdrawing.{RefusesToRemove, RemovesFile};
 
 use crate::entity::Entity;
-use crate::error::AddError;
+use crate::error::{AddError, RemoveError};
 use cfdp_store::{Inbox, MemoryOutbox, SeekingOutbox, StoreError};
 
 impl<I: Inbox> Entity<MemoryOutbox, I> {
@@ -24,6 +25,23 @@ impl<I: Inbox> Entity<MemoryOutbox, I> {
         ensures outbox { self.new.outbox_failures ≡ self.old.outbox_failures }
     {
         self.table.add_source(name, octets)
+    }
+
+    /// Removes a file from the outbox that no transaction is sending. It needs no memory.
+    ///
+    /// # Errors
+    ///
+    /// The first cause that holds, in the order of [`RemoveError`]; nothing changed then.
+    pub fn remove_source(&mut self, name: &[u8]) -> Result<(), RemoveError>
+        ensures removed { OnOk result (RemovesFile name.now self.old.state self.new.state) }
+        ensures there { OnOk result (IsSome (map.get self.old.state.table.sources name.now)) }
+        ensures refused { IfErr result (RefusesToRemove
+            (map.get self.old.state.table.sources name.now) name.now self.old.state.table) }
+        ensures err { OnErr result (self.new ≡ self.old) }
+        ensures inbox { self.new.inbox_failures ≡ self.old.inbox_failures }
+        ensures outbox { self.new.outbox_failures ≡ self.old.outbox_failures }
+    {
+        self.table.remove_source(name)
     }
 }
 

@@ -231,3 +231,14 @@ pub enum AddError {
     #[error("out of memory")]
     NoMemory,
 }
+
+/// Why a file isn't removed from an outbox in memory.
+#[derive(Clone, Copy, Debug, PartialEq, Eq, Error)]
+pub enum RemoveError {
+    /// The outbox has no file of that name. Told first.
+    #[error("no such file")]
+    NoSuchFile,
+    /// A transaction is sending it.
+    #[error("a transaction is still sending the file")]
+    Sending,
+}

@@ -40,7 +40,7 @@ pub use cfdp_store::{Inbox, Outbox, StoreError};
 pub use closed::{a_closed_receiver_acknowledges, a_closed_sender_acknowledges};
 pub use config::{EntityConfig, MOST_WIDTH};
 pub use entity::Entity;
-pub use error::{AddError, EntityDrop, ForgetError, PutError, RequestError};
+pub use error::{AddError, EntityDrop, ForgetError, PutError, RemoveError, RequestError};
 pub use laws::{
     a_table_finishes_a_transaction_once, a_table_keeps_the_truth, a_table_sends_the_truth,
     a_table_tells_no_more, an_entity_goes_on, an_entity_keeps_the_truth, an_entity_may_forget,

@@ -1,7 +1,7 @@
 // Records, and the desk that their steps work on.
 ghost use Rattle.std.specs.Prelude.{◌≡◌, ◌+◌, ◌≤◌, ◌<◌, ◌++◌, ◌∷◌, ◌*◌, drop, max, true, None};
 ghost use Rattle.std.specs.Prelude.{Some, Option, [], length, slice_get, IfErr, IfOk, IfSome};
-ghost use Rattle.std.specs.Prelude.{MatchOption, OnOk, OnErr, is_ok, is_some, false};
+ghost use Rattle.std.specs.Prelude.{MatchOption, OnOk, OnErr, IsSome, is_ok, is_some, false};
 ghost use Rattle.std.specs.FinMap as map;
 ghost use Rattle.std.specs.Option.{option_map};
 ghost use Rattle.std.specs.List.{IsDistinct};
@@ -31,6 +31,7 @@ ghost use Rattle.cfdp_entity.specs.Storing.{AsksToHear, AsksToRequest, AsksToExp
 ghost use Rattle.cfdp_entity.specs.Storing.{AsksToFire, AsksToTick, AsksToOpen};
 ghost use Rattle.cfdp_entity.specs.Sent.{sent_at};
 ghost use Rattle.cfdp_entity.specs.Walking.{phases_of};
+ghost use Rattle.cfdp_entity.specs.Withdrawing.{RefusesToRemove, RemovesSource, without_source};
 ghost use Rattle.cfdp_entity.specs.Table as tables;
 ghost use Rattle.cfdp_entity.specs.Table.{next_told, without_told, heard_at, expired_at, called_at};
 ghost use Rattle.cfdp_entity.specs.Table.{data_at, len_at, put_in, opened_by, next_due};
@@ -38,7 +39,7 @@ ghost use Rattle.cfdp_entity.specs.Table.{first_table, all_expired, at_time, Tic
 ghost use Rattle.cfdp_entity.specs.Table.{progress_in, standing, ShowsIf};
 
 use crate::desk::Desk;
-use crate::error::{AddError, ForgetError, RequestError};
+use crate::error::{AddError, ForgetError, RemoveError, RequestError};
 use crate::opening::{MOST_TOLD, Opened};
 use crate::ready::Ready;
 use crate::record::{Gave, Record};
@@ -588,6 +589,37 @@ impl<O: Outbox, I: Inbox> Table<O, I> {
             }
         }
         false
+    }
+}
+
+impl<I: Inbox> Table<MemoryOutbox, I> {
+    /// Removes a file from the outbox that no record is sending.
+    pub fn remove_source(&mut self, name: &[u8]) -> Result<(), RemoveError>
+        ensures removed { OnOk result (RemovesSource name.now self.old.state self.new.state) }
+        ensures there { OnOk result (IsSome (map.get self.old.state.sources name.now)) }
+        ensures refused { IfErr result (RefusesToRemove
+            (map.get self.old.state.sources name.now) name.now self.old.state) }
+        ensures stays { Becomes self.new.state self.old self.new }
+        ensures err { OnErr result (self.new.state ≡ self.old.state) }
+    {
+        match self.desk.outbox.len(name) {
+            Ok(Some(_)) => {}
+            _ => return Err(RemoveError::NoSuchFile),
+        }
+        let sending = self.is_sending(name);
+        if sending {
+            return Err(RemoveError::Sending);
+        }
+        self.drop_source(name);
+        Ok(())
+    }
+
+    // Removes a file that no record is sending.
+    fn drop_source(&mut self, name: &[u8])
+        requires { IsUnsent name.now self.old.state }
+        ensures { Becomes (without_source name.now self.old.state) self.old self.new }
+    {
+        let _ = self.desk.outbox.remove(name);
     }
 }
 

@@ -50,8 +50,8 @@ pub use cfdp_directives::{
     PduError, Phase, Policy, Times,
 };
 pub use cfdp_entity::{
-    AddError, EntityConfig, EntityDrop, EntityField, ForgetError, PutError, Request, RequestError,
-    SentPdus, Transactions,
+    AddError, EntityConfig, EntityDrop, EntityField, ForgetError, PutError, RemoveError, Request,
+    RequestError, SentPdus, Transactions,
 };
 pub use cfdp_header::{HeaderError, TransactionId};
 pub use cfdp_store::{Inbox, Outbox, SeekingOutbox, SteadyOutbox, StoreError};

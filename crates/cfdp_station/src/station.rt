@@ -1,7 +1,7 @@
 //! An entity over both directions of a link.
 ghost use Rattle.std.specs.Prelude.{◌≡◌, ℕ, ◌+◌, ◌*◌, ◌<◌, ◌≤◌, ◌↔◌, Bool, List, [], true, false};
 ghost use Rattle.std.specs.Prelude.{drop, length, max, get_or, is_ok, is_some, IfOk, IfErr};
-ghost use Rattle.std.specs.Prelude.{MatchOption, None, IfSome, OnOk, OnErr};
+ghost use Rattle.std.specs.Prelude.{MatchOption, None, IfSome, IsSome, OnOk, OnErr};
 ghost use Rattle.std.specs.FinMap as map;
 ghost use Rattle.mpdu.specs.Stream.{ArePackets};
 ghost use Rattle.aos_frame.specs.Frame.{frame_len, lane_channel, other_lane};
@@ -28,6 +28,7 @@ ghost use Rattle.cfdp_entity.specs.Putting.{was_answered};
 ghost use Rattle.cfdp_entity.specs.Sound.{SpellsTurn, longest_pdu};
 ghost use Rattle.cfdp_entity.specs.Storing.{AsksToTick};
 ghost use Rattle.cfdp_entity.specs.Table.{Ticks};
+ghost use Rattle.cfdp_entity.specs.Withdrawing.{RefusesToRemove, RemovesFile};
 ghost use Rattle.cfdp_entity.specs.declared.request.Request.TheVariants as requests;
 ghost use Rattle.cfdp_station.specs.declared.polled.Polled.TheVariants as answers;
 ghost use Rattle.cfdp_station.specs.Link.{FlushesBoth, WaitAtMost, HoldsAtMost};
@@ -40,7 +41,7 @@ use crate::config::StationConfig;
 use crate::moving::{hear_all, move_one};
 use crate::polled::Polled;
 use cfdp_directives::{Indication, Phase};
-use cfdp_entity::{AddError, Entity, EntityDrop, PutError, Request, RequestError};
+use cfdp_entity::{AddError, Entity, EntityDrop, PutError, RemoveError, Request, RequestError};
 use cfdp_header::TransactionId;
 use cfdp_store::{Inbox, MemoryOutbox, Outbox, SeekingOutbox, StoreError};
 use link_stack::{Down, Lane, LinkDrop, Up};
@@ -462,6 +463,27 @@ impl<I: Inbox> Station<MemoryOutbox, I> {
         ensures link { KeepsLink self.old self.new }
     {
         self.entity.add_source(name, octets)
+    }
+
+    /// Removes a file from the outbox that no transaction is sending. It needs no memory.
+    ///
+    /// # Errors
+    ///
+    /// The first cause that holds, in the order of [`RemoveError`]; nothing changed then.
+    pub fn remove_source(&mut self, name: &[u8]) -> Result<(), RemoveError>
+        ensures removed { OnOk result (RemovesFile name.now self.old.entity.state
+            self.new.entity.state) }
+        ensures there { OnOk result
+            (IsSome (map.get self.old.entity.state.table.sources name.now)) }
+        ensures refused { IfErr result (RefusesToRemove
+            (map.get self.old.entity.state.table.sources name.now) name.now
+            self.old.entity.state.table) }
+        ensures err { OnErr result (self.new ≡ self.old) }
+        ensures inbox { self.new.entity.inbox_failures ≡ self.old.entity.inbox_failures }
+        ensures outbox { self.new.entity.outbox_failures ≡ self.old.entity.outbox_failures }
+        ensures link { KeepsLink self.old self.new }
+    {
+        self.entity.remove_source(name)
     }
 }
 

@@ -43,7 +43,7 @@ get_other m name octets other ne = get-insert nat_list_cmp_total m name octets o
 gone_same : (m : FileMap) (name : List ℕ) → get (remove m name) name ≡ None
 gone_same m name = get-remove nat_list_cmp_total m name name ∙ ap (λ b. cond b None (get m name)) (itself name)
 
-gone_other : (m : FileMap) (name other : List ℕ) → other ≢ name → get (remove m name) other ≡ get m other
+pub gone_other : (m : FileMap) (name other : List ℕ) → other ≢ name → get (remove m name) other ≡ get m other
 gone_other m name other ne = get-remove nat_list_cmp_total m name other ∙ ap (λ b. cond b None (get m other)) (apart other name ne)
 
 -- ---- lengths

@@ -62,6 +62,15 @@ impl MemoryOutbox {
     {
         self.files.insert(name, octets)
     }
+
+    /// Removes the file of a name, if there is one, and answers its octets. The other files stay.
+    pub fn remove(&mut self, name: &[u8]) -> Option<Vec<u8>>
+        ensures octets { option_map (λ octets. octets.items) result
+            ≡ map.get self.old name.now }
+        ensures files { self.new ≡ map.remove self.old name.now }
+    {
+        self.files.remove(name)
+    }
 }
 
 impl Outbox for MemoryOutbox {
