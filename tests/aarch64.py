@@ -11,14 +11,14 @@ a program prints is compared with what it prints here, over the archive of x86-6
 stack.c measures. The last line is 'N passed, M failed'.
 """
 import os
-import re
 import shutil
 import subprocess
 import sys
 import tempfile
 
-HERE = os.path.dirname(os.path.abspath(__file__))
-TOP = os.path.dirname(HERE)
+from lib.counting import Count, taken
+from lib.paths import TESTS, TOP
+
 C, OUT = f"{TOP}/bindings/c", f"{TOP}/crates/cfdp_c/out"
 TARGET = "aarch64-unknown-linux-gnu"
 SECONDS = 1200
@@ -31,7 +31,7 @@ STRICT = ["-std=c99", "-O2", "-Wall", "-Wextra", "-Wpedantic", "-Werror", f"-I{C
 FOLDER = "an empty folder"
 TRANSFER = [f"{C}/examples/transfer.c", f"{C}/heap.c"]
 PROGRAMS = [(TRANSFER, [octets]) for octets in ("0", "1", "100000")]
-PROGRAMS += [([f"{HERE}/calls.c"], []), ([f"{C}/tests/forgetting.c"], ["20"])]
+PROGRAMS += [([f"{TESTS}/c/calls.c"], []), ([f"{C}/tests/forgetting.c"], ["20"])]
 PROGRAMS += [([f"{C}/tests/in_a_pool.c", f"{C}/pool.c"], ["1000"])]
 PROGRAMS += [([f"{C}/tests/{it}.c", f"{C}/heap.c"], [FOLDER]) for it in ("folders", "stack")]
 
@@ -82,22 +82,19 @@ def mistakes_of(sources, words, room):
 def main(words):
     if "--tools" in words:
         return 0 if look_for_tools() else 1
-    counted = words[words.index("--after") + 1] if "--after" in words else "0 passed, 0 failed"
-    passed, failed = map(int, re.search(r"(\d+) passed, (\d+) failed", counted).groups())
+    count = Count("tests/aarch64.py", taken(words, "--after"))
+    archive = f"{OUT}/{TARGET}/libcfdp_c.a"
     if not has_tools():
         print(f"no {' or '.join(TOOLS)}: nothing is run on aarch64")
-    elif not os.path.isfile(f"{OUT}/{TARGET}/libcfdp_c.a"):
-        print(f"there is no archive for {TARGET}: `.ci/archive --target {TARGET}` makes it")
-        failed += 1
+    elif not os.path.isfile(archive):
+        lacks = f"there is no {archive}: `.ci/archive --target {TARGET}` makes it"
+        count.add("the archive", [lacks])
     else:
         with tempfile.TemporaryDirectory() as room:
             for sources, arguments in PROGRAMS:
-                mistakes = [*mistakes_of(sources, arguments, room)]
-                for it in mistakes:
-                    print(f"{os.path.basename(sources[0])} on aarch64: {it}")
-                passed, failed = passed + (not mistakes), failed + bool(mistakes)
-    print(f"{passed} passed, {failed} failed")
-    return 1 if failed else 0
+                what = f"{os.path.basename(sources[0])} on aarch64"
+                count.add(what, mistakes_of(sources, arguments, room))
+    return count.end()
 
 
 if __name__ == "__main__":

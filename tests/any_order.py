@@ -7,8 +7,9 @@ and run up to there: as many lines as a station told then are those of its lives
 import random
 import subprocess
 
-import stations
-from sweeps import checksum_of, files_of
+from lib.choices import seeds
+from lib.pdus import checksum_of
+from lib.scripts import files_of
 
 SCRIPTS, SECONDS = 120, 600
 
@@ -69,12 +70,6 @@ def report_of(program, script):
     if ran.returncode > 1 or ran.stderr:
         raise ValueError(f"status {ran.returncode}, {ran.stderr!r}")
     return ran.stdout.splitlines()
-
-
-def is_of_any_order(script):
-    """Whether a script runs over such a link, so that nothing can be shown of it."""
-    verbs = ("overtake ", "repeat ", "restart ")
-    return any(it.startswith(verbs) for it in script.split("\n"))
 
 
 def told_in(report):
@@ -170,7 +165,7 @@ def faults_of(program, script):
 def trials(program):
     """All scripts: a name, and what is wrong with it."""
     complete = 0
-    for seed in stations.seeds(SCRIPTS):
+    for seed in seeds(SCRIPTS):
         try:
             wrong, count = faults_of(program, script_of(seed))
         except Exception as error:  # pylint: disable=broad-except

@@ -18,12 +18,13 @@ import subprocess
 import sys
 import tempfile
 
-import unchecked
+from lib.paths import TESTS, TOP
 
-HERE = os.path.dirname(os.path.abspath(__file__))
-TOP = os.path.dirname(HERE)
-tools_try = unchecked.tools_try()
-Unbuilt = tools_try.Unbuilt
+import programs
+import toolchain
+from toolchain import Unbuilt
+
+tools_try = programs.tool("try")
 
 # Not optimised, it takes minutes for the transcripts of a million frames and of a file of 4 GiB.
 KIND = tools_try.Kind("test_bench", None, None, "-O2", 1)
@@ -44,23 +45,17 @@ def written(folder, files):
 def texts():
     """The text of each of its files, by the file's name without the suffix."""
     found = {}
-    for path in sorted(glob.glob(f"{HERE}/bench/*.rs")):
+    for path in sorted(glob.glob(f"{TESTS}/bench/*.rs")):
         with open(path, encoding="utf-8") as it:
             found[os.path.basename(path)[:-3]] = it.read()
     return found
 
 
 def crate_of(rtlib, whole):
-    """The bench, as the toolchain's own module has a crate: it uses each crate that its text names,
-    and crates.txt doesn't list it."""
-    crate, known = rtlib.Crate.__new__(rtlib.Crate), {}
-    crate.name, crate.of_kit, crate.deps = KIND.name, [*OF_KIT], []
-    for name in sorted(os.listdir(f"{TOP}/crates")):
-        if re.search(rf"\b{name}::", whole):
-            folder = f"{TOP}/crates/{name}"
-            known[folder] = known.get(folder) or rtlib.Crate(folder, TOP, known)
-            crate.deps.append(known[folder])
-    return crate
+    """The bench as a crate, which uses each crate that its text names."""
+    names = [it for it in sorted(os.listdir(f"{TOP}/crates")) if re.search(rf"\b{it}::", whole)]
+    folders = [f"{TOP}/crates/{it}" for it in names]
+    return toolchain.unlisted_crate(rtlib, KIND.name, OF_KIT, folders, TOP)
 
 
 class Bench(tools_try.Built):
@@ -70,7 +65,7 @@ class Bench(tools_try.Built):
         self.texts = texts()
         crate = crate_of(rtlib, "".join(self.texts.values()))
         used = crate.below()
-        super().__init__(KIND, kit, crate, used)
+        super().__init__(KIND, kit, rtlib, crate, used)
         folders = [it.folder for it in used]
         self.sum = tools_try.sum_of_sources(kit, (KIND, self.texts), self.libraries, folders)
 
@@ -81,7 +76,8 @@ class Bench(tools_try.Built):
 
 def built():
     """Where the program is; it is built if it isn't there, or isn't of these sources."""
-    bench = Bench(*tools_try.toolchain())
+    kit, _, rtlib = toolchain.modules_or_end("tests/bench.py")
+    bench = Bench(kit, rtlib)
     with tools_try.alone():
         if not bench.is_built():
             bench.make()
@@ -90,7 +86,7 @@ def built():
 
 def layout(flag, folder):
     """What `rattle fmt` says of its files, which are copied into this folder."""
-    words = [f"{tools_try.toolchain()[0]}/bin/rattle", "fmt", flag, *written(folder, texts())]
+    words = [f"{toolchain.folder()}/bin/rattle", "fmt", flag, *written(folder, texts())]
     ran = subprocess.run(words, capture_output=True, text=True, check=False)
     return f"{ran.stdout}{ran.stderr}" if ran.returncode else ""
 
@@ -108,7 +104,7 @@ def lay_out():
         if said := layout("--write", folder):
             sys.exit(f"tests/bench.py: {said}")
         for name in texts():
-            shutil.copyfile(f"{folder}/{name}.rt", f"{HERE}/bench/{name}.rs")
+            shutil.copyfile(f"{folder}/{name}.rt", f"{TESTS}/bench/{name}.rs")
 
 
 def main(words):

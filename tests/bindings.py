@@ -21,14 +21,15 @@ import subprocess
 import sys
 import tempfile
 
-HERE = os.path.dirname(os.path.abspath(__file__))
-TOP = os.path.dirname(HERE)
+from lib.choices import chance_of
+from lib.counting import Count, taken
+from lib.paths import ARCHIVE, PROGRAM, TESTS, TOP
+from lib.ports import free_ports, is_bound
+from lib.processes import PATIENT
+from lib.waiting import waits_for
+
 CRATE, C, RUST = f"{TOP}/crates/cfdp_c", f"{TOP}/bindings/c", f"{TOP}/bindings/rust"
 SECONDS = 1200
-
-sys.path.insert(0, HERE)
-sys.dont_write_bytecode = True
-import stations
 
 # The edition of the wrapper in Rust, and the version of clippy that was answered: another one says
 # other things.
@@ -255,11 +256,20 @@ def code_mistakes():
 
 
 def release_mistakes():
-    """Where the header belongs to another release than the crate for Rust."""
-    header = re.search(r'#define CFDP_RELEASE "(.*)"', text_of(f"{C}/cfdp.h"))[1]
-    crate = re.search(r'^version = "(.*)"', text_of(f"{RUST}/Cargo.toml"), re.M)[1]
-    if header != crate:
-        yield f"cfdp.h is of release {header}, the crate for Rust of {crate}"
+    """Each file that names another release than the header."""
+    header = text_of(f"{C}/cfdp.h")
+    release = re.search(r'#define CFDP_RELEASE "(.*)"', header)[1]
+    parts = re.findall(r"#define CFDP_RELEASE_(?:MAJOR|MINOR|PATCH) (\d+)", header)
+    if release.split("-")[0] != ".".join(parts):
+        yield f"CFDP_RELEASE is {release}, its parts are {parts}"
+    for path, pattern in (
+        ("bindings/rust/Cargo.toml", r'^version = "(.*)"'),
+        ("crates/cfdp_command_line/src/arguments.rt", r'^pub const VERSION: &str = "(.*)";'),
+        ("CHANGELOG.md", r"^## \[(\d.*)\]"),
+    ):
+        found = re.search(pattern, text_of(f"{TOP}/{path}"), re.M)
+        if not found or found[1] != release:
+            yield f"cfdp.h is of release {release}, {path} of {found and found[1]}"
 
 
 def guide_mistakes():
@@ -300,7 +310,7 @@ def name_mistakes(archive):
 
 def uncalled_mistakes():
     """Exports that none of these programs calls."""
-    files = (f"{HERE}/calls.c", f"{C}/tests/forgetting.c", f"{C}/tests/folders.c")
+    files = (f"{TESTS}/c/calls.c", f"{C}/tests/forgetting.c", f"{C}/tests/folders.c")
     files = (*files, f"{C}/tests/securing.c")
     text = "".join(map(text_of, files))
     for name in in_header(0)[0]:
@@ -416,7 +426,7 @@ class Bindings:
     def folders_mistakes(self):
         """What is wrong where the example sends a file from a folder into another one."""
         outbox, inbox = self.empty_folder(), self.empty_folder()
-        octets = stations.chance_of(70).randbytes(700_001)
+        octets = chance_of(70).randbytes(700_001)
         with open(f"{outbox}/a.bin", "wb") as it:
             it.write(octets)
         example = [f"{C}/examples/folders.c", f"{C}/heap.c"]
@@ -448,6 +458,7 @@ class Bindings:
         forgetting = [f"{C}/tests/forgetting.c"]
         pool = [f"{C}/tests/in_a_pool.c", f"{C}/pool.c"]
         pools = [f"{C}/tests/pools.c", f"{C}/pool.c"]
+        gaps = [f"{C}/tests/gaps.c", f"{C}/pool.c"]
         guide = [f"{C}/tests/guide.c", f"{C}/pool.c"]
         folders = [f"{C}/tests/folders.c", f"{C}/heap.c"]
         securing = [f"{C}/tests/securing.c", f"{C}/heap.c"]
@@ -455,13 +466,15 @@ class Bindings:
             for octets in ("0", "1", "100000"):
                 what = f"transfer.c, {octets} octets{name}"
                 yield what, self.c_mistakes(C99, example, flags, front, [octets])
-            yield f"calls.c{name}", self.c_mistakes(C99, [f"{HERE}/calls.c"], flags, front, [])
+            yield f"calls.c{name}", self.c_mistakes(C99, [f"{TESTS}/c/calls.c"], flags, front, [])
             rounds = ["20"] if front else []
             yield f"forgetting.c{name}", self.c_mistakes(C99, forgetting, flags, front, rounds)
             puts = ["200"] if front else []
             yield f"in_a_pool.c{name}", self.c_mistakes(C99, pool, flags, front, puts)
             alone = ["-DCFDP_POOL=16", *flags]
             yield f"pools.c{name}", self.c_mistakes(C99, pools, alone, front, [])
+            short = ["1000"] if front else []
+            yield f"gaps.c{name}", self.c_mistakes(C99, gaps, alone, front, short)
             words = [self.empty_folder()]
             yield f"folders.c{name}", self.c_mistakes(C99, folders, flags, front, words)
             yield f"securing.c{name}", self.c_mistakes(C99, securing, flags, front, [])
@@ -480,6 +493,7 @@ class Bindings:
             yield "forgetting.c as C++", self.c_mistakes(CPP, forgetting, [], [], [])
             yield "in_a_pool.c as C++", self.c_mistakes(CPP, pool, [], [], ["200"])
             yield "pools.c as C++", self.c_mistakes(CPP, pools, ["-DCFDP_POOL=16"], [], [])
+            yield "gaps.c as C++", self.c_mistakes(CPP, gaps, ["-DCFDP_POOL=16"], [], [])
         else:
             print("no c++: nothing is compiled as C++")
 
@@ -582,14 +596,15 @@ class Bindings:
 
     def udp_mistakes(self, made):
         """What is wrong where a program's station sends a file to one of cfdp_node."""
-        ports, octets = stations.free_ports(2), 300_000
+        ports, octets = free_ports(2), 300_000
         with tempfile.TemporaryDirectory(dir=self.room) as folder:
             words = ["--listen", f"127.0.0.1:{ports[1]}", "--to", f"127.0.0.1:{ports[0]}"]
             ids = ["--id", "2", "--peer", "1", "--inbox", folder, "--idle", "20"]
-            settings = stations.PATIENT.items()
+            settings = PATIENT.items()
             sets = [it for key, value in settings for it in ("--set", key, str(value))]
             node = [self.program, "station", "--no-time", *ids, *words, *sets]
             with subprocess.Popen(node, stdout=subprocess.PIPE, stderr=subprocess.STDOUT) as peer:
+                waits_for(lambda: is_bound(ports[1]) or peer.poll() is not None)
                 yield from run_mistakes([made, "udp", str(ports[0]), str(ports[1]), str(octets)])
                 told = peer.communicate(timeout=SECONDS)[0].decode()
             size = os.path.getsize(f"{folder}/received.raw") if os.listdir(folder) else None
@@ -638,37 +653,25 @@ def tell_figures(archive, room):
     subprocess.run([*C99, *files, "-s", "-Wl,--gc-sections", "-o", made], check=True)
     print(f"archive {os.path.getsize(archive)} octets, stripped transfer {os.path.getsize(made)}")
     stack, pool = [f"{C}/tests/stack.c", f"{C}/heap.c"], [f"{C}/tests/in_a_pool.c", f"{C}/pool.c"]
-    figures = [f"{HERE}/figures.c", f"{C}/heap.c"]
+    figures = [f"{TESTS}/c/figures.c", f"{C}/heap.c"]
     for sources, words in ((figures, []), (stack, [tempfile.mkdtemp(dir=room)]), (pool, [])):
         subprocess.run([*C99, *sources, f"{C}/errno.c", archive, "-o", made], check=True)
         subprocess.run([made, *words], check=True)
 
 
-def taken(words, name):
-    """The word behind this one, if it is there."""
-    return words[words.index(name) + 1] if name in words else None
-
-
 def main(words):
-    counted = taken(words, "--after") or "0 passed, 0 failed"
-    passed, failed = map(int, re.search(r"(\d+) passed, (\d+) failed", counted).groups())
-    archive = os.path.abspath(taken(words, "--archive") or f"{CRATE}/out/libcfdp_c.a")
-    program = os.path.abspath(taken(words, "--program") or f"{TOP}/crates/cfdp_node/out/cfdp_node")
+    count = Count("tests/bindings.py", taken(words, "--after"))
+    archive = os.path.abspath(taken(words, "--archive") or ARCHIVE)
+    program = os.path.abspath(taken(words, "--program") or PROGRAM)
     if not os.path.isfile(archive):
-        print(f"there is no {archive}: `.ci/archive` makes it")
-        print(f"{passed} passed, {failed + 1} failed")
-        return 1
+        count.add("the archive", [f"there is no {archive}: `.ci/archive` makes it"])
+        return count.end()
     with tempfile.TemporaryDirectory() as room:
         if "--figures" in words:
             tell_figures(archive, room)
             return 0
-        for what, mistakes in Bindings(archive, program, room).runs():
-            mistakes = [*mistakes]
-            for it in mistakes:
-                print(f"{what}: {it}")
-            passed, failed = passed + (not mistakes), failed + bool(mistakes)
-    print(f"{passed} passed, {failed} failed")
-    return 1 if failed else 0
+        count.add_all(Bindings(archive, program, room).runs())
+    return count.end()
 
 
 if __name__ == "__main__":

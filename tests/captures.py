@@ -10,7 +10,7 @@ PDUS = [(EOF, "eof 1:1 0 D7656C6C 5"), (b"\x20", "error 1 Short")]
 # The magic numbers of pcap: of times in microseconds, and in nanoseconds.
 MICRO, NANO = 0xA1B2C3D4, 0xA1B23C4D
 
-ETHERNET, NULL, LOOP, RAW, SLL, SLL2, USER = 1, 0, 108, 101, 113, 276, 147
+ETHERNET, NULL, LOOP, RAW, SLL, SLL2, USER, UPPER = 1, 0, 108, 101, 113, 276, 147, 252
 
 
 # ---- what packets are made of
@@ -45,6 +45,12 @@ def cooked(network, kind=0x0800):
 
 def cooked2(network, kind=0x0800):
     return struct.pack(">HHIHBB8s", kind, 0, 1, 1, 0, 6, bytes(8)) + network
+
+
+def upper(pdu, name=b"cfdp", ends=True):
+    """An upper PDU of Wireshark: the name of its dissector, the end of tags, and the PDU."""
+    tag = struct.pack(">HH", 12, len(name)) + name
+    return tag + bytes(4 * ends) + pdu
 
 
 # ---- what files are made of
@@ -245,6 +251,28 @@ def fault_mistakes(program):
         yield from differs(program, what, file, [f"error {fault}"])
 
 
+def upper_mistakes(program):
+    """What is wrong with upper PDUs: those of CFDP are read, and no others."""
+    for order in "<>":
+        packets = [upper(pdu) for pdu, _ in PDUS]
+        yield from differs(program, f"upper {order}", pcap(packets, UPPER, order), LINES)
+        blocks = section(order) + interface(order, UPPER)
+        blocks += b"".join(enhanced(it, order) for it in packets)
+        yield from differs(program, f"upper, blocks {order}", blocks, LINES)
+    other = "error 26 OtherLink 252"
+    cases = (
+        ("another dissector", upper(EOF, b"cfdq"), other),
+        ("a longer name", upper(EOF, b"cfdp.pdu"), other),
+        ("no end of tags", upper(EOF, ends=False), other),
+        ("half of the tags", upper(b"")[:11], other),
+        ("nothing", b"", other),
+        ("tags alone", upper(b""), "error 1 Short"),
+    )
+    for what, packet, line in cases:
+        file = pcap([packet, upper(EOF)], UPPER)
+        yield from differs(program, what, file, [line, LINES[0]])
+
+
 def own_mistakes(program):
     """What is wrong where `dump` reads a capture that the program wrote: it has to tell the PDUs
     that the trace of the same run says were sent."""
@@ -293,6 +321,7 @@ def all_mistakes(program):
     yield "captures of what is no PDU in UDP", passed_mistakes(program)
     yield "captures with all kinds of blocks", block_mistakes(program)
     yield "captures that end too soon, or can't be read", fault_mistakes(program)
+    yield "captures of upper PDUs", upper_mistakes(program)
     yield "captures that the program wrote", own_mistakes(program)
     yield "captures of frames, and what they carry", deep_mistakes(program)
     yield "captures at the limit", limit_mistakes(program)

@@ -3,7 +3,6 @@
 
     tests/console.py [PROGRAM]    all of it, by this program or by that which `rt ci` leaves
     tests/console.py --tools      looks for a browser: status 0 where there is one
-    tests/console.py --picture FILE [PROGRAM]    draws the page of a station at work
 
 Its page is tried in a browser (`console_page.py`), Debian's chromium; where there is none that is
 said, and not tried. Where it lacks, --tools has it installed, if it may and can.
@@ -19,22 +18,20 @@ import re
 import socket
 import subprocess
 import sys
-import tempfile
-import threading
 import time
-import types
 
-import browser
+import console_details
 import console_page
-import control
-import stations
-from links import SLACK, TRIALS, Link, Relay
-from stations import PATIENT
+from lib import browser
+from lib.console import PATIENCE, Console, all_of, keep_token
+from lib.counting import print_all
+from lib.links import Link, Relay
+from lib.processes import PATIENT
+from lib.program import program_of
+from lib.waiting import SECONDS, SLACK, TRIALS, Timed, in_one_of
 
-TOP = os.path.dirname(os.path.dirname(os.path.abspath(__file__)))
-
-# The most connections, the most octets of a request, and for how many seconds a slow one stays.
-MOST_OPEN, MOST_OCTETS, PATIENCE = 16, 65536, 10
+# The most connections, and the most octets of a request.
+MOST_OPEN, MOST_OCTETS = 16, 65536
 
 TOKEN = "0123456789abcdef-token"
 
@@ -42,13 +39,14 @@ TOKEN = "0123456789abcdef-token"
 # the rest are late for what else runs on the machine. With SLACK=1 it is a millisecond.
 LATE, SHARE = 0.001 * SLACK, 0.95
 
-# A client that asks for all that there is, again and again, and tells how many answers it had.
+# A client that asks for all that there is, again and again, for five seconds, or on a slow machine
+# until it had seven answers, and tells how many it had.
 CLIENT = """
 import http.client, sys, time
-port, stop, is_kept = int(sys.argv[1]), time.monotonic() + float(sys.argv[2]), "one" in sys.argv[3]
+port, began, is_kept = int(sys.argv[1]), time.monotonic(), "one" in sys.argv[2]
 paths = ("/transactions", "/log", "/history", "/metrics", "/")
 it, count = None, 0
-while time.monotonic() < stop:
+while time.monotonic() < began + 5 or count < 7 and time.monotonic() < began + 60:
     try:
         it = it or http.client.HTTPConnection("127.0.0.1", port, timeout=15)
         it.request("GET", paths[count % 5])
@@ -61,103 +59,26 @@ print(count)
 """
 
 
-def keep_token(folder, text, mode=0o600):
-    """Writes a token into a file `token` in a folder, with this mode."""
-    os.makedirs(folder, exist_ok=True)
-    with open(f"{folder}/token", "w", encoding="ascii") as it:
-        it.write(text)
-    os.chmod(f"{folder}/token", mode)
-
-
-class Console:
-    """A station with a console, its port, and the token that a client shows where there is one."""
-
-    def __init__(self, link, end, words, settings=None, token=None, **ways):
-        self.port, self.token = control.free_port(), token
-        words = [*words, "--console", f"127.0.0.1:{self.port}"]
-        if token:
-            keep_token(f"{link.folder}/{end}", token + "\n")
-            words += ["--console-token", "token"]
-        self.station = link.starts(end, words, settings, **ways)
-        ended = lambda: self.station.process.poll() is not None
-        stations.waits_for(lambda: control.is_answered(self.port) or ended())
-
-    def asks(self, method, path, headers=(), body=None):
-        """The status of an answer, its fields and its body."""
-        it = http.client.HTTPConnection("127.0.0.1", self.port, timeout=stations.SECONDS)
-        with contextlib.closing(it):
-            it.request(method, path, body=body, headers=dict(headers))
-            answer = it.getresponse()
-            return answer.status, answer.headers, answer.read().decode()
-
-    def gets(self, path):
-        """An object that is shown."""
-        status, _, body = self.asks("GET", path, self.shown())
-        if status != 200:
-            raise OSError(f"GET {path}: {status} {body}")
-        return json.loads(body)
-
-    def shown(self):
-        """The field with the token that it wants, or that the page is told."""
-        token = self.token or json.loads(self.asks("GET", "/token")[2])["token"]
-        return {"Authorization": f"Bearer {token}"}
-
-    def does(self, path, body=None):
-        """Has it do something: the status of the answer, and the answer."""
-        octets = None if body is None else json.dumps(body)
-        status, _, text = self.asks("POST", path, self.shown(), octets)
-        return status, json.loads(text)
-
-    def says(self, octets, seconds=PATIENCE + 5 + SLACK):
-        """What comes for these octets, until the connection is closed."""
-        with socket.create_connection(("127.0.0.1", self.port), timeout=seconds) as it:
-            with contextlib.suppress(ConnectionError):
-                it.sendall(octets)
-            return all_of(it)
-
-    def awaits(self, path, is_so, seconds=stations.SECONDS):
-        """Asks for an object until this is so of it; what it is at last."""
-        stop = time.monotonic() + seconds
-        while True:
-            found = self.gets(path)
-            if is_so(found) or time.monotonic() > stop:
-                return found
-            time.sleep(0.05)
-
-
-def all_of(it):
-    """All octets that come over a socket until it is closed; None where it isn't."""
-    octets = b""
-    try:
-        while True:
-            more = it.recv(65536)
-            if not more:
-                return octets
-            octets += more
-    except ConnectionError:
-        return octets
-    except TimeoutError:
-        return None
-
-
 # ---- what is shown
 
 
 # Paths with no station's state that has to be there, and the members that each object has.
 SHOWN = (
-    ("/status", {"closed", "counters", "dropped", "lines", "link", "open", "peer", "seconds",
-                 "station", "time", "timeout", "waiting"}),
+    ("/status", {"closed", "counters", "dropped", "failed", "lines", "link", "notes", "open",
+                 "peer", "phases", "seconds", "station", "time", "timeout", "told", "version",
+                 "waiting"}),
     ("/history", {"lost", "received", "seconds", "sent"}),
     ("/transactions", {"closed", "open"}),
     ("/transactions?after=0", {"closed", "open"}),
     ("/log", {"lines"}),
     ("/log?after=3", {"lines"}),
     ("/token", {"token"}),
+    ("/files", {"files"}),
 )
 
 # Paths at which nothing is.
 NOTHING = ("/index.html", "/log?after=x", "/log?before=3", "/transactions/1:99", "/puts", "/../",
-           "/transactions/1:1/cancel")
+           "/transactions/1:1/cancel", "/transactions/1:99/details", "/transactions//details")
 
 
 def shown_mistakes(program):
@@ -226,7 +147,8 @@ def metrics_mistakes(it):
     status, headers, body = it.asks("GET", "/metrics")
     if status != 200 or headers["Content-Type"] != "text/plain; version=0.0.4":
         yield f"GET /metrics: {status} {headers}"
-    form = r"# (HELP|TYPE) cfdp_\w+ .+|cfdp_\w+(\{layer=\"\w+\",cause=\"\w+\"\})? \d+"
+    name, label = r"(cfdp_\w+|process_start_time_seconds)", r"\w+=\"[\w .-]+\""
+    form = rf"# (HELP|TYPE) {name} .+|{name}(\{{{label}(,{label})*\}})? \d+"
     for line in body.splitlines():
         if not re.fullmatch(form, line):
             yield f"GET /metrics: {line}"
@@ -239,13 +161,18 @@ def metrics_mistakes(it):
 
 
 def deed_mistakes(program):
-    """What is wrong where files are put, suspended, resumed and cancelled by requests."""
+    """What is wrong where files are put, suspended, resumed and cancelled by requests. No frame
+    comes anywhere before that is done, so that no file is over before."""
     with Link(program, Relay()) as link:
+        link.relay.holds = True
         link.puts(1, {"a.bin": bytes(200_000), "b.bin": bytes(300_000), "c.bin": b"c"})
         link.starts(2, ["--inbox", "to"], PATIENT)
         it = Console(link, 1, ["--outbox", "from", "--rate", "100"], PATIENT)
+        if it.gets("/files") != {"files": ["a.bin", "b.bin", "c.bin"]}:
+            yield f"files that may be sent: {it.gets('/files')}"
         yield from put_mistakes(it)
         yield from change_mistakes(it)
+        link.relay.release()
         yield from freeze_mistakes(it)
         wanted = {"source": "c.bin", "destination": "d.bin", "first": True}
         status, answer = it.does("/puts", wanted)
@@ -256,6 +183,8 @@ def deed_mistakes(program):
         wanted = {"x.bin": (True, "a.bin"), "b.bin": (False, "b.bin"), "d.bin": (True, "c.bin")}
         if ends != wanted:
             yield f"closed: {found}"
+        if not all(0 < one["began"] <= one["time"] for one in found["closed"]):
+            yield f"when closed ones began and ended: {found}"
         last = found["closed"][-1]
         if it.gets(f"/transactions/{last['id']}") != last:
             yield f"/transactions/{last['id']}: another one"
@@ -410,7 +339,8 @@ def token_file_mistakes(program):
             makes(f"{link.folder}/2")
             words = ["--inbox", "to", "--console", "127.0.0.1:0", "--console-token", "token"]
             status, out, err = link.starts(2, words, waits=False).ended()
-        if status != wanted or out or not re.fullmatch(rf"error: --console-token token: {told}\n", err):
+        is_told = re.fullmatch(rf"error: --console-token token: {told}\n", err)
+        if status != wanted or out or not is_told:
             yield f"{told!r} is to end with {wanted}: status {status}, {out!r}, {err!r}"
     with Link(program) as link:
         it = Console(link, 2, ["--inbox", "to"], token=f"\n \t{TOKEN}{' ' * 4000}")
@@ -534,7 +464,7 @@ def crowd_mistakes(program):
     with Link(program) as link, contextlib.ExitStack() as stack:
         it = Console(link, 2, ["--inbox", "to"])
         for _ in range(64):
-            one = socket.create_connection(("127.0.0.1", it.port), timeout=stations.SECONDS)
+            one = socket.create_connection(("127.0.0.1", it.port), timeout=SECONDS)
             stack.enter_context(one).sendall(b"GET /status HTTP/1.1\r\n")
         began = time.monotonic()
         found = it.gets("/status")
@@ -566,7 +496,7 @@ def control_mistakes(program):
 
 def late_mistakes(program):
     """What is wrong with the times of frames, in one of some trials."""
-    yield from stations.in_one_of(TRIALS, lambda: late_trial_mistakes(program))
+    yield from in_one_of(TRIALS, lambda: late_trial_mistakes(program))
 
 
 def late_trial_mistakes(program):
@@ -576,11 +506,11 @@ def late_trial_mistakes(program):
         try:
             beside, own = (lateness(program, end, how) for end in (2, 1))
         except OSError as error:
-            yield stations.Timed(f"{how}: {error}")
+            yield Timed(f"{how}: {error}")
             continue
         if own - beside > LATE:
             apart = f"{own * 1e3:.2f} ms apart, and {beside * 1e3:.2f} ms where the peer is asked"
-            yield stations.Timed(f"{how}: frames are {apart}")
+            yield Timed(f"{how}: frames are {apart}")
 
 
 def lateness(program, end, how):
@@ -588,17 +518,17 @@ def lateness(program, end, how):
     cause, while clients ask the console of the station at this end."""
     relay = Relay()
     with Link(program, relay) as link:
-        link.puts(1, {"long": bytes(1_500_000)})
+        link.puts(1, {"long": bytes(20_000_000)})
         words = {1: ["--outbox", "from", "--put", "long", "long", "--rate", "1000"],
                  2: ["--inbox", "to"]}
         ports = {own: Console(link, own, words[own], PATIENT).port for own in (2, 1)}
-        call = [sys.executable, "-c", CLIENT, str(ports[end]), "5", how]
+        call = [sys.executable, "-c", CLIENT, str(ports[end]), how]
         clients = [subprocess.Popen(call, stdout=subprocess.PIPE) for _ in range(MOST_OPEN)]
         time.sleep(1)
         since = time.time()
         answers = sum(int(it.communicate()[0]) for it in clients)
         times = [when for when, own, _ in list(relay.came) if own == 1 and when >= since]
-    if answers < 100 or len(times) < 2000:
+    if answers < 100 or len(times) < 1000:
         raise OSError(f"{answers} answers, and {len(times)} frames")
     gaps = sorted(after - before for before, after in zip(times, times[1:]))
     return gaps[int(len(gaps) * SHARE)]
@@ -620,29 +550,15 @@ def all_mistakes(program):
     yield "the console: the control field of frames", control_mistakes(program)
     yield "the console: slow clients and a seventeenth", slow_mistakes(program)
     yield "the console: 64 slow clients", crowd_mistakes(program)
-    yield from console_page.all_mistakes(program, Console)
+    yield from console_details.all_mistakes(program)
+    yield from console_page.all_mistakes(program)
 
 
 def main(words):
     if words[:1] == ["--tools"]:
         return 0 if browser.look_for_browser() else 1
-    drawn = words[1] if words[:1] == ["--picture"] else None
-    words = words[2:] if drawn else words
-    path = os.path.abspath(words[0] if words else f"{TOP}/crates/cfdp_node/out/cfdp_node")
-    failed = 0
-    with tempfile.TemporaryDirectory() as room:
-        program = types.SimpleNamespace(path=path, room=room)
-        if drawn:
-            console_page.picture(program, Console, drawn)
-            return 0
-        for tried in (lone_mistakes, all_mistakes):
-            for what, wrong in tried(program):
-                found = list(wrong)
-                failed += bool(found)
-                print(f"{'failed' if found else 'passed'}: {what}", flush=True)
-                for it in found:
-                    print(f"    {it}", flush=True)
-    return 1 if failed else 0
+    with program_of(words) as program:
+        return print_all([*lone_mistakes(program), *all_mistakes(program)])
 
 
 if __name__ == "__main__":

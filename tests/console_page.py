@@ -5,51 +5,23 @@ Where there is no Chromium nothing of it is tried, which is said.
 """
 import contextlib
 import json
+import signal
 import threading
-import time
 
-import links
-from browser import Browser, path_of_browser
-from stations import PATIENT
+from console_details import Gaps, open_id
+from lib.browser import FAINT, NAMED, Browser, path_of_browser
+from lib.console import Console
+from lib.links import Link, Relay
+from lib.processes import PATIENT, files_at
+from lib.waiting import SLACK
 
 # The width and the height of a desk's window and of a telephone's.
 DESK, TELEPHONE = (1280, 1000), (390, 844)
 
 # For how many seconds something that the page is to show is waited for: it renews each second.
-SOON = 6 + links.SLACK
-
-# The least contrast of a text with what is behind it (Web Content Accessibility Guidelines, 1.4.3).
-CONTRAST = 4.5
+SOON = 6 + SLACK
 
 TEXT_OF = "document.getElementById('{}').textContent"
-
-# What a reader of the screen is told of an element has to have a name, where it is one of these.
-NAMED = {"button", "checkbox", "textbox", "searchbox", "progressbar", "image", "region", "link",
-         "table", "heading"}
-
-# Texts whose contrast with the color behind them is too small, as the page shows them.
-FAINT = """(() => {
-  const parts = (text) => text.match(/[\\d.]+/g).map(Number);
-  const light = ([red, green, blue]) => [red, green, blue].map((it) => it / 255)
-    .map((it) => it <= 0.04045 ? it / 12.92 : ((it + 0.055) / 1.055) ** 2.4)
-    .reduce((sum, it, place) => sum + it * [0.2126, 0.7152, 0.0722][place], 0);
-  const behind = (it) => {
-    for (; it; it = it.parentElement) {
-      const found = parts(getComputedStyle(it).backgroundColor);
-      if (found.length < 4 || found[3] === 1) return found;
-    }
-    return [255, 255, 255];
-  };
-  const faint = [];
-  for (const it of document.body.querySelectorAll("*")) {
-    const own = [...it.childNodes].filter((node) => node.nodeType === 3).map((node) => node.data);
-    if (!own.join("").trim() || !it.checkVisibility() || it.tagName === "SCRIPT") continue;
-    const [one, other] = [light(parts(getComputedStyle(it).color)), light(behind(it))];
-    const contrast = (Math.max(one, other) + 0.05) / (Math.min(one, other) + 0.05);
-    if (contrast < %s) faint.push(own.join("").trim().slice(0, 30) + ": " + contrast.toFixed(2));
-  }
-  return faint;
-})()""" % CONTRAST
 
 # Which element has the focus: its id, or its text.
 FOCUS = """(() => { const it = document.activeElement;
@@ -75,23 +47,23 @@ ALONE = threading.Lock()
 
 
 @contextlib.contextmanager
-def opened(program, make, words=(), token=None, files=None):
+def opened(program, words=(), token=None, files=None):
     """A station with a console, whose page a browser shows, and the link to its peer."""
     files = {"long.bin": bytes(4_000_000), "short.bin": b"short"} if files is None else files
-    with ALONE, links.Link(program, links.Relay()) as link, Browser() as page:
+    with ALONE, Link(program, Relay()) as link, Browser() as page:
         link.puts(1, files)
         link.starts(2, ["--inbox", "to"], PATIENT)
         every = ["--outbox", "from", "--inbox", "to", "--rate", "100", *words]
-        it = make(link, 1, every, PATIENT, token)
+        it = Console(link, 1, every, PATIENT, token)
         page.has_size(*DESK)
         page.shows(f"http://127.0.0.1:{it.port}/")
         yield link, it, page
 
 
-def put_mistakes(program, make):
+def put_mistakes(program):
     """What is wrong where files are put, cancelled, suspended and resumed by buttons."""
-    with opened(program, make) as (link, it, page):
-        if not page.awaits(text_is("state", "link up"), SOON):
+    with opened(program) as (link, it, page):
+        if not page.awaits(text_has("state", "link up"), SOON):
             yield f"the page says {page.finds(TEXT_OF.format('state'))}"
         for name in ("short.bin", "long.bin"):
             page.clicks("document.getElementById('source')")
@@ -104,17 +76,23 @@ def put_mistakes(program, make):
         if not page.awaits(text_has("closed", "short.bin"), SOON) or not page.awaits(
                 text_has("closed", "sent"), SOON):
             yield f"closed: {page.finds(TEXT_OF.format('closed'))}"
-        if links.stations.files_at(link.folder, 2).get("short.bin") != b"short":
+        if files_at(link.folder, 2).get("short.bin") != b"short":
             yield "the short file isn't at the peer"
         yield from bar_mistakes(page)
         yield from held_mistakes(it, page)
         page.clicks("document.querySelector('#open .harm')")
+        if not page.awaits("document.querySelector('#open .harm').textContent === 'Really?'", SOON):
+            yield "cancel doesn't ask whether that is meant"
+        page.clicks("document.querySelector('#open .harm')")
         if not page.awaits("document.querySelectorAll('#closed tr').length === 2", SOON):
             yield "cancel didn't end the file"
-        failed = "document.querySelector('#closed .bad')?.textContent === 'failed'"
-        if not page.awaits(failed, SOON):
+        if not page.awaits(text_has("closed", "cancelled"), SOON) or page.finds(
+                "document.querySelectorAll('#closed .bad').length"):
             yield f"closed: {page.finds(TEXT_OF.format('closed'))}"
-        if "long.bin" in links.stations.files_at(link.folder, 2):
+        if not page.awaits(text_is("f-cancelled", "1"), SOON) or not page.awaits(
+                "document.getElementById('fails').hidden", SOON):
+            yield f"what was cancelled counts as failed: {page.finds(TEXT_OF.format('fails'))}"
+        if "long.bin" in files_at(link.folder, 2):
             yield "a file that was cancelled is at the peer"
         yield from freeze_mistakes(it, page)
         yield from loaded_mistakes(it, page)
@@ -148,7 +126,7 @@ def freeze_mistakes(it, page):
     if not page.awaits(text_is("state", "frozen"), SOON):
         yield "the key f didn't freeze the link"
     page.clicks("document.getElementById('freeze')")
-    if not page.awaits(text_is("state", "link up"), SOON):
+    if not page.awaits(text_has("state", "link up"), SOON):
         yield "the button didn't thaw the link"
     if it.gets("/status")["link"]["state"] != "up":
         yield "the station's link isn't up"
@@ -162,10 +140,10 @@ def loaded_mistakes(it, page):
     yield from (f"the page: {what}" for what in page.mistakes())
 
 
-def kept_mistakes(program, make):
+def kept_mistakes(program):
     """What is wrong where the page renews while its user types, reads the log or looks for a line:
     all stays as it is."""
-    with opened(program, make, files={f"f{number}": b"x" for number in range(60)}) as (_, it, page):
+    with opened(program, files={f"f{number}": b"x" for number in range(60)}) as (_, it, page):
         for number in range(60):
             it.does("/puts", {"source": f"f{number}"})
         if not page.awaits("document.querySelectorAll('#closed tr').length === 60", 2 * SOON):
@@ -189,12 +167,20 @@ def kept_mistakes(program, make):
         it.does("/puts", {"source": "f2", "destination": "once"})
         if not page.awaits(f"{shown} === 62", SOON):
             yield f"of the log {page.finds(shown)} lines are shown, and not 62"
+        page.finds("document.getElementById('files-filter').focus()")
+        page.types("again")
+        rows = "[...document.querySelectorAll('#closed tr')].filter((it) => !it.hidden).length"
+        if not page.awaits(f"{rows} === 1", SOON):
+            yield f"of the closed ones {page.finds(rows)} are shown, and not 1"
+        names = "[...document.querySelectorAll('#files option')].map((it) => it.value)"
+        if sorted(page.finds(names)) != sorted(f"f{number}" for number in range(60)):
+            yield f"these files are offered: {page.finds(names)}"
 
 
-def markup_mistakes(program, make):
+def markup_mistakes(program):
     """What is wrong where names are markup, and where the file of the console's token is wanted."""
     token = "a-token-of-the-test"
-    with opened(program, make, token=token, files={"plain": b"x"}) as (_, it, page):
+    with opened(program, token=token, files={"plain": b"x"}) as (_, it, page):
         if not page.awaits("document.activeElement.id === 'token'", SOON):
             yield "the page doesn't ask for the token"
         for text, is_let_in in (("another-token-than", False), (token, True)):
@@ -202,7 +188,7 @@ def markup_mistakes(program, make):
             page.finds("document.getElementById('token').focus()")
             page.types(text)
             page.presses("Enter", "Enter", "\r")
-            if page.awaits(text_is("state", "link up"), SOON if is_let_in else 3) != is_let_in:
+            if page.awaits(text_has("state", "link up"), SOON if is_let_in else 3) != is_let_in:
                 yield f"the page with the token {text}: {page.finds(TEXT_OF.format('state'))}"
         name = "<b>x</b><img/src=x/onerror=alert(1)>"
         it.does("/puts", {"source": "plain", "destination": name})
@@ -214,10 +200,10 @@ def markup_mistakes(program, make):
             yield f"the log: {page.finds(TEXT_OF.format('lines'))}"
 
 
-def anew_mistakes(program, make):
+def anew_mistakes(program):
     """What is wrong where the station is killed and started anew: the page says so, and goes on."""
-    with opened(program, make) as (link, it, page):
-        if not page.awaits(text_is("state", "link up"), SOON):
+    with opened(program) as (link, it, page):
+        if not page.awaits(text_has("state", "link up"), SOON):
             yield "the page isn't up"
         it.does("/puts", {"source": "short.bin"})
         page.awaits("document.querySelectorAll('#closed tr').length === 1", SOON)
@@ -226,7 +212,7 @@ def anew_mistakes(program, make):
             yield f"where the station is gone: {page.finds(TEXT_OF.format('state'))}"
         words = ["--outbox", "from", "--inbox", "to", "--console", f"127.0.0.1:{it.port}"]
         link.starts(1, words, PATIENT)
-        if not page.awaits(text_is("state", "link up"), SOON):
+        if not page.awaits(text_has("state", "link up"), SOON):
             yield f"where it is there again: {page.finds(TEXT_OF.format('state'))}"
         if not page.awaits("document.querySelectorAll('#closed tr').length === 0", SOON):
             yield "what the station before closed is still shown"
@@ -237,9 +223,125 @@ def anew_mistakes(program, make):
             yield f"a put then: {page.finds(TEXT_OF.format('said'))}"
 
 
-def form_mistakes(program, make):
+def hung_mistakes(program):
+    """What is wrong where the station stands still, and goes on: the page says so."""
+    with opened(program) as (_, it, page):
+        it.does("/puts", {"source": "short.bin"})
+        if not page.awaits(f"{text_has('heard', 'last received')} && "
+                           f"{text_has('state', 'link up')}", SOON):
+            yield "the page isn't up"
+        it.station.process.send_signal(signal.SIGSTOP)
+        # It says so three seconds after the last answer, and looks each half second.
+        if not page.awaits(text_is("state", "no answer"), 5 + SLACK):
+            yield f"where the station hangs: {page.finds(TEXT_OF.format('state'))}"
+        if page.finds(TEXT_OF.format("heard")):
+            yield f"where the station hangs: {page.finds(TEXT_OF.format('heard'))}"
+        it.station.process.send_signal(signal.SIGCONT)
+        if not page.awaits(text_has("state", "link up"), SOON):
+            yield f"where it goes on: {page.finds(TEXT_OF.format('state'))}"
+
+
+# What is shown of one transaction: whether nothing else is, its rows of timers and of rounds, and
+# how many parts its bar has of each kind.
+ONE = """(() => {
+  const rows = (id) => [...document.getElementById(id).tBodies[0].rows]
+    .map((row) => [...row.cells].map((cell) => cell.textContent));
+  const shown = [...document.querySelectorAll("main > section")]
+    .filter((it) => it.checkVisibility()).map((it) => it.id);
+  const bar = (kind) => document.querySelectorAll("#parts ." + kind).length;
+  return { shown, timers: rows("timers"), rounds: rows("rounds"), held: bar("held"),
+    sent: bar("sent"), missing: bar("missing"),
+    text: document.getElementById("one").textContent };
+})()"""
+
+
+def one_mistakes(program):
+    """What is wrong with the page of one transaction: at a receiver that has gaps, at its sender,
+    and after it was closed."""
+    gaps, settings = Gaps(), {**PATIENT, "segment": 100}
+    with ALONE, Link(program, Relay(gaps)) as link, Browser() as page:
+        link.puts(1, {"gaps.bin": bytes(40_000)})
+        receiver = Console(link, 2, ["--inbox", "to"], settings)
+        words = ["--outbox", "from", "--put", "gaps.bin", "to.bin"]
+        sender = Console(link, 1, words, settings)
+        page.has_size(*DESK)
+        page.shows(f"http://127.0.0.1:{receiver.port}/")
+        ident = open_id(receiver)
+        page.awaits("document.querySelector('#open a') !== null", SOON)
+        page.clicks("document.querySelector('#open a')")
+        yield from receiver_page_mistakes(page, ident)
+        yield from unknown_mistakes(page)
+        page.shows(f"http://127.0.0.1:{sender.port}/#{ident}")
+        yield from sender_page_mistakes(page)
+        gaps.is_open = True
+        if not page.awaits(text_has("one-facts", "statesent"), SOON) or not page.awaits(
+                "!document.getElementById('no-timers').hidden", SOON):
+            yield f"closed: {page.finds(ONE)}"
+        page.clicks("document.getElementById('one-back')")
+        page.awaits("document.querySelector('#closed a') !== null", SOON)
+        if not page.awaits("!document.getElementById('one').checkVisibility()", SOON):
+            yield "the page of one transaction doesn't go back to all of them"
+        # The browser notes an answer of 404, which was wanted, as a mistake.
+        yield from (f"the page: {what}" for what in page.mistakes() if "404" not in str(what))
+
+
+def receiver_page_mistakes(page, ident):
+    """What is wrong with the page of a transaction whose file has gaps."""
+    if not page.awaits("document.getElementById('rounds').tBodies[0].rows.length >= 3", SOON):
+        yield f"there are no rounds: {page.finds(ONE)}"
+    if page.finds("location.hash") != f"#{ident}" or page.finds(FOCUS) != "one":
+        yield f"the address is {page.finds('location.hash')}, {page.finds(FOCUS)} has the focus"
+    one = page.finds(ONE)
+    if [it for it in one["shown"] if it != "notes"] != ["one"]:
+        yield f"shown besides: {one['shown']}"
+    if one["held"] != 64 or one["missing"] != 64 or one["sent"]:
+        yield f"the bar has {one['held']} parts held and {one['missing']} missing"
+    for word in (f"Transaction {ident}: gaps.bin \u2192 to.bin", "missing: ", "the first 64: ",
+                 "from the peer to here", "receiving, ", "rounds of NAKs"):
+        if word.rstrip(", ") not in one["text"]:
+            yield f"the page doesn't say '{word}': {one['text']}"
+    if [row[0] for row in one["timers"]] != ["data requested by NAKs", "next PDU of the peer"]:
+        yield f"timers: {one['timers']}"
+    if one["timers"][0][3] != "255" or int(one["timers"][0][2].replace(",", "")) < 1:
+        yield f"the timer of NAKs: {one['timers']}"
+    numbers = [int(row[0]) for row in one["rounds"]]
+    if numbers != sorted(numbers, reverse=True) or not one["rounds"][0][5].endswith(" .."):
+        yield f"rounds: {one['rounds']}"
+    for size in (DESK, TELEPHONE, (320, 640)):
+        page.has_size(*size, 2, size != DESK)
+        wide = page.finds("document.scrollingElement.scrollWidth")
+        if wide > size[0]:
+            yield f"in a window of {size[0]} the page of a transaction is {wide} wide"
+    page.has_size(*DESK)
+    for is_dark in (True, False):
+        page.is_dark(is_dark)
+        yield from (f"dark: {is_dark}: {text}" for text in page.finds(FAINT))
+    yield from name_mistakes(page)
+
+
+def unknown_mistakes(page):
+    """What is wrong with the page of a transaction that isn't known."""
+    page.finds("(location.hash = '#1:99999', 0)")
+    if not page.awaits("!document.getElementById('one-none').hidden", SOON):
+        yield f"an unknown transaction: {page.finds(ONE)}"
+
+
+def sender_page_mistakes(page):
+    """What is wrong with the page of a transaction at its sender, where data are requested."""
+    is_so = "document.getElementById('rounds').tBodies[0].rows.length >= 3"
+    if not page.awaits(is_so, SOON):
+        yield f"the sender has no rounds: {page.finds(ONE)}"
+    one = page.finds(ONE)
+    if one["sent"] != 1 or one["missing"] != 8 or one["held"]:
+        yield f"the bar of the sender: {one}"
+    for word in ("requested last: ", "the first 8: ", "from here to the peer", " PDUs"):
+        if word not in one["text"]:
+            yield f"the page of the sender doesn't say '{word}': {one['text']}"
+
+
+def form_mistakes(program):
     """What is wrong with names of elements, contrast, keys, and the page's width on a telephone."""
-    with opened(program, make) as (_, it, page):
+    with opened(program) as (_, it, page):
         it.does("/puts", {"source": "short.bin"})
         it.does("/puts", {"source": "long.bin", "destination": "a/longer/name/at/the/peer.bin"})
         page.awaits("document.querySelectorAll('#open li, #closed tr').length === 2", SOON)
@@ -256,7 +358,7 @@ def form_mistakes(program, make):
             yield "the button for light and dark does nothing"
         kept = page.finds(back)
         page.asks("Page.reload")
-        page.awaits(text_is("state", "link up"), SOON)
+        page.awaits(text_has("state", "link up"), SOON)
         if page.finds(back) != kept:
             yield "the form that was chosen isn't kept"
         for size in (DESK, TELEPHONE, (320, 640)):
@@ -307,40 +409,22 @@ def key_mistakes(page):
         " it.getAttribute('aria-label') || it.textContent)")
     if found != order:
         yield f"Tab goes through {found}, and not {order}"
-    for key, ident in (("p", "source"), ("/", "filter")):
+    for key, ident in (("p", "source"), ("/", "filter"), ("t", "files-filter")):
         page.presses("Escape", "Escape")
         page.presses(key, text=key)
         if page.finds("document.activeElement.id") != ident:
             yield f"the key {key} leads to {page.finds(FOCUS)}"
 
 
-def picture(program, make, path):
-    """Draws the page of a station that is at work for two minutes, as the documents show it."""
-    names = {"schedule.csv": 400_000, "telemetry-0041.bin": 2_400_000, "image-0107.fits": 1_200_000}
-    lost = iter(range(10**9))
-    with links.Link(program, links.Relay(lambda own, frame: next(lost) % 37 != 0)) as link, \
-            Browser() as page:
-        link.puts(1, {name: bytes(size) for name, size in names.items()})
-        link.puts(2, {"commands.txt": bytes(1_000_000)})
-        it = make(link, 1, ["--outbox", "from", "--inbox", "to", "--rate", "120"], PATIENT)
-        page.has_size(1080, 980)
-        page.shows(f"http://127.0.0.1:{it.port}/")
-        for name in names:
-            it.does("/puts", {"source": name})
-            if name == "schedule.csv":
-                words = ["--put", "commands.txt", "commands.txt", "--rate", "30"]
-                link.starts(2, ["--inbox", "to", "--outbox", "from", *words], PATIENT)
-            time.sleep(40)
-        page.draws(path)
-
-
-def all_mistakes(program, make):
-    """What is tried, with what is wrong in it; `make` starts a station with a console."""
+def all_mistakes(program):
+    """What is tried, with what is wrong in it."""
     if not path_of_browser():
         print("skipped: the page of the console in a browser, as no Chromium is here", flush=True)
         return
-    yield "the console's page: its buttons", put_mistakes(program, make)
-    yield "the console's page: what its user is at", kept_mistakes(program, make)
-    yield "the console's page: names and a token", markup_mistakes(program, make)
-    yield "the console's page: a station that is started anew", anew_mistakes(program, make)
-    yield "the console's page: names, contrast, keys, a telephone", form_mistakes(program, make)
+    yield "the console's page: its buttons", put_mistakes(program)
+    yield "the console's page: what its user is at", kept_mistakes(program)
+    yield "the console's page: names and a token", markup_mistakes(program)
+    yield "the console's page: a station that is started anew", anew_mistakes(program)
+    yield "the console's page: a station that stands still", hung_mistakes(program)
+    yield "the console's page: one transaction", one_mistakes(program)
+    yield "the console's page: names, contrast, keys, a telephone", form_mistakes(program)

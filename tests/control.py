@@ -11,10 +11,14 @@ import termios
 import threading
 import time
 
-import links
-import stations
-from links import SLACK, TRIALS, Link, Relay
-from stations import PATIENT
+from lib.choices import chance_of
+from lib.control import Client, asked, controlled, fits
+from lib.frames import idle_frame
+from lib.links import Link, Relay
+from lib.ports import ALONE, free_ports, is_bound
+from lib.processes import PATIENT, files_at, peak_of, put
+from lib.rates import silence_mistakes
+from lib.waiting import SECONDS, SLACK, TRIALS, in_one_of, waits_for
 
 # A station at rest wakes less often than so many times a second.
 MOST_WAKES = 20
@@ -23,100 +27,9 @@ MOST_WAKES = 20
 SOON = 0.3 + SLACK
 
 
-# Sockets that keep the ports that were given out. They don't listen, and a station may listen at
-# such a port beside them; but the system gives it to no connection that begins meanwhile.
-KEPT = []
-
-
-def free_port():
-    """A port of 127.0.0.1 for connections that nobody has, and that nobody else is given."""
-    with stations.ALONE:
-        it = socket.socket()
-        it.setsockopt(socket.SOL_SOCKET, socket.SO_REUSEADDR, 1)
-        it.bind(("127.0.0.1", 0))
-        KEPT.append(it)
-        return it.getsockname()[1]
-
-
-class Client:
-    """A connection to a control address; with little room for what comes if it `is_deaf`."""
-
-    def __init__(self, port, is_deaf=False):
-        self.socket, self.rest = socket.socket(), b""
-        if is_deaf:
-            self.socket.setsockopt(socket.SOL_SOCKET, socket.SO_RCVBUF, 4096)
-        self.socket.settimeout(stations.SECONDS)
-        self.socket.connect(("127.0.0.1", port))
-
-    def __enter__(self):
-        return self
-
-    def __exit__(self, *_):
-        self.socket.close()
-
-    def says(self, octets):
-        self.socket.sendall(octets)
-
-    def babbles(self, seconds):
-        """Asks for help, and reads no answer, until for so long it can't any more."""
-        self.socket.settimeout(seconds)
-        try:
-            while True:
-                self.socket.sendall(b"help\n" * 2000)
-        except TimeoutError:
-            pass
-
-    def breaks_off(self):
-        """Resets the connection."""
-        self.socket.setsockopt(socket.SOL_SOCKET, socket.SO_LINGER, b"\x01" + bytes(7))
-        self.socket.close()
-
-    def hears(self):
-        """The next answer, without the empty line at its end; None where none comes."""
-        while b"\n\n" not in self.rest:
-            try:
-                octets = self.socket.recv(65536)
-            except (ConnectionError, TimeoutError):
-                return None
-            if not octets:
-                return None
-            self.rest += octets
-        answer, self.rest = self.rest.split(b"\n\n", 1)
-        return answer.decode() + "\n"
-
-    def asks(self, line):
-        self.says(line.encode() + b"\n")
-        return self.hears()
-
-    def is_left(self):
-        """Whether the station has ended the connection, with nothing more said."""
-        try:
-            return self.socket.recv(1) == b""
-        except ConnectionError:
-            return True
-        except TimeoutError:
-            return False
-
-
-def controlled(link, end, words, settings=None, **ways):
-    """A station that takes commands at an address, and the port of that."""
-    port = free_port()
-    it = link.starts(end, [*words, "--control", f"127.0.0.1:{port}"], settings, **ways)
-    stations.waits_for(lambda: is_answered(port) or it.process.poll() is not None)
-    return it, port
-
-
-def is_answered(port):
-    """Whether somebody takes connections at this port."""
-    try:
-        socket.create_connection(("127.0.0.1", port), timeout=1).close()
-        return True
-    except OSError:
-        return False
-
-
 def apart(clients):
-    """These, each so much later than the one before that a clock of milliseconds tells them apart."""
+    """These clients, each so much later than the one before that a clock of milliseconds has
+    another time for it."""
     for it in clients:
         yield it
         time.sleep(0.01)
@@ -124,7 +37,7 @@ def apart(clients):
 
 def let_in(port):
     """A client that a station has taken on, and its first answer: so it has left those before."""
-    stop = time.monotonic() + stations.SECONDS
+    stop = time.monotonic() + SECONDS
     while True:
         client = Client(port)
         answer = client.asks("counters")
@@ -132,15 +45,6 @@ def let_in(port):
             return client, answer
         client.socket.close()
         time.sleep(0.05)
-
-
-def asked(program, port, *words):
-    """What `ask` answers: its status, and both outputs."""
-    whole = [program.path, "ask", f"127.0.0.1:{port}", *words]
-    with stations.ALONE:
-        it = subprocess.Popen(whole, stdout=subprocess.PIPE, stderr=subprocess.PIPE)
-    out, err = it.communicate(timeout=stations.SECONDS)
-    return it.returncode, out.decode(), err.decode()
 
 
 # ---- what is asked, and the answer
@@ -196,7 +100,7 @@ def help_mistakes(program):
     with Link(program) as link:
         _, port = controlled(link, 2, ["--inbox", "to"])
         answer = asked(program, port, "help")[1]
-    how = {"capture_output": True, "text": True, "timeout": stations.SECONDS, "check": True}
+    how = {"capture_output": True, "text": True, "timeout": SECONDS, "check": True}
     listed = subprocess.run([program.path, "ask", "--help"], **how).stdout
     _, _, listed = listed.partition("Commands of a station:\n")
     listed = [" ".join(it.split()) for it in listed.partition("\n\n")[0].splitlines()]
@@ -271,13 +175,6 @@ def line_mistakes(program):
             yield f"the station ended: {it.ended()}"
 
 
-def fits(answer, begins):
-    """Whether an answer begins so, is done ("ok|"), or isn't there (None)."""
-    if answer is None or begins is None:
-        return answer is begins
-    return answer.endswith("ok\n") if begins == "ok|" else answer.startswith(begins)
-
-
 def input_mistakes(program):
     """What is wrong with commands on standard input: their answers come on standard output, and its
     end is no command."""
@@ -290,7 +187,7 @@ def input_mistakes(program):
             time.sleep(0.2)
         it.process.stdin.close()
         answers = lambda: re.findall(r"(?m)^(?:ok$|error: .*)", it.text("stdout"))
-        stations.waits_for(lambda: len(answers()) >= 5)
+        waits_for(lambda: len(answers()) >= 5)
         time.sleep(1)
         found = answers()
         wanted = ["ok", "error: ", "error: the line is not", "error: the line has more", "ok"]
@@ -303,7 +200,7 @@ def input_mistakes(program):
             lines.write(text)
             lines.seek(0)
             it = link.starts(2, words, stdin=lines)
-            stations.waits_for(lambda: it.text("stdout").count("ok\n") >= text.count("\n"))
+            waits_for(lambda: it.text("stdout").count("ok\n") >= text.count("\n"))
             time.sleep(0.5)
             found = it.text("stdout").count("ok\n")
             if found != text.count("\n") or it.process.poll() is not None:
@@ -322,15 +219,9 @@ def takes_terminal():
     fcntl.ioctl(0, termios.TIOCSCTTY, 0)
 
 
-def ports_in_use():
-    """What the system tells of the sockets for datagrams."""
-    with open("/proc/net/udp", encoding="ascii") as it:
-        return it.read()
-
-
 def told_until(output, word):
     """What comes from an output until it has this word."""
-    told, stop = b"", time.monotonic() + stations.SECONDS
+    told, stop = b"", time.monotonic() + SECONDS
     while word not in told and time.monotonic() < stop:
         if select.select([output], [], [], 1)[0]:
             octets = os.read(output.fileno(), 4096)
@@ -359,20 +250,21 @@ def terminal_mistakes(program):
     first: it isn't stopped for reading there, and what is typed is taken once it is before it."""
     with Link(program) as link:
         words = [program.path, "station", "--id", "2", "--peer", "1", "--inbox", ".", "--commands"]
-        for option, port in zip(("--to", "--listen"), stations.free_ports(2)):
+        for option, port in zip(("--to", "--listen"), free_ports(2)):
             words += [option, f"127.0.0.1:{port}"]
         outer, inner = pty.openpty()
         ways = {"stdin": inner, "stderr": inner, "stdout": subprocess.PIPE}
         ways["preexec_fn"] = takes_terminal
-        with stations.ALONE:
+        with ALONE:
             shell = ["bash", "-c", BACKGROUND.format(" ".join(words))]
             it = subprocess.Popen(shell, cwd=link.folder, start_new_session=True, **ways)
-        is_up = lambda: f":{int(words[-1].rpartition(':')[2]):04X} " in ports_in_use()
-        stations.waits_for(is_up)
+        waits_for(lambda: is_bound(int(words[-1].rpartition(":")[2])))
         os.write(outer, b"counters\n")
         time.sleep(1)
         if select.select([it.stdout], [], [], 0)[0]:
-            yield f"in the background it writes {os.read(it.stdout.fileno(), 4096)!r}"
+            written = os.read(it.stdout.fileno(), 4096).splitlines()
+            if any(b" note " not in line for line in written):
+                yield f"in the background it writes {written!r}"
         with open(f"{link.folder}/go", "wb"):
             out = told_until(it.stdout, b"ok\n")
         out += interrupted(it, outer)
@@ -487,7 +379,7 @@ def asked_of(program, answers):
         def serves():
             connection, _ = listener.accept()
             with connection:
-                connection.settimeout(stations.SECONDS)
+                connection.settimeout(SECONDS)
                 connection.recv(4096)
                 answers(connection)
 
@@ -501,11 +393,11 @@ def asked_of(program, answers):
 def deaf_mistakes(program):
     """What is wrong where clients never read, close in the midst of an answer, or are reset: others
     are answered all the same, and little memory is taken."""
-    chance = stations.chance_of(46)
+    chance = chance_of(46)
     with Link(program) as link:
         it, port = controlled(link, 2, ["--inbox", "to"])
         deaf = [Client(port, is_deaf=True) for _ in range(4)]
-        before = stations.peak_of(it.process)
+        before = peak_of(it.process)
         babblers = [threading.Thread(target=client.babbles, args=(8,)) for client in deaf]
         for thread in babblers:
             thread.start()
@@ -521,7 +413,7 @@ def deaf_mistakes(program):
                     client.breaks_off()
         for thread in babblers:
             thread.join()
-        grown = stations.peak_of(it.process) - before
+        grown = peak_of(it.process) - before
         if grown > 16 << 20:
             yield f"it has taken {grown} octets for clients that don't read"
         for client in deaf:
@@ -535,13 +427,13 @@ def deaf_mistakes(program):
 
 def burst_mistakes(program):
     """What is wrong in a burst of commands, in one of some trials."""
-    yield from stations.in_one_of(TRIALS, lambda: burst_trial_mistakes(program))
+    yield from in_one_of(TRIALS, lambda: burst_trial_mistakes(program))
 
 
 def burst_trial_mistakes(program):
     """What is wrong where 10,000 lines come in a burst as a file is sent: each is answered, in
     order, and frames leave all the while."""
-    octets = stations.chance_of(43).randbytes(1_000_000)
+    octets = chance_of(43).randbytes(1_000_000)
     with Link(program, Relay()) as link:
         receiver = link.starts(2, ["--inbox", "to"], PATIENT)
         words = link.puts(1, {"a": octets}) + ["--rate", "1000"]
@@ -557,7 +449,7 @@ def burst_trial_mistakes(program):
         if receiver.comes_to("finished .* 0 complete retained") is None:
             yield "the file didn't come"
         times = sorted(when for when, own, _ in list(link.relay.came) if own == 1)
-        yield from links.silence_mistakes(times[:4000], 1000)
+        yield from silence_mistakes(times[:4000], 1000)
 
 
 # ---- at rest
@@ -595,7 +487,7 @@ def rest_mistakes(program):
         clients[6].socket.shutdown(socket.SHUT_WR)
         clients[7].babbles(2)
         # What was asked so far is answered as far as there is room for that.
-        stop = time.monotonic() + stations.SECONDS
+        stop = time.monotonic() + SECONDS
         while wakes(it.process, 0.5)[1] > 0.05 and time.monotonic() < stop:
             pass
         for what in ("as it is", "while it is frozen"):
@@ -616,15 +508,22 @@ def rest_mistakes(program):
 # ---- a link that is down by plan
 
 
+def stopped(program, station, port):
+    """How a station ends that is told to stop once nothing is open there."""
+    waits_for(lambda: asked(program, port, "list")[1].startswith("open 0 "))
+    asked(program, port, "stop")
+    return station.ended()
+
+
 def freeze_mistakes(program):
     """What is wrong where a link is down by plan for longer than all timers: no frame leaves, no
     timer runs, what comes is thrown away, and once it is up again all goes on."""
-    octets = stations.chance_of(44).randbytes(60_000)
+    octets = chance_of(44).randbytes(60_000)
     soon = {"eof_time": 5, "eof_limit": 2, "nak_time": 5, "nak_limit": 2, "finished_time": 5}
     soon |= {"finished_limit": 2, "inactivity_time": 15}
     with Link(program, Relay()) as link:
-        receiver, there = controlled(link, 2, ["--inbox", "to", "--idle", "3"], soon)
-        words = link.puts(1, {"a": octets}) + ["--rate", "100", "--idle", "3"]
+        receiver, there = controlled(link, 2, ["--inbox", "to"], soon)
+        words = link.puts(1, {"a": octets}) + ["--rate", "100"]
         sender, here = controlled(link, 1, words, soon)
         while len(link.relay.came) < 60 and sender.process.poll() is None:
             time.sleep(0.01)
@@ -635,7 +534,7 @@ def freeze_mistakes(program):
         time.sleep(0.2)
         began = time.time()
         for count in range(50):
-            link.relay.give(1, links.idle_frame(count))
+            link.relay.give(1, idle_frame(count))
         time.sleep(20)
         link.relay.catches_up()
         late = link.relay.first(began)
@@ -652,10 +551,10 @@ def freeze_mistakes(program):
                 yield "thaw isn't answered ok"
         if receiver.comes_to("finished .* 0 complete retained") is None:
             yield f"the file didn't come: {receiver.text('stdout')!r}"
-        ends = sender.ended(), receiver.ended()
+        ends = [stopped(program, it, port) for it, port in ((sender, here), (receiver, there))]
         if any(status or "fault" in out for status, out, _ in ends):
             yield f"they ended so: {ends}"
-        if stations.files_at(link.folder, 2) != {"a": octets}:
+        if files_at(link.folder, 2) != {"a": octets}:
             yield "another file came"
 
 
@@ -666,10 +565,10 @@ def list_mistakes(program):
     line = r"open 1 waiting 0 timeout \S+\n(1:\d+) (\w+) a b 2000000 (\d+) (\S+) (\S+)\nok\n"
     with Link(program, Relay(lost)) as link:
         _, there = controlled(link, 2, ["--inbox", "to"], PATIENT)
-        stations.put(link.folder, 1, "a", stations.chance_of(45).randbytes(2_000_000))
+        put(link.folder, 1, "a", chance_of(45).randbytes(2_000_000))
         words = ["--outbox", "from", "--put", "a", "b", "--rate", "100"]
         _, here = controlled(link, 1, words, PATIENT)
-        stations.waits_for(lambda: len(link.relay.came) >= 100)
+        waits_for(lambda: len(link.relay.came) >= 100)
         told = [asked(program, port, "list")[1] for port in (here, there)]
         found = [re.fullmatch(line, it) for it in told]
         if not all(found):
@@ -683,7 +582,7 @@ def list_mistakes(program):
             yield f"the next time-outs are in {[it[4] for it in found]}"
         asked(program, here, "prompt", found[0][1], "keep")
         is_held = lambda: " held " in asked(program, here, "list")[1]
-        if not stations.waits_for(is_held):
+        if not waits_for(is_held):
             yield "a Keep Alive isn't told"
 
 

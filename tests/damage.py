@@ -2,9 +2,9 @@
 import binascii
 import time
 
-import links
-import stations
-from stations import PATIENT
+from lib.choices import chance_of
+from lib.links import Link, Relay
+from lib.processes import PATIENT, files_at, note_mistakes
 
 # How often a bit is turned.
 RATE = 1e-5
@@ -40,11 +40,11 @@ def frame_mistakes(own, frame, fields, zone):
         yield f"a frame of station {own} has the check {frame[-CHECK:].hex()}"
 
 
-class Damaging(links.Relay):
+class Damaging(Relay):
     """A relay that turns bits at this rate; `damaged` has how many frames it changed."""
 
     def __init__(self, rate, seed):
-        self.chance, self.rate, self.damaged = stations.chance_of(seed), rate, 0
+        self.chance, self.rate, self.damaged = chance_of(seed), rate, 0
         super().__init__()
 
     def give(self, own, frame):
@@ -60,7 +60,7 @@ class Damaging(links.Relay):
         super().give(own, came)
 
 
-class Renaming(links.Relay):
+class Renaming(Relay):
     """A relay that turns a bit of the destination's name in the first frame that has the name
     twice, as Metadata have it. `turned` says whether that frame came."""
 
@@ -80,14 +80,14 @@ def renamed_mistakes(program):
     """What is wrong where a bit of a file's name is turned and frames have no error control: the
     file has to come under its own name alone."""
     files = {"config": b"hello" * 1000}
-    with links.Link(program, Renaming(b"config")) as link:
+    with Link(program, Renaming(b"config")) as link:
         receiver = link.starts(2, ["--inbox", "to"], PATIENT)
         sender = link.starts(1, [*link.puts(1, files), "--idle", "5"], PATIENT)
         status, out, err = sender.ended()
         if status or not out.endswith("complete 1 of 1\n"):
             yield f"the sender: status {status}, {out!r}, {err!r}"
-        if stations.files_at(link.folder, 2) != files:
-            yield f"what came is {sorted(stations.files_at(link.folder, 2))}"
+        if files_at(link.folder, 2) != files:
+            yield f"what came is {sorted(files_at(link.folder, 2))}"
         if not link.relay.turned:
             yield "no frame with the names came"
         receiver.killed()
@@ -95,8 +95,8 @@ def renamed_mistakes(program):
 
 def damage_mistakes(program, rate, zone, count):
     """What is wrong where so many files go each way over a link that turns bits."""
-    chance = stations.chance_of(64)
-    with links.Link(program, Damaging(rate, 64)) as link:
+    chance = chance_of(64)
+    with Link(program, Damaging(rate, 64)) as link:
         files = {own: {f"{own}{number}": chance.randbytes(chance.randrange(1, 40_000))
                        for number in range(count)} for own in (1, 2)}
         words = {own: link.puts(own, files[own]) + ["--inbox", "to", "--idle", "20"]
@@ -110,7 +110,7 @@ def damage_mistakes(program, rate, zone, count):
             if "dropped: the frame was damaged on the way" not in err:
                 yield f"station {it.own} tells of no damage, but {err[-300:]!r}"
         for own in (1, 2):
-            if stations.files_at(link.folder, own) != files[3 - own]:
+            if files_at(link.folder, own) != files[3 - own]:
                 yield f"what came to station {own} isn't what was sent"
         for _, own, frame in list(link.relay.came):
             yield from frame_mistakes(own, frame, FIELDS, zone)
@@ -121,26 +121,27 @@ def damage_mistakes(program, rate, zone, count):
 def misfit_mistakes(program):
     """What is wrong where only one end has error control: nothing that comes is taken, and both
     ends say so."""
-    length = "a frame has 264 octets, but must have 266: the zone is 256 and other fields have 2"
     differs = ("error control {} the peer differs: 0 at the peer, 1 here",
                "error control {} the peer differs: 1 at the peer, 0 here")
-    yield from untaken_mistakes(program, (0, 0, 0), (0, 0, 1), length, differs)
+    yield from untaken_mistakes(program, (0, 0, 0), (0, 0, 1), None, differs)
     # Frames of one length: the last two octets of the zone aren't its check.
     yield from untaken_mistakes(program, (2, 0, 0), (0, 0, 1), "the frame was damaged", ())
 
 
 def untaken_mistakes(program, sent, taken, why, differs):
-    """What is wrong where station 1 sends frames with other fields than station 2 takes."""
+    """What is wrong where station 1 sends frames with other fields than station 2 takes: it says
+    why it drops them, unless beacons say in what the stations differ."""
     none = (0, 0, 0)
-    with links.Link(program, links.Relay()) as link:
+    with Link(program, Relay()) as link:
         sets = {1: settings_of(1, {1: sent, 2: none}), 2: settings_of(2, {1: taken, 2: none})}
         receiver = link.starts(2, ["--inbox", "to"], {**sets[2], "zone": 256})
         sender = link.starts(1, link.puts(1, {"a": b"hello"}), {**sets[1], "zone": 256})
         since = time.time()
-        yield from links.note_mistakes(receiver, rf"\d+ dropped: {why}", since, 5)
+        if why:
+            yield from note_mistakes(receiver, rf"\d+ dropped: {why}", since, 5)
         for it, way, told in zip((receiver, sender), ("from", "to"), differs):
-            yield from links.note_mistakes(it, told.format(way), since, 10)
-        if stations.files_at(link.folder, 2):
+            yield from note_mistakes(it, told.format(way), since, 10)
+        if files_at(link.folder, 2):
             yield "a file came"
 
 

@@ -1,13 +1,14 @@
-"""What the documents show and name: README.md beside the program, pages, headings, files; and which
-crates stand on which."""
+"""What the documents show, name and count: README.md beside the program, pages, headings, files,
+octets that no station sent; and which crates stand on which."""
 import glob
-import importlib.machinery
-import importlib.util
 import os
 import re
 import subprocess
 
-TOP = os.path.dirname(os.path.dirname(os.path.abspath(__file__)))
+from lib.paths import TOP
+
+import programs
+
 SECONDS = 600
 SCRIPT, CHART = "examples/lost_frame.script", "examples/lost_frame.mmd"
 FOLDERS = "tests|tools|examples|packaging|bindings|crates|docs|\\.ci"
@@ -24,6 +25,7 @@ SOURCES = (
     "bindings/*/*.h",
     "bindings/rust/src/*.rs",
     "tests/*.py",
+    "tests/lib/*.py",
 )
 # What runs a real station, and what it may not stand on.
 RUNNING = (
@@ -37,6 +39,26 @@ RUNNING = (
     "cfdp_watch",
 )
 SIMULATOR = "link_sim"
+COMMANDS = ([], ["sim"], ["dump"], ["loop"], ["station"], ["ask"])
+
+# What docs/PROOFS.md says of each group of questions, in the order of the transcripts: their verb,
+# how many of them go together, and which of their numbers is added up, 0 for what was tried and 1
+# for what was refused.
+GROUPS = (
+    ("prefixes", 14, 0, "({} at each)"),
+    ("replaced", 14, 0, "({} at each)"),
+    ("prefixes", 14, 0, "({} at each)"),
+    ("replaced", 14, 0, "({} at each)"),
+    ("prefixes", 2, 0, "({} and "),
+    ("replaced", 2, 0, "({} and "),
+    ("prefixes", 3, 0, " and {});"),
+    ("replaced", 3, 0, " and {})."),
+    ("replaced", 5, 0, "so ({}); and the proper prefixes of these"),
+    ("prefixes", 5, 0, "frames ({})."),
+    ("storm", 4, 0, ": {} frames, half"),
+    ("storm", 4, 1, "Of the million frames {} are refused"),
+)
+
 NAME = re.compile(r"[A-Za-z_][\w']*")
 
 
@@ -53,12 +75,11 @@ def pages():
             yield path, text_of(path)
 
 
-def drawing():
-    """What `tools/draw` makes of the chart."""
-    loader = importlib.machinery.SourceFileLoader("draw", f"{TOP}/tools/draw")
-    draw = importlib.util.module_from_spec(importlib.util.spec_from_loader("draw", loader))
-    loader.exec_module(draw)
-    return list(draw.drawn(text_of(CHART)))
+def helps(program, commands):
+    """What the program prints for `--help`, of each of these commands."""
+    how = {"capture_output": True, "text": True, "timeout": SECONDS, "check": True}
+    for words in commands:
+        yield " ".join(words), subprocess.run([program.path, *words, "--help"], **how).stdout
 
 
 def shown_mistakes(program):
@@ -66,7 +87,8 @@ def shown_mistakes(program):
     how = {"capture_output": True, "text": True, "timeout": SECONDS, "cwd": TOP, "check": True}
     report = subprocess.run([program.path, "sim", SCRIPT], **how).stdout.split("\n")[:-1]
     readme = text_of("README.md")
-    for what, lines in (("the drawing", drawing()), ("the report", report)):
+    drawing = list(programs.tool("draw").drawn(text_of(CHART)))
+    for what, lines in (("the drawing", drawing), ("the report", report)):
         if "".join(f"    {it.rstrip()}\n" for it in lines) not in readme:
             yield f"README.md doesn't show {what} of {SCRIPT}: {lines}"
 
@@ -154,14 +176,12 @@ def code_mistakes():
 def option_mistakes(program):
     """Options in the program's help that docs/FORMATS.md doesn't have, and the other way round."""
     formats, helped = text_of("docs/FORMATS.md"), set()
-    how = {"capture_output": True, "text": True, "timeout": SECONDS, "check": True}
-    for words in ([], ["sim"], ["dump"], ["loop"], ["station"], ["ask"]):
-        text = subprocess.run([program.path, *words, "--help"], **how).stdout
+    for words, text in helps(program, COMMANDS):
         options = set(re.findall(r"--[a-z][a-z-]+", text))
         helped |= options
         for option in sorted(options):
             if not re.search(rf"{option}\b", formats):
-                yield f"docs/FORMATS.md doesn't have {option} of {' '.join(words)}"
+                yield f"docs/FORMATS.md doesn't have {option} of {words}"
     for option in sorted(set(re.findall(r"`(--[a-z][a-z-]+)", formats)) - helped):
         yield f"docs/FORMATS.md has {option}, which no help has"
 
@@ -185,14 +205,21 @@ def direction_mistakes():
 
 def length_mistakes(program):
     """Helps that don't fit on two screens of 50 lines and 80 columns. A usage may be wider."""
-    how = {"capture_output": True, "text": True, "timeout": SECONDS, "check": True}
-    for words in ([], ["sim"], ["dump"], ["loop"], ["station"], ["ask"], ["play"]):
-        lines = subprocess.run([program.path, *words, "--help"], **how).stdout.splitlines()
+    for words, text in helps(program, (*COMMANDS, ["play"])):
+        lines = text.splitlines()
         if len(lines) > 100:
-            yield f"{' '.join(words)} --help has {len(lines)} lines"
+            yield f"{words} --help has {len(lines)} lines"
         for line in lines:
             if len(line) > 80 and not line.startswith("Usage: "):
-                yield f"{' '.join(words)} --help has a line of {len(line)} columns: {line}"
+                yield f"{words} --help has a line of {len(line)} columns: {line}"
+
+
+def word_mistakes(program):
+    """Turns with a better word in pages, comments and helps, and how often some words stand."""
+    words = programs.tool("words")
+    yield from words.all_mistakes()
+    for command, text in helps(program, (*COMMANDS, ["play"])):
+        yield from words.turn_mistakes(f"{command} --help", enumerate(text.splitlines(), 1))
 
 
 def contract_mistakes():
@@ -204,6 +231,39 @@ def contract_mistakes():
             yield f"tools/contract doesn't print {wanted!r}: {ran.stdout}{ran.stderr}"
 
 
+def tried_in_transcripts():
+    """How many octets or frames each question tried, and how many of them were refused, by the
+    verb of the question, in their order."""
+    found, verb = {}, None
+    text = text_of("tests/transcripts/strangers.txt").replace("\\\n", "")
+    for line in text.split("\n"):
+        told = re.fullmatch(r" (\d+) (\d+) (\d+)", line)
+        if told and verb:
+            found.setdefault(verb, []).append([int(it) for it in told.groups()])
+        if not line.startswith(" "):
+            asked = re.match(r"(prefixes|replaced|storm)\b", line)
+            verb = asked and asked[1]
+    return found
+
+
+def count_mistakes():
+    """What docs/PROOFS.md says of octets that no station sent, otherwise than transcripts do."""
+    found, place = tried_in_transcripts(), {}
+    text = " ".join(text_of("docs/PROOFS.md").split())
+    for verb, count, which, words in GROUPS:
+        first = place.get(verb, 0) if which == 0 else place[verb] - count
+        place[verb] = first + count
+        told = found.get(verb, [])[first : first + count]
+        wanted = words.format(f"{sum(it[which] for it in told):,}")
+        if len(told) != count or wanted not in text:
+            yield f"docs/PROOFS.md doesn't tell {wanted!r} of {len(told)} times {verb!r}"
+        if any(it[2] for it in told):
+            yield f"something changed that had to stay, at {verb!r}"
+    for verb, all_of_it in found.items():
+        if place.get(verb) != len(all_of_it):
+            yield f"there are {len(all_of_it)} questions {verb!r}, and not {place.get(verb)}"
+
+
 def all_mistakes(program):
     """Titles with what is wrong."""
     yield "the documents: what README.md shows", shown_mistakes(program)
@@ -213,4 +273,6 @@ def all_mistakes(program):
     yield "the documents: options of the program", option_mistakes(program)
     yield "the help of the program: its length", length_mistakes(program)
     yield "the documents: a contract with its definitions", contract_mistakes()
+    yield "the documents: their words", word_mistakes(program)
+    yield "the documents: octets that no station sent", count_mistakes()
     yield "the crates: a running station without the simulator", direction_mistakes()

@@ -1,14 +1,15 @@
-"""Which edits `.ci/edits` tries: after a change of a crate or of the kit, and by days."""
+"""Which edits `.ci/edits` tries: after a change of a crate or of the kit, and by days; and whether
+the kit has all that it uses (tools/toolchain.py)."""
 import os
 import shutil
 import subprocess
 import sys
 import tempfile
 
-TOP = os.path.dirname(os.path.dirname(os.path.abspath(__file__)))
 SECONDS = 600
 
-sys.path.insert(0, f"{TOP}/.ci")
+from lib.paths import TOP
+
 import refused
 
 # A small repository: `high` stands on `low`, and `other` on neither.
@@ -69,11 +70,11 @@ HARMLESS = "file: src/lib.rt\nfn: tiny::alike\nold:     let y = x;\nnew:     let
 
 # Prints the edits that have to be tried, or notes that these were refused, which nobody tried.
 ASKS = """
-import importlib.machinery, importlib.util, sys
-loader = importlib.machinery.SourceFileLoader("edits", ".ci/edits")
-edits = importlib.util.module_from_spec(importlib.util.spec_from_loader("edits", loader))
-sys.modules["edits"] = edits
-loader.exec_module(edits)
+import sys
+sys.dont_write_bytecode = True
+sys.path.insert(0, "tools")
+import programs
+edits = programs.program_at(".ci/edits", "edits")
 book = edits.book()
 book.note(sys.argv[1:], sys.argv[1:])
 print(*sorted(book.to_try(edits.refused.today())))
@@ -168,9 +169,9 @@ def real_mistakes():
     first, second = (f"tiny/{it}" for it in names)
     with tempfile.TemporaryDirectory() as folder:
         written(folder, {**TINY, **texts})
-        os.makedirs(f"{folder}/.ci")
-        for it in ("edits", "refused.py"):
-            shutil.copy(f"{TOP}/.ci/{it}", f"{folder}/.ci/{it}")
+        for it in (".ci/edits", ".ci/refused.py", "tools/toolchain.py", "tools/programs.py"):
+            os.makedirs(os.path.dirname(f"{folder}/{it}"), exist_ok=True)
+            shutil.copy(f"{TOP}/{it}", f"{folder}/{it}")
         how = {"cwd": folder, "capture_output": True, "text": True, "timeout": SECONDS}
 
         def asks(*words):
@@ -192,6 +193,14 @@ def real_mistakes():
             yield f"it would try {asks()!r} after a change, and not both"
 
 
+def kit_here_mistakes():
+    """What the kit here lacks of what we use beside its commands."""
+    how = {"capture_output": True, "text": True, "timeout": SECONDS, "check": False}
+    ran = subprocess.run([f"{TOP}/tools/toolchain.py"], **how)
+    if ran.returncode:
+        yield f"tools/toolchain.py printed {ran.stdout!r} {ran.stderr!r}"
+
+
 def all_mistakes():
     """What is tried, with what is wrong in it."""
     yield "edits after a change", change_mistakes()
@@ -200,5 +209,6 @@ def all_mistakes():
     yield "the lines of refused edits", line_mistakes()
     if shutil.which("rt"):
         yield "a false line of an edit", real_mistakes()
+        yield "the private modules of the kit", kit_here_mistakes()
     else:
         print("tests/edits.py: there is no `rt` on the path, so no edit is tried", flush=True)

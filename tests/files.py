@@ -2,7 +2,6 @@
 import contextlib
 import itertools
 import os
-import re
 import resource
 import shutil
 import signal
@@ -10,12 +9,15 @@ import subprocess
 import tempfile
 import time
 
-import links
-import stations
-
-# A block of a file is as long as this; the others lie around its ends, and around 1 MiB.
-BLOCK = 65_536
-SIZES = (0, 1, BLOCK - 1, BLOCK, BLOCK + 1, 1 << 20, (1 << 20) + 1, 20_000_000)
+from lib import processes
+from lib.choices import chance_of
+from lib.frames import PEER_DIRECTIVES, frame_of, zones_of
+from lib.lengths import SIZES
+from lib.links import Link, Relay
+from lib.pdus import finished
+from lib.ports import ALONE
+from lib.processes import PATIENT, files_at, many_words, peak_of, unheard
+from lib.waiting import SECONDS
 
 # How long the file is that changes, and how many frames of 1,024 octets leave in a second: it takes
 # five seconds, of which the first is over when it changes. That of `loop` has 20 MB.
@@ -32,27 +34,27 @@ FILES, MOST_OPEN = 200, 40
 LONG, LESS_LONG, LONG_SECONDS, MOST_MEMORY = (4 << 30) + 1, (1 << 30) + 1, 3600, 16 << 20
 
 # The settings of a station that sends much.
-WIDE = {**stations.PATIENT, "zone": 2040, "segment": 4096}
+WIDE = {**PATIENT, "zone": 2040, "segment": 4096}
 
 
 def octets_of(size):
     """Octets of which no two blocks are alike."""
-    return stations.chance_of(60).randbytes(size)
+    return chance_of(60).randbytes(size)
 
 
 def sizes_mistakes(program):
     """What is wrong where files of these lengths go from one station to another: none is cut."""
     sent = {f"f{size}": octets_of(size) for size in SIZES}
-    with links.Link(program) as link:
+    with Link(program) as link:
         receiver = link.starts(2, ["--inbox", "to", "--idle", "20"], WIDE)
         words = [*link.puts(1, sent), "--idle", "3", "--rate", "20000"]
         status, out, err = link.starts(1, words, WIDE, waits=False).ended()
-        if status or stations.unheard(err) or not out.endswith("complete 8 of 8\n"):
+        if status or unheard(err) or not out.endswith("complete 8 of 8\n"):
             yield f"the sender: status {status}, {out[-300:]!r}, {err[-300:]!r}"
         status, out, err = receiver.ended()
-        if status or stations.unheard(err):
+        if status or unheard(err):
             yield f"the receiver: status {status}, {out[-300:]!r}, {err[-300:]!r}"
-        came = stations.files_at(link.folder, 2)
+        came = files_at(link.folder, 2)
     if came != sent:
         lengths = {name: len(octets) for name, octets in came.items()}
         yield f"what came isn't what was sent: {lengths}"
@@ -103,8 +105,8 @@ CHANGES = {
 def change_mistakes(program, change):
     """What is wrong where a file changes while it is sent: its put ends with fault 4, the sender
     says why, nothing is published, and the next put is complete."""
-    settings = {**stations.PATIENT, "zone": 1024}
-    with links.Link(program) as link:
+    settings = {**PATIENT, "zone": 1024}
+    with Link(program) as link:
         receiver = link.starts(2, ["--inbox", "to", "--idle", "20"], settings)
         words = link.puts(1, {"a": octets_of(CHANGED), "b": b"hello"})
         words += ["--rate", str(RATE), "--idle", "3", "--first-number", "7"]
@@ -114,7 +116,7 @@ def change_mistakes(program, change):
         time.sleep(0.7)
         change(f"{link.folder}/1/from/a")
         status, out, err = sender.ended()
-        if status != 3 or stations.unheard(err) != TOLD or not out.endswith("complete 1 of 2\n"):
+        if status != 3 or unheard(err) != TOLD or not out.endswith("complete 1 of 2\n"):
             yield f"the sender: status {status}, {out!r}, {err!r}"
         if "1 fault 1:7 4\n1 finished 1:7 4 incomplete" not in out:
             yield f"the sender tells no fault of the first file: {out!r}"
@@ -123,10 +125,10 @@ def change_mistakes(program, change):
         status, out, err = receiver.ended()
         # A file that didn't come whole shows in its status.
         is_told = "2 finished 1:7 4 incomplete discarded\n" in out
-        if status != 1 or stations.unheard(err) or not is_told:
+        if status != 1 or unheard(err) or not is_told:
             yield f"the receiver: status {status}, {out!r}, {err!r}"
-        if stations.files_at(link.folder, 2) != {"b": b"hello"}:
-            yield f"in its folder lies {stations.files_at(link.folder, 2).keys()}"
+        if files_at(link.folder, 2) != {"b": b"hello"}:
+            yield f"in its folder lies {files_at(link.folder, 2).keys()}"
 
 
 def part_of(folder):
@@ -146,7 +148,7 @@ def stopped_loop(program, folder):
     put(folder, "to", b"before")
     words = [program.path, "loop", "from", "to", "a", "a"]
     pipes = {"stdout": subprocess.PIPE, "stderr": subprocess.PIPE, "cwd": folder}
-    with stations.ALONE:
+    with ALONE:
         process = subprocess.Popen(words, env={"PATH": "/usr/bin:/bin"}, **pipes)
     while process.poll() is None and not part_of(f"{folder}/to"):
         pass
@@ -176,7 +178,7 @@ def loop_mistakes(program, change):
                 continue
             change(f"{folder}/from/a")
             process.send_signal(signal.SIGCONT)
-            out, err = process.communicate(timeout=stations.SECONDS)
+            out, err = process.communicate(timeout=SECONDS)
             with open(f"{folder}/to/a", "rb") as it:
                 stays = os.listdir(f"{folder}/to") == ["a"] and it.read() == b"before"
         if process.returncode != 3 or err.decode() != TOLD or b"\n1 fault 1:1 4\n" not in out:
@@ -191,15 +193,15 @@ def open_mistakes(program):
     """What is wrong where a station sends more files than it can have open: at most 16 are."""
     sent = {f"f{number}": f"{number}\n".encode() * 50 for number in range(FILES)}
     few = lambda: resource.setrlimit(resource.RLIMIT_NOFILE, (MOST_OPEN, MOST_OPEN))
-    with links.Link(program) as link:
-        receiver = link.starts(2, ["--inbox", "to"], stations.PATIENT)
+    with Link(program) as link:
+        receiver = link.starts(2, ["--inbox", "to"], PATIENT)
         words = [*link.puts(1, sent), "--idle", "2"]
-        sender = link.starts(1, words, stations.PATIENT, waits=False, preexec_fn=few)
+        sender = link.starts(1, words, PATIENT, waits=False, preexec_fn=few)
         status, out, err = sender.ended()
-        if status or stations.unheard(err) or not out.endswith(f"complete {FILES} of {FILES}\n"):
+        if status or unheard(err) or not out.endswith(f"complete {FILES} of {FILES}\n"):
             yield f"the sender: status {status}, {out[-300:]!r}, {err[-300:]!r}"
         receiver.killed()
-        came = stations.files_at(link.folder, 2)
+        came = files_at(link.folder, 2)
     if came != sent:
         yield f"{len(came)} files came of {len(sent)}"
 
@@ -209,32 +211,29 @@ def again_mistakes(program):
     one is there only once its put is made. So many puts of another lie in front of the last two
     that these have to wait for room; and what the receiver answers is kept from the sender, so that
     it has room just when the test gives it an answer."""
-    settings = {**stations.PATIENT, "number_width": 4, "first_number": 1}
+    settings = {**PATIENT, "number_width": 4, "first_number": 1}
     counts = itertools.count()
-    with links.Link(program, links.Relay(lambda own, frame: own == 1)) as link:
+    with Link(program, Relay(lambda own, frame: own == 1)) as link:
         receiver = link.starts(2, ["--inbox", "to", "--rate", "0"], settings)
         files = link.puts(1, {"a": b"before", "x": b""})
         words = [*files[:2], "--put", "a", "first", *["--put", "x", "x"] * 3071]
         words += ["--put", "a", "second", "--put", "late", "late"]
         words += ["--rate", "0", "--at-once", "3072"]
-        how = {"preexec_fn": stations.many_words}
+        how = {"preexec_fn": many_words}
         sender = link.starts(1, words, settings, waits=False, **how)
         for number in (1, 2):
             if receiver.comes_to(f"finished 1:{number} 0 complete") is None:
                 yield f"file {number} didn't come: {receiver.text('stderr')!r}"
-        stations.put(link.folder, 1, "a", b"what it is now")
-        stations.put(link.folder, 1, "late", b"here")
+        processes.put(link.folder, 1, "a", b"what it is now")
+        processes.put(link.folder, 1, "late", b"here")
         for number in (1, 2):
-            zone = next(links.zones_of([links.finished(number)], 101))
-            link.relay.give(1, links.frame_of(links.PEER_DIRECTIVES, next(counts), zone))
+            zone = next(zones_of([finished(number)], 101))
+            link.relay.give(1, frame_of(PEER_DIRECTIVES, next(counts), zone))
             if receiver.comes_to(f"finished 1:{3072 + number} 0 complete") is None:
                 yield f"put {3072 + number} isn't complete: {sender.text('stdout')[-300:]!r}"
-        came = stations.files_at(link.folder, 2)
-        # It notes that one file isn't there yet, and on a slow machine that no answer comes, since
-        # these are kept from it.
-        late = "from/late: no such file"
-        notes = rf"note: ({late}|1:\d+ waits for the peer's Finished; .*)\n"
-        if re.sub(notes, "", stations.unheard(sender.text("stderr"))):
+        came = files_at(link.folder, 2)
+        # It notes that one file isn't there yet.
+        if unheard(sender.text("stderr")).replace("note: from/late: no such file\n", ""):
             yield f"the sender told {sender.text('stderr')!r}"
     wanted = {"first": b"before", "x": b"", "second": b"what it is now", "late": b"here"}
     if came != wanted:
@@ -271,7 +270,7 @@ def are_alike(one, other):
 def long_run(program, size):
     """Sends a file so long from one station to another. Gives the seconds that it took, and the
     most memory of the sender and of the receiver; or what is wrong."""
-    with links.Link(program) as link:
+    with Link(program) as link:
         os.makedirs(f"{link.folder}/1/from")
         long_file(f"{link.folder}/1/from/a", size)
         receiver = link.starts(2, ["--inbox", "to", "--rate", "0"], WIDE)
@@ -281,7 +280,7 @@ def long_run(program, size):
         ended = receiver.comes_to("finished .* 0 complete retained", LONG_SECONDS)
         if ended is None:
             return f"it didn't come: {receiver.text('stdout')!r}, {sender.text('stderr')!r}"
-        peaks = [stations.peak_of(it.process) for it in (sender, receiver)]
+        peaks = [peak_of(it.process) for it in (sender, receiver)]
         for it in (sender, receiver):
             it.killed()
         if not are_alike(f"{link.folder}/1/from/a", f"{link.folder}/2/to/a"):

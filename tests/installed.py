@@ -18,25 +18,29 @@ import subprocess
 import sys
 import tempfile
 
-HERE = os.path.dirname(os.path.abspath(__file__))
-TOP = os.path.dirname(HERE)
+from lib.counting import Count, taken
+from lib.paths import TOP
+
 SECONDS = 1200
 
 WANTED = """
 bin/cfdp_node include/cfdp.h include/cfdp_hooks.h lib/libcfdp_c.a lib/libcfdp_heap.a
 lib/pkgconfig/cfdp.pc
-lib/systemd/system/cfdp-station-watch.service lib/systemd/system/cfdp-station-watch.timer
-lib/systemd/system/cfdp-station.service share/cfdp/errno.c share/cfdp/folders.c
-share/cfdp/control.nft share/cfdp/heap.c share/cfdp/pool.c share/cfdp/pool.h share/cfdp/transfer.c
-share/doc/cfdp/CONSOLE.md share/doc/cfdp/EMBEDDING.md share/doc/cfdp/FORMATS.md
-share/doc/cfdp/LICENSE share/doc/cfdp/OPERATING.md share/doc/cfdp/PLAY.md
-share/doc/cfdp/README.md share/doc/cfdp/SECURITY.md share/doc/cfdp/THIRD-PARTY
+lib/systemd/system/cfdp-station-watch@.service lib/systemd/system/cfdp-station-watch@.timer
+lib/systemd/system/cfdp-station@.service lib/tmpfiles.d/cfdp-sent.conf
+share/cfdp/errno.c share/cfdp/folders.c
+share/cfdp/cfdp-alerts.yml share/cfdp/cfdp-dashboard.json share/cfdp/cfdp-run
+share/cfdp/heap.c share/cfdp/pool.c share/cfdp/pool.h share/cfdp/transfer.c
+share/doc/cfdp/CHANGELOG.md share/doc/cfdp/CONSOLE.md
+share/doc/cfdp/EMBEDDING.md share/doc/cfdp/FORMATS.md
+share/doc/cfdp/LICENSE share/doc/cfdp/OPERATING.md share/doc/cfdp/README.md
+share/doc/cfdp/SECURITY.md share/doc/cfdp/THIRD-PARTY share/doc/cfdp/TRY.md
 share/doc/cfdp/station.toml
 share/man/man1/cfdp_node.1.gz share/man/man1/cfdp_node-ask.1.gz share/man/man1/cfdp_node-dump.1.gz
 share/man/man1/cfdp_node-loop.1.gz share/man/man1/cfdp_node-play.1.gz
 share/man/man1/cfdp_node-sim.1.gz share/man/man1/cfdp_node-station.1.gz share/man/man3/cfdp.3.gz
 """.split()
-OF_DEB = ["lib/sysusers.d/cfdp.conf", "share/doc/cfdp/copyright"]
+OF_DEB = ["lib/sysusers.d/cfdp.conf", "share/doc/cfdp/changelog.gz", "share/doc/cfdp/copyright"]
 
 
 def run(words, **how):
@@ -82,7 +86,7 @@ class Tree:
         told = run([self.path("bin/cfdp_node"), "--version"])
         if not re.match(r"cfdp_node \d", told):
             yield f"cfdp_node --version prints {told!r}"
-        with open(self.path("lib/systemd/system/cfdp-station.service"), encoding="utf-8") as it:
+        with open(self.path("lib/systemd/system/cfdp-station@.service"), encoding="utf-8") as it:
             if f"ExecStart={self.prefix}/bin/cfdp_node station" not in it.read():
                 yield "the unit starts another program"
 
@@ -178,36 +182,16 @@ def all_runs(room, others):
         yield from packed(room, others).runs("packaging/deb", room)
 
 
-def mistakes_of(mistakes):
-    """All mistakes, an exception among them."""
-    try:
-        yield from mistakes
-    except (OSError, RuntimeError, subprocess.TimeoutExpired) as error:
-        yield str(error)
-
-
-def taken(words, name):
-    """The word behind this one, if it is there."""
-    return words[words.index(name) + 1] if name in words else None
-
-
 def main(words):
-    counted = taken(words, "--after") or "0 passed, 0 failed"
-    passed, failed = map(int, re.search(r"(\d+) passed, (\d+) failed", counted).groups())
-    names = [it for it in ("--program", "--archive") if it in words]
-    others = [word for it in names for word in (it, os.path.abspath(taken(words, it)))]
+    count = Count("tests/installed.py", taken(words, "--after"))
+    given = {it: taken(words, it) for it in ("--program", "--archive")}
+    others = [word for it, path in given.items() if path for word in (it, os.path.abspath(path))]
     with tempfile.TemporaryDirectory() as room:
         try:
-            for what, mistakes in all_runs(room, others):
-                mistakes = [*mistakes_of(mistakes)]
-                for it in mistakes:
-                    print(f"{what}: {it}")
-                passed, failed = passed + (not mistakes), failed + bool(mistakes)
+            count.add_all(all_runs(room, others))
         except RuntimeError as error:
-            print(error)
-            failed += 1
-    print(f"{passed} passed, {failed} failed")
-    return 1 if failed else 0
+            count.add("what is installed", [f"{error}"])
+    return count.end()
 
 
 if __name__ == "__main__":

@@ -8,17 +8,30 @@ import struct
 import subprocess
 import time
 
-import forgers
-import forging
-import links
-import stations
-from control import asked
-from forgers import BEGUN, EVIL, FILE, FORGERIES, NAME, OTHER, SENT, TAKEN, Outcome, Scene, scene
-from forging import KEYS, Form, Key, file_data, finished, frames_of, nak, sealed
-from links import Link, note_mistakes
-from stations import waits_for
-
-HERE = os.path.dirname(os.path.abspath(__file__))
+from lib import forging, scenes
+from lib.choices import chance_of
+from lib.control import asked
+from lib.forging import KEYS, Form, Key, file_data, finished, frames_of, nak, sealed
+from lib.frames import ONLY_IDLE, frame_of
+from lib.links import Link
+from lib.paths import TOP
+from lib.processes import files_at, note_mistakes, put, read
+from lib.scenes import (
+    BEGUN,
+    EVIL,
+    FILE,
+    FORGERIES,
+    NAME,
+    OTHER,
+    SENT,
+    TAKEN,
+    Outcome,
+    Scene,
+    scene,
+    sent_whole,
+    swapped,
+)
+from lib.waiting import waits_for
 
 # Frames with keys; and the same with all fields of frames, and longer ones of these.
 KEYED, FIELDS = Form(mac=16), Form(mac=32, insert_zone=3, control_field=1, error_control=1)
@@ -94,7 +107,7 @@ def holder_mistakes(program, form):
     with scene(program, form) as it:
         for frame in frames_of(2, [finished(it.number)], form.bare_zone):
             it.relay.forge(1, [sealed(frame, KEYS[1], FRESH, form)])
-        yield from it.differs(Outcome((*BEGUN, forgers.WHOLE), (), {}))
+        yield from it.differs(Outcome((*BEGUN, scenes.WHOLE), (), {}))
 
 
 def layout_mistakes(program, form):
@@ -124,7 +137,7 @@ def returned_mistakes(program):
 def lane_mistakes(program):
     """What is wrong where frames come on the other channel of their direction."""
     with scene(program, KEYED) as it:
-        frames = map(forgers.swapped, it.relay.sent_by(1))
+        frames = map(swapped, it.relay.sent_by(1))
         yield from refused(it, 2, (("NotAuthentic", frame) for frame in frames))
         yield from goes_on(it)
 
@@ -181,7 +194,7 @@ def between_mistakes(program):
             it.relay.forge(2, [*(octets for _, octets in forged), frame])
         it.relay.held.clear()
         it.relay.release()
-        if not waits_for(lambda: stations.files_at(it.link.folder, 2) == {NAME: content}):
+        if not waits_for(lambda: files_at(it.link.folder, 2) == {NAME: content}):
             yield f"the file didn't come: {it.counters(2)}"
         yield from it.counts(2, {"Resync": 0, "NotAuthentic": 4 * len(frames)})
 
@@ -195,7 +208,7 @@ def beacon(own, zone):
     sends = struct.pack(">HBBH", zone, 4 + own, 6 + own, 99 + own)
     receives = struct.pack(">BBH", 4 + peer, 6 + peer, 99 + peer)
     octets = struct.pack(">QQ", own, peer) + sends + receives + bytes(4)
-    return links.frame_of(links.ONLY_IDLE, 0, b"")[:6] + bytes.fromhex("07FE434644506201") + octets
+    return frame_of(ONLY_IDLE, 0, b"")[:6] + bytes.fromhex("07FE434644506201") + octets
 
 
 def beacon_mistakes(program):
@@ -211,7 +224,7 @@ def beacon_mistakes(program):
 
 def page_mistakes(program):
     """What is wrong with keys that are made by the lines of docs/SECURITY.md."""
-    with open(f"{HERE}/../docs/SECURITY.md", encoding="utf-8") as page:
+    with open(f"{TOP}/docs/SECURITY.md", encoding="utf-8") as page:
         lines = re.search(r"(?ms)^```sh\n(.*?)^```$", page.read())[1]
     with Link(program, forging.Forger()) as link:
         how = {"cwd": link.folder, "env": {"PATH": f"{link.folder}:/usr/bin:/bin"}, "check": True}
@@ -224,7 +237,7 @@ def page_mistakes(program):
             os.rename(f"{link.folder}/{name}.keys", f"{link.folder}/{own}.keys")
         it = Scene(program, link, KEYED)
         it.starts(2, ["--inbox", "to"])
-        forgers.sent_whole(it, FILE)
+        sent_whole(it, FILE)
         if came(it) != {NAME: FILE}:
             yield f"there lies {came(it)}"
 
@@ -238,20 +251,20 @@ def replay_mistakes(program):
     with Link(program, forging.Forger()) as link:
         it = Scene(program, link, KEYED)
         it.starts(2, ["--inbox", "to"])
-        older = forgers.sent_whole(it, b"older")
+        older = sent_whole(it, b"older")
         answers = it.relay.sent_by(2)
-        forgers.sent_whole(it, b"newer")
+        sent_whole(it, b"newer")
         it.stations[2].killed()
         it.starts(2, ["--inbox", "to"])
         it.starts(1, ["--outbox", "from"])
         yield from refused(it, 2, (("Replayed", frame) for frame in older))
         yield from refused(it, 1, (("Replayed", frame) for frame in answers))
-        if stations.files_at(link.folder, 2) != {NAME: b"newer"}:
-            yield f"there lies {stations.files_at(link.folder, 2)}"
+        if files_at(link.folder, 2) != {NAME: b"newer"}:
+            yield f"there lies {files_at(link.folder, 2)}"
         it.stations[1].killed()
-        forgers.sent_whole(it, b"newest")
-        if stations.files_at(link.folder, 2) != {NAME: b"newest"}:
-            yield f"after it there lies {stations.files_at(link.folder, 2)}"
+        sent_whole(it, b"newest")
+        if files_at(link.folder, 2) != {NAME: b"newest"}:
+            yield f"after it there lies {files_at(link.folder, 2)}"
 
 
 def lost_mistakes(program, is_old):
@@ -261,15 +274,15 @@ def lost_mistakes(program, is_old):
         it, state = Scene(program, link, KEYED), f"{link.folder}/2/to.state"
         it.starts(2, ["--inbox", "to"])
         shutil.copy(state, f"{state}.old")
-        older = forgers.sent_whole(it, b"older")
-        forgers.sent_whole(it, b"newer")
+        older = sent_whole(it, b"older")
+        sent_whole(it, b"newer")
         it.stations[2].killed()
         os.remove(state)
         if is_old:
             shutil.copy(f"{state}.old", state)
         it.starts(2, ["--inbox", "to"])
         it.relay.forge(2, older)
-        if not waits_for(lambda: stations.files_at(link.folder, 2) == {NAME: b"older"}):
+        if not waits_for(lambda: files_at(link.folder, 2) == {NAME: b"older"}):
             yield f"the older file isn't heard: {it.counters(2)}"
         forging.write_keys(f"{link.folder}/2.keys", 2, {**KEYS, 2: forging.key_of(19)})
         yield from rekeyed(it, 2)
@@ -282,11 +295,11 @@ def sender_mistakes(program):
     with Link(program, forging.Forger()) as link:
         it = Scene(program, link, KEYED)
         it.starts(2, ["--inbox", "to"])
-        forgers.sent_whole(it, b"older")
+        sent_whole(it, b"older")
         os.remove(f"{link.folder}/1/from.state")
-        forgers.sent_whole(it, b"newer")
-        if stations.files_at(link.folder, 2) != {NAME: b"newer"}:
-            yield f"there lies {stations.files_at(link.folder, 2)}"
+        sent_whole(it, b"newer")
+        if files_at(link.folder, 2) != {NAME: b"newer"}:
+            yield f"there lies {files_at(link.folder, 2)}"
         yield from it.counts(2, {cause: 0 for cause in CAUSES})
 
 
@@ -301,13 +314,13 @@ SWIFT |= {"eof_limit": 255, "nak_limit": 255, "finished_limit": 255}
 def spooled(it, files):
     """Puts files into the spool of station 1."""
     for name, octets in files.items():
-        stations.put(it.link.folder, 1, f".{name}", octets)
+        put(it.link.folder, 1, f".{name}", octets)
         os.rename(f"{it.link.folder}/1/from/.{name}", f"{it.link.folder}/1/from/{name}")
 
 
 def many_files(number, count, size):
     """So many files of at most so many octets."""
-    chance = stations.chance_of(number)
+    chance = chance_of(number)
     return {f"f{at:04}": chance.randbytes(chance.randrange(size)) for at in range(count)}
 
 
@@ -315,7 +328,7 @@ def came(it):
     """The files that station 2 has whole."""
     folder = f"{it.link.folder}/2/to"
     names = [name for name in os.listdir(folder) if name[0] != "."]
-    return {name: stations.read(f"{folder}/{name}") for name in names}
+    return {name: read(f"{folder}/{name}") for name in names}
 
 
 class Storm:
@@ -323,12 +336,12 @@ class Storm:
     beside each. `counts` has by station how many it was given that must be refused, by cause."""
 
     def __init__(self, form):
-        self.form, self.relay, self.chance = form, None, stations.chance_of(82)
+        self.form, self.relay, self.chance = form, None, chance_of(82)
         self.seen, self.first, self.last = collections.Counter(), {}, {}
         self.counts = {own: collections.Counter() for own in (1, 2)}
 
     def __call__(self, own, frame):
-        if frame[1] & 63 == links.ONLY_IDLE:
+        if frame[1] & 63 == ONLY_IDLE:
             return True  # a beacon
         self.seen[own] += 1
         if self.seen[own] % 10:
@@ -446,7 +459,7 @@ def roll_mistakes(program):
 def number_mistakes(it, own):
     """What is wrong with the sequence numbers that a station used in all its lives."""
     numbers = [forging.security_of(frame, KEYED)[1] for frame in it.relay.sent_by(own)
-               if frame[1] & 63 != links.ONLY_IDLE]
+               if frame[1] & 63 != ONLY_IDLE]
     if any(a >= b for a, b in zip(numbers, numbers[1:])):
         yield f"the numbers of station {own} don't go up"
 

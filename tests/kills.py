@@ -7,10 +7,9 @@ import re
 import threading
 import time
 
-import links
-import relay
-import stations
-from relay import HASTY, names_in, octets_of
+from lib.choices import chance_of
+from lib.links import Link, Relay
+from lib.spools import HASTY, Spool, names_in, octets_of
 
 # How many kills there are in all, of either station, and how many files go meanwhile.
 KILLS, CUTS, FILES = 500, 200, 120
@@ -24,11 +23,11 @@ LONGEST = 600
 WORDS = {1: ["--spool", "from", "--at-once", "8", "--retries", "1000"], 2: ["--inbox", "to"]}
 
 
-class Shuffling(links.Relay):
+class Shuffling(Relay):
     """A link that loses frames, gives some twice, and some late: behind frames sent after them."""
 
     def __init__(self, seed):
-        self.chance, self.late, self.number = stations.chance_of(seed), [], 0
+        self.chance, self.late, self.number = chance_of(seed), [], 0
         self.done = {"lost": 0, "twice": 0, "late": 0}
         super().__init__()
 
@@ -65,12 +64,16 @@ class Shuffling(links.Relay):
 
 class Disk:
     """The disk of a station, which loses what wasn't flushed to it: `kept` is the folder in which
-    tests/faults.c keeps what was."""
+    tests/c/faults.c keeps what was."""
 
     def __init__(self, folder, kept):
         self.folder, self.kept = folder, kept
         os.makedirs(kept)
         self.begins()
+
+    def names_of(self, folder):
+        """The file that says which files a folder had when it was flushed last."""
+        return f"{self.kept}/{os.stat(folder).st_ino}.names"
 
     def folders(self):
         return [path for path, _, _ in os.walk(self.folder)]
@@ -81,7 +84,7 @@ class Disk:
             os.remove(f"{self.kept}/{name}")
         for folder in self.folders():
             there = plain_in(folder)
-            with open(f"{self.kept}/{os.stat(folder).st_ino}", "w", encoding="utf-8") as it:
+            with open(self.names_of(folder), "w", encoding="utf-8") as it:
                 it.writelines(f"{inode} {name}\n" for name, inode in there.items())
             for name, inode in there.items():
                 with open(f"{self.kept}/{inode}", "wb") as it:
@@ -89,7 +92,7 @@ class Disk:
 
     def lasting(self, folder):
         """Which files lasted in a folder, by their names: those of its last flush."""
-        text = octets_of(f"{self.kept}/{os.stat(folder).st_ino}") or b""
+        text = octets_of(self.names_of(folder)) or b""
         lines = [line.split(" ", 1) for line in text.decode().splitlines()]
         return {name: int(inode) for inode, name in lines}
 
@@ -99,14 +102,19 @@ class Disk:
         left = {}
         for folder in self.folders():
             names = plain_in(folder) if chance.random() < 0.5 else self.lasting(folder)
-            kept = lambda inode: octets_of(f"{self.kept}/{inode}") or b""
-            left[folder] = {name: kept(inode) for name, inode in names.items()}
-        for folder, files in left.items():
+            left |= {f"{folder}/{name}": inode for name, inode in names.items()}
+        for folder in self.folders():
             for name in plain_in(folder):
                 os.remove(f"{folder}/{name}")
-            for name, octets in files.items():
-                with open(f"{folder}/{name}", "wb") as it:
-                    it.write(octets)
+        paths = {}
+        for path, inode in left.items():
+            # A file may have several names.
+            if inode in paths:
+                os.link(paths[inode], path)
+                continue
+            paths[inode] = path
+            with open(path, "wb") as it:
+                it.write(octets_of(f"{self.kept}/{inode}") or b"")
         self.begins()
 
 
@@ -215,10 +223,10 @@ def left_mistakes(spool, files, cuts):
 def kill_mistakes(program, kills, cuts=False, seed=66):
     """What is wrong where files go from a spool to an inbox over such a link, and either station is
     killed at random moments, so many times in all, or its power is cut."""
-    chance = stations.chance_of(seed)
+    chance = chance_of(seed)
     files = many_files(chance)
-    with links.Link(program, Shuffling(seed)) as link:
-        spool = relay.Spool(link)
+    with Link(program, Shuffling(seed)) as link:
+        spool = Spool(link)
         ends = Ends(link, cuts)
         waiting = sorted(files)
         for number in range(kills):

@@ -1,339 +1,32 @@
 """Stations over a link that does what links do: it holds frames back, loses them, and brings some
 that nobody sent. Stations are killed and started anew, flooded, misfit, and left at rest."""
-import bisect
 import contextlib
 import itertools
 import os
 import re
-import select
 import signal
-import socket
-import struct
 import subprocess
-import sys
-import tempfile
-import threading
 import time
 
-import stations
-from stations import PATIENT, SECONDS
-
-HERE = os.path.dirname(os.path.abspath(__file__))
-
-# What a busy machine may take beyond a rule of time, in seconds. Where nothing else runs, SLACK=1
-# shows that stations keep these rules. What waits goes on at once when it has what it waits for.
-SLACK = float(os.environ.get("SLACK", "30"))
-
-# In one of so many trials a rule has to hold that SLACK doesn't ease.
-TRIALS = 5
-
-# What a relay is sent to see what came before.
-MARK = b"what came before?"
-
-# The option of a socket by which the kernel tells when each datagram came.
-SO_TIMESTAMPNS = 35
-
-# The channels of what station 1 sends, and how long a packet zone is, if nothing else is set.
-DIRECTIVES, FILE_DATA, ONLY_IDLE, ZONE = 5, 7, 63, 256
-
-# The channel of the directives that station 2 sends.
-PEER_DIRECTIVES = 6
-
-
-class Relay:
-    """A link between stations 1 and 2: each has one of its sockets for its peer. What comes from a
-    station goes on to the other one where `passes`, a function of that station and the frame, says
-    so; while it `holds`, all waits. `came` has when each frame came, from whom, and the frame."""
-
-    def __init__(self, passes=lambda own, frame: True):
-        ports = stations.free_ports(4)
-        self.listens = dict(zip((1, 2), ports[:2]))
-        self.faces = dict(zip((1, 2), ports[2:]))
-        self.passes, self.holds, self.is_over = passes, False, False
-        self.came, self.held, self.lock, self.marked = [], [], threading.Lock(), []
-        self.sockets = {own: bound(self.faces[own]) for own in (1, 2)}
-        self.thread = threading.Thread(target=self.run, daemon=True)
-        self.thread.start()
-
-    def ports_of(self, own):
-        """The ports that a station is told: its own, and that of its peer."""
-        return {own: self.listens[own], 3 - own: self.faces[own]}
-
-    def run(self):
-        owns = {it: own for own, it in self.sockets.items()}
-        while not self.is_over:
-            for it in select.select(list(owns), [], [], 0.1)[0]:
-                self.take(owns[it])
-
-    def take(self, own):
-        """Takes all that came from a station."""
-        while not self.is_over:
-            try:
-                frame, more, _, _ = self.sockets[own].recvmsg(65536, 64)
-            except BlockingIOError:
-                return
-            if frame == MARK:
-                self.marked.append(own)
-                continue
-            self.came.append((time_of(more), own, frame))
-            with self.lock:
-                if self.holds:
-                    self.held.append((own, frame))
-                elif self.passes(own, frame):
-                    self.give(3 - own, frame)
-
-    def give(self, own, frame):
-        """Gives a station a frame, as from its peer."""
-        self.sockets[own].sendto(frame, ("127.0.0.1", self.listens[own]))
-
-    def release(self):
-        """Gives on what was held back, and holds no more."""
-        with self.lock:
-            self.holds = False
-            for own, frame in self.held:
-                self.give(3 - own, frame)
-
-    def catches_up(self):
-        """Waits until it has noted all that was sent to it so far."""
-        seen = len(self.marked)
-        for own, it in self.sockets.items():
-            it.sendto(MARK, ("127.0.0.1", self.faces[own]))
-        stations.waits_for(lambda: len(self.marked) >= seen + 2)
-
-    def first(self, since=0.0):
-        """When the first frame came since then, or None."""
-        return next((when for when, _, _ in list(self.came) if when >= since), None)
-
-    def close(self):
-        self.is_over = True
-        self.thread.join()
-        for it in self.sockets.values():
-            it.close()
-
-
-def bound(port):
-    """A socket at this port that doesn't wait, holds much, and tells when each datagram came."""
-    it = socket.socket(socket.AF_INET, socket.SOCK_DGRAM)
-    it.setsockopt(socket.SOL_SOCKET, socket.SO_RCVBUF, 4 << 20)
-    it.setsockopt(socket.SOL_SOCKET, SO_TIMESTAMPNS, 1)
-    it.setblocking(False)
-    it.bind(("127.0.0.1", port))
-    return it
-
-
-def time_of(messages):
-    """When a datagram came, as the kernel tells it."""
-    for level, kind, octets in messages:
-        if (level, kind) == (socket.SOL_SOCKET, SO_TIMESTAMPNS):
-            seconds, parts = struct.unpack("qq", octets[:16])
-            return seconds + parts / 1e9
-    return time.time()
-
-
-class Watched(stations.Station):
-    """A station of which it is noted when each line of both outputs came, or of one of them."""
-
-    def __init__(self, *those, reads=("stdout", "stderr"), **ways):
-        super().__init__(*those, **ways)
-        self.lines, self.news = [], threading.Condition()
-        reads = [threading.Thread(target=self.read, args=(it,)) for it in reads]
-        self.readers = reads
-        for it in reads:
-            it.daemon = True
-            it.start()
-
-    def read(self, output):
-        for line in getattr(self.process, output):
-            with self.news:
-                self.lines.append((time.time(), output, line.decode()))
-                self.news.notify_all()
-
-    def comes_to(self, pattern, seconds=SECONDS):
-        """When the first line came that has this pattern, or None if none comes in time."""
-        end, seen = time.monotonic() + seconds, 0
-        with self.news:
-            while True:
-                is_over = not any(it.is_alive() for it in self.readers)
-                for when, _, line in self.lines[seen:]:
-                    if re.search(pattern, line):
-                        return when
-                seen, left = len(self.lines), end - time.monotonic()
-                if left <= 0 or is_over:
-                    return None
-                self.news.wait(min(left, 0.2))
-
-    def text(self, output):
-        """All that it told on this output, but that it has no keys."""
-        told = "".join(line for _, it, line in list(self.lines) if it == output)
-        return stations.without_keys(told)
-
-    def ended(self, seconds=SECONDS):
-        """Its exit status, and both outputs, once it has ended; it is killed after a time."""
-        try:
-            self.process.wait(seconds)
-        except subprocess.TimeoutExpired:
-            self.process.kill()
-        self.process.wait()
-        for it in self.readers:
-            it.join()
-        return self.process.returncode, self.text("stdout"), self.text("stderr")
-
-    def killed(self):
-        """Kills it at once; gives what it told."""
-        self.process.send_signal(signal.SIGKILL)
-        return self.ended()[1]
-
-
-class Link:
-    """A folder in which stations run, one at each end of a relay, or without one with sockets of
-    their own alone. At the end all of them are killed."""
-
-    def __init__(self, program, relay=None):
-        self.program, self.relay, self.started = program, relay, []
-        self.ports = None if relay else dict(zip((1, 2), stations.free_ports(2)))
-
-    def __enter__(self):
-        self.room = tempfile.TemporaryDirectory(dir=self.program.room)
-        self.folder = self.room.name
-        return self
-
-    def __exit__(self, *_):
-        for it in self.started:
-            it.killed()
-        if self.relay:
-            self.relay.close()
-        self.room.cleanup()
-
-    def starts(self, end, words, settings=None, ids=None, waits=True, faults="", **ways):
-        """Starts a station at an end of the link, 1 or 2, which is its id if no other is said; and
-        waits until it has its socket."""
-        ports = self.ports or self.relay.ports_of(end)
-        own, peer = ids or (end, 3 - end)
-        named = {own: ports[end], peer: ports[3 - end]}
-        if faults:
-            ways["env"] = {"PATH": "/usr/bin:/bin", **self.program.faulty(faults)}
-        it = Watched(self.program, self.folder, own, peer, named, words, settings or {}, **ways)
-        self.started.append(it)
-        if waits:
-            it.comes_up()
-        return it
-
-    def puts(self, end, files):
-        """Puts files to send into a station's folder; gives the words for them."""
-        for name, octets in files.items():
-            stations.put(self.folder, end, name, octets)
-        return ["--outbox", "from", *(it for name in files for it in ("--put", name, name))]
-
-
-def frame_of(channel, count, zone, spacecraft=42):
-    """An AOS frame with this packet zone, in which a packet begins at its first octet."""
-    first = 1 << 14 | spacecraft << 6 | channel
-    return struct.pack(">HIBH", first, count << 8, 0, 0)[:5] + b"\x40\x00\x00" + zone
-
-
-def idle_frame(count):
-    """A frame of nothing but idle data."""
-    return frame_of(ONLY_IDLE, count, bytes(ZONE))
-
-
-def zones_of(pdus, apid=100, length=ZONE):
-    """Packet zones of this length with these PDUs of at most 200 octets, in packets of which none
-    is cut."""
-    zone = b""
-    for number, pdu in enumerate(pdus):
-        packet = struct.pack(">HHH", apid, 0xC000 | number % 16384, len(pdu) - 1) + pdu
-        if len(zone) + len(packet) + 7 > length:
-            yield filled(zone, length)
-            zone = b""
-        zone += packet
-    yield filled(zone, length)
-
-
-def filled(zone, length=ZONE):
-    """A packet zone filled up with an idle packet."""
-    spare = length - len(zone)
-    return zone + struct.pack(">HHH", 2047, 0xC000, spare - 7) + bytes(spare - 6)
-
-
-def eof(number):
-    """The EOF of a transaction of station 1, with a file of four octets."""
-    return struct.pack(">BHBHIHBBII", 0x20, 10, 0x13, 1, number, 2, 4, 0, 7, 4)
-
-
-def piece(number):
-    """An octet of that file."""
-    return struct.pack(">BHBHIHIB", 0x30, 5, 0x13, 1, number, 2, 0, 65)
-
-
-def finished(number):
-    """What station 2 answers to the EOF of a transaction of station 1 that it has whole."""
-    return struct.pack(">BHBHIHBB", 0x28, 2, 0x13, 1, number, 2, 5, 2)
-
-
-class Flood:
-    """A datagram that is sent so many times a second while a block runs, by a process of its own:
-    from each of these sockets to the port beside it."""
-
-    def __init__(self, octets, rate, ways):
-        self.fds = [it.fileno() for it, _ in ways]
-        pairs = [f"{fd}:{port}" for fd, (_, port) in zip(self.fds, ways)]
-        self.words = [sys.executable, f"{HERE}/flood.py", str(rate), octets.hex(), *pairs]
-
-    def __enter__(self):
-        with stations.ALONE:
-            self.process = subprocess.Popen(self.words, pass_fds=self.fds)
-
-    def __exit__(self, *_):
-        self.process.kill()
-        self.process.wait()
-
-
-def checksum_of(octets):
-    """The checksum of the Internet's protocols, of an even number of octets."""
-    total = sum(struct.unpack(f">{len(octets) // 2}H", octets))
-    while total >> 16:
-        total = (total & 0xFFFF) + (total >> 16)
-    return ~total & 0xFFFF
-
-
-def report_of(port, peer):
-    """What the network says if nobody listens at the peer's port: an ICMP message (port
-    unreachable), with the headers of a datagram that was sent from this port."""
-    here = socket.inet_aton("127.0.0.1")
-    ip = struct.pack(">BBHHHBBH4s4s", 0x45, 0, 44, 1, 0, 64, socket.IPPROTO_UDP, 0, here, here)
-    rest = bytes(4) + ip + struct.pack(">HHHH", port, peer, 24, 0)
-    return struct.pack(">BBH", 3, 3, checksum_of(struct.pack(">BBH", 3, 3, 0) + rest)) + rest
-
-
-class Reports:
-    """Forged reports, from an address of neither station, that a station's peer can't be reached:
-    so many a second while a block runs. Only a privileged user can send them."""
-
-    def __init__(self, port, peer, rate):
-        self.octets, self.pause, self.is_over = report_of(port, peer), 1 / rate, threading.Event()
-        self.thread = threading.Thread(target=self.run, daemon=True)
-
-    def run(self):
-        with socket.socket(socket.AF_INET, socket.SOCK_RAW, socket.IPPROTO_ICMP) as it:
-            it.bind(("127.0.0.9", 0))
-            while not self.is_over.wait(self.pause):
-                it.sendto(self.octets, ("127.0.0.1", 0))
-
-    def __enter__(self):
-        self.thread.start()
-
-    def __exit__(self, *_):
-        self.is_over.set()
-        self.thread.join()
-
-
-def note_mistakes(station, pattern, since, seconds):
-    """What is wrong where a station is to tell of something within some seconds of a time."""
-    end = since + seconds + SLACK
-    when = station.comes_to(f"^note: {pattern}", max(0.0, end - time.time()))
-    if when is None or when > end:
-        told = station.text("stderr")
-        yield f"station {station.own} tells no note of {pattern} within {seconds} s, but {told!r}"
+from lib.choices import chance_of
+from lib.frames import DIRECTIVES, FILE_DATA, PEER_DIRECTIVES, frame_of, idle_frame, zones_of
+from lib.links import Flood, Link, Relay, Reports, answered, bound, rests
+from lib.pdus import eof, finished, piece
+from lib.ports import free_ports
+from lib.processes import (
+    PATIENT,
+    damages,
+    files_at,
+    many_words,
+    note_mistakes,
+    numbers_of,
+    processor_seconds,
+    put,
+    refused_mistakes,
+    unheard,
+)
+from lib.rates import crowd_mistakes, silence_mistakes
+from lib.waiting import SECONDS, SLACK, TRIALS, Timed, in_one_of, waits_for
 
 
 # ---- numbers
@@ -355,7 +48,7 @@ def numbers_mistakes(program, kills):
     set back, while the receiver stays: a number that comes back shows as a file of another. Each
     second one finds the clock as it was when the one before began. The first is killed once it has
     begun all of its files and one is complete."""
-    chance, ids = stations.chance_of(39), []
+    chance, ids = chance_of(39), []
     puts, began = min(30, 4000 // (kills + 1)), 1_700_000_000
     last = named_files(kills, puts)
     with Link(program) as link:
@@ -367,16 +60,16 @@ def numbers_mistakes(program, kills):
             sender = link.starts(1, words, PATIENT, waits=False, faults=clock)
             if run == 0:
                 sender.comes_to("finished .* 0 complete")
-                stations.waits_for(lambda: sender.text("stdout").count("transaction") >= puts)
+                waits_for(lambda: sender.text("stdout").count("transaction") >= puts)
             time.sleep(chance.uniform(0, 0.6))
             ids += re.findall(r"transaction (\S+)", sender.killed())
         words = link.puts(1, last) + ["--idle", "3"]
         status, out, err = link.starts(1, words, PATIENT, faults=f"clock=at:{began}").ended()
         ids += re.findall(r"transaction (\S+)", out)
-        if status or stations.unheard(err) or not out.endswith(f"complete {puts} of {puts}\n"):
+        if status or unheard(err) or not out.endswith(f"complete {puts} of {puts}\n"):
             yield f"the last sender: status {status}, {out[-300:]!r}, {err[-300:]!r}"
         receiver.killed()
-        came = stations.files_at(link.folder, 2)
+        came = files_at(link.folder, 2)
     yield from named_mistakes(came, last)
     twice = {it for it in ids if ids.count(it) > 1}
     if twice:
@@ -396,21 +89,6 @@ def named_mistakes(came, last):
         yield f"of the last sender's files {sorted(last.keys() - whole.keys())[:3]}.. didn't come"
     if whole.keys() <= last.keys():
         yield "no file of a killed sender came"
-
-
-def refused_mistakes(station, pattern):
-    """What is wrong with a station that is to end at once, with an error of this pattern."""
-    status, out, err = station.ended()
-    if status != 3 or not re.fullmatch(rf"error: [^\n]*({pattern})[^\n]*\n", err):
-        yield f"it ended with status {status} and not with 3, {out!r}, {err!r}"
-    if "transaction" in out:
-        yield f"it made a put: {out!r}"
-
-
-def damages(octets):
-    """What is no file that a station wrote, though it is near one."""
-    cut = (octets[:-1], octets[: len(octets) // 2], octets[1:])
-    return (b"garbage\n", bytes(100), *cut, octets + octets, b" " + octets)
 
 
 def state_mistakes(program):
@@ -433,7 +111,7 @@ def state_mistakes(program):
         with open(path, "rb") as it:
             whole = it.read()
         for octets in damages(whole):
-            stations.put(link.folder, 1, "../from.state", octets)
+            put(link.folder, 1, "../from.state", octets)
             yield from refused_mistakes(link.starts(1, words, once), "from.state")
             with open(path, "rb") as it:
                 if it.read() != octets:
@@ -457,7 +135,7 @@ def place_mistakes(program):
         if left():
             yield f"with --first-number 7 it left {left()}"
         ended = link.starts(1, ["--inbox", "to", *words], once).ended()
-        if ended[0] != 1 or stations.unheard(ended[2]) or left() != ["from.state"]:
+        if ended[0] != 1 or unheard(ended[2]) or left() != ["from.state"]:
             yield f"it left {left()} beside the folders, {ended}"
         plain = ["--inbox", "to", "--idle", "1"]
         yield from idle_mistakes(link.starts(1, plain, faults="denied=to.state.new"))
@@ -467,12 +145,6 @@ def place_mistakes(program):
             os.remove(f"{folder}/to.state")
         os.mkdir(f"{folder}/to.state")
         yield from idle_mistakes(link.starts(1, plain))
-
-
-def numbers_of(station):
-    """The number of the one transaction of a station, which is killed then."""
-    station.comes_to("transaction")
-    return [int(it) for it in re.findall(r"transaction \d+:(\d+)", station.killed())]
 
 
 def clock_mistakes(program):
@@ -501,7 +173,7 @@ def many_mistakes(program):
     for count in (1, 4096, 4097):
         with Link(program) as link:
             words = link.puts(1, {"a": b"hello"}) + ["--put", "a", "a"] * (count - 1)
-            begun = numbers_of(link.starts(1, words, preexec_fn=stations.many_words))
+            begun = numbers_of(link.starts(1, words, preexec_fn=many_words))
             with open(f"{link.folder}/1/from.state", encoding="ascii") as it:
                 behind = int(re.search(r"(?m)^numbers (\d+)$", it.read())[1])
             if not begun or behind - begun[0] != count:
@@ -564,14 +236,14 @@ def behind_mistakes(program):
         words, came = link.puts(1, {"a": b"hello"}), link.relay.came
         link.starts(1, words).comes_to("eof-sent")
         time.sleep(0.3)
-        stations.waits_for(lambda: came)
+        waits_for(lambda: came)
         link.started[0].killed()
         with open(f"{link.folder}/1/from.state", encoding="ascii") as it:
             reserved = int(re.search(r"frames (\d+)\n", it.read())[1]) % (1 << 24)
         link.relay.catches_up()
         before = len(came)
         link.starts(1, words)
-        stations.waits_for(lambda: len(came) > before)
+        waits_for(lambda: len(came) > before)
         first = {int.from_bytes(frame[2:5], "big") for _, _, frame in came[before : before + 1]}
         if not before or first != {(reserved + 1) % (1 << 24)}:
             yield f"behind {before} frames, and {reserved} as reserved, came the count {first}"
@@ -582,7 +254,7 @@ def stop_mistakes(program):
     with Link(program, Relay()) as link:
         text = f"cfdp_node station 1\nnumbers 1\nframes {(1 << 64) - 2}\n"
         words = link.puts(1, {"a": b"hello"})
-        stations.put(link.folder, 1, "../from.state", text.encode())
+        put(link.folder, 1, "../from.state", text.encode())
         # There is room for what is written at the start alone.
         station = link.starts(1, words, faults="disk=100")
         yield from note_mistakes(station, "nothing is sent", time.time(), 2)
@@ -601,8 +273,9 @@ def unwritable_mistakes(program):
         os.makedirs(f"{link.folder}/1/out", exist_ok=True)
         station = link.starts(1, words, PATIENT)
         os.rename(f"{link.folder}/1/kept", f"{link.folder}/1/away")
-        stations.put(link.folder, 1, "../out/a", b"hello")
-        cause = "no further file is sent: cannot write the state file: no such file"
+        put(link.folder, 1, "../out/a", b"hello")
+        cause = "no further file is sent: cannot write the state file: no such file or folder"
+        cause += r" \(kept/state\)$"
         yield from note_mistakes(station, cause, time.time(), 5)
         before = processor_seconds(station)
         time.sleep(3)
@@ -653,24 +326,24 @@ def disordered(program, link_of, words, settings):
     passes = link_of()
     passes.relay = Relay(passes)
     with Link(program, passes.relay) as link:
-        content = stations.chance_of(48).randbytes(100_000)
+        content = chance_of(48).randbytes(100_000)
         receiver = link.starts(2, ["--inbox", "to", *words], PATIENT | settings)
         puts = link.puts(1, {"a": content})
         sender = link.starts(1, [*puts, "--rate", "400", *words], PATIENT | settings)
-        is_there = lambda: stations.files_at(link.folder, 2).get("a") == content
+        is_there = lambda: files_at(link.folder, 2).get("a") == content
         is_told = lambda: OUT_OF_ORDER in receiver.text("stderr")
         is_over = lambda: sender.process.poll() is not None
         if words or settings:
-            stations.waits_for(lambda: is_there() or is_over())
+            waits_for(lambda: is_there() or is_over())
         else:
-            stations.waits_for(lambda: is_told() or is_over())
+            waits_for(lambda: is_told() or is_over())
         return is_there(), is_told(), [it.text("stdout") for it in (sender, receiver)]
 
 
 def order_mistakes(program):
     """What is wrong where most frames change places, or all come twice: a file of which no PDU fits
     in a frame doesn't arrive, and a note tells why; each of the two things that it says helps."""
-    swaps = lambda: Swaps(0.7, stations.chance_of(47))
+    swaps = lambda: Swaps(0.7, chance_of(47))
     for what, link_of in (("swaps", swaps), ("doubles", Doubles)):
         is_there, is_told, told = disordered(program, link_of, [], {})
         if is_there or not is_told:
@@ -689,7 +362,7 @@ def loss_mistakes(program):
     passes = lambda own, frame: len(link.relay.came) % 10 > 0
     with Link(program, Relay(passes)) as link:
         receiver = link.starts(2, ["--inbox", "to"], PATIENT)
-        content = stations.chance_of(49).randbytes(100_000)
+        content = chance_of(49).randbytes(100_000)
         sender = link.starts(1, [*link.puts(1, {"a": content}), "--rate", "400"], PATIENT)
         if sender.comes_to("finished .* 0 complete retained") is None:
             yield f"the file didn't come: {sender.text('stdout')!r}"
@@ -704,14 +377,14 @@ def loss_mistakes(program):
 def flooded(program, flood, seconds):
     """How long a file of 1 MB takes, at any rate, while a flood reaches both stations; None if it
     isn't complete in so many seconds; and what both told."""
-    with Link(program, Relay()) as link, bound(stations.free_ports(1)[0]) as stranger:
+    with Link(program, Relay()) as link, bound(free_ports(1)[0]) as stranger:
         listens, sockets = link.relay.listens.values(), link.relay.sockets.values()
         floods = {
             "idle": lambda: Flood(idle_frame(0), 1000, list(zip(sockets, listens))),
             "strange": lambda: Flood(b"x", 1000, [(stranger, port) for port in listens]),
             "no": contextlib.nullcontext,
         }
-        words = link.puts(1, {"a": stations.chance_of(40).randbytes(1_000_000)})
+        words = link.puts(1, {"a": chance_of(40).randbytes(1_000_000)})
         receiver = link.starts(2, ["--inbox", "to", "--rate", "0"], PATIENT)
         with floods[flood]():
             time.sleep(0.2)
@@ -733,7 +406,7 @@ def flood_mistakes(program):
         took, told = flooded(program, flood, most)
         if took is None:
             text = f"in a flood ({flood}) no file in {most:.1f} s, and {plain:.1f} without: {told}"
-            yield stations.Timed(text)
+            yield Timed(text)
 
 
 def burst_mistakes(program):
@@ -792,14 +465,6 @@ def full_mistakes(program):
             yield f"it told {count} times that its table is full: {receiver.text('stderr')!r}"
 
 
-def answered(relay, width=4):
-    """The transactions of whose Finisheds station 1 sent an ACK, whose numbers have this width."""
-    octets = b"".join(frame[8:] for _, own, frame in list(relay.came) if own == 1)
-    ids = b"%c\x00\x01(%b)\x00\x02\x06\x51" % (0x0F + width, b"." * width)
-    found = re.findall(b"(?s)" + ids, octets)
-    return {int.from_bytes(it, "big") for it in found}
-
-
 def strange_mistakes(program):
     """What is wrong where 100 Finisheds wait at once of transactions that a sender doesn't know, as
     those of its life before: it has at most 64 answers wait, and drops the rest, which its peer
@@ -814,7 +479,7 @@ def strange_mistakes(program):
             for zone in zones_of([finished(number) for number in numbers], 101):
                 link.relay.give(1, frame_of(PEER_DIRECTIVES, next(counts), zone))
             sender.process.send_signal(signal.SIGCONT)
-            stations.waits_for(lambda: len(answered(link.relay)) >= count)
+            waits_for(lambda: len(answered(link.relay)) >= count)
         missing = set(range(1, 101)) - answered(link.relay)
         if missing:
             yield f"it never answered to the Finisheds of {sorted(missing)}"
@@ -836,7 +501,7 @@ def misfit_mistakes(program, key, values, word):
         receiver = link.starts(2, ["--inbox", "to"], settings.get(2), **ids)
         since = time.time()
         sender = link.starts(1, words, settings.get(1))
-        stations.waits_for(lambda: link.relay.first(since) is not None)
+        waits_for(lambda: link.relay.first(since) is not None)
         first = link.relay.first(since) or since
         wanted = rf"(?=.*\b{word}\b)" + "".join(rf"(?=.*\b{it}\b)" for it in values)
         for it in (sender, receiver):
@@ -859,35 +524,15 @@ MISFITS = (
 # ---- paces
 
 
-def crowd_mistakes(times, rate):
-    """What is wrong where more frames lie in some second than the rate and a few. At a high rate
-    some more may: between its look at the clock and its send a station may have to wait."""
-    for at, start in enumerate(times):
-        count = bisect.bisect_left(times, start + 1) - at
-        if count > rate + 8 + rate // 200:
-            after = start - times[0]
-            yield stations.Timed(f"{count} frames in a second, {after:.2f} s after the first")
-            return
-
-
-def silence_mistakes(times, rate):
-    """What is wrong where nothing is sent for too long."""
-    gaps = [(next_one - it, it - times[0]) for it, next_one in zip(times, times[1:])]
-    longest, at = max(gaps, default=(0, 0))
-    if longest > 3 / rate + 0.6:
-        text = f"nothing is sent for {longest:.2f} s, {at:.2f} s after the first frame"
-        yield stations.Timed(text)
-
-
 def rate_mistakes(program, rate):
     """What is wrong at this rate, in one of some trials."""
-    yield from stations.in_one_of(TRIALS, lambda: rate_trial_mistakes(program, rate))
+    yield from in_one_of(TRIALS, lambda: rate_trial_mistakes(program, rate))
 
 
 def rate_trial_mistakes(program, rate):
     """What is wrong where both stations send at most so many frames a second, for some 5 s."""
     sizes = [2500] if rate == 1 else [rate * 250] * 5
-    files = {f"f{it}": stations.chance_of(it).randbytes(size) for it, size in enumerate(sizes)}
+    files = {f"f{it}": chance_of(it).randbytes(size) for it, size in enumerate(sizes)}
     with Link(program, Relay()) as link:
         both = ["--idle", "20", "--rate", str(rate)]
         receiver = link.starts(2, ["--inbox", "to", *both])
@@ -895,14 +540,15 @@ def rate_trial_mistakes(program, rate):
         ends = {1: sender.ended(), 2: receiver.ended()}
         whole = {1: f"complete {len(files)} of {len(files)}\n", 2: "complete 0 of 0\n"}
         for own, (status, out, err) in ends.items():
-            if status or err or not out.endswith(whole[own]) or re.search("abandoned|fault", out):
+            is_whole = out.endswith(whole[own]) and not re.search("abandoned|fault", out)
+            if status or unheard(err) or not is_whole:
                 yield f"station {own}: status {status}, {out[-300:]!r}, {err[-300:]!r}"
         most = 5 / rate + 1 + SLACK
         begun = receiver.comes_to("metadata", 0)
         if begun is None or begun > link.relay.first() + most:
             yield f"no Metadata came within {most:.1f} s of the first frame"
         done = len(re.findall(r"finished \S+ 0 complete retained", ends[2][1]))
-        if done != len(files) or stations.files_at(link.folder, 2) != files:
+        if done != len(files) or files_at(link.folder, 2) != files:
             yield f"the receiver told of {done} complete files of {len(files)}"
         sent = [(when, frame) for when, own, frame in link.relay.came if own == 1]
     times = sorted(when for when, _ in sent)
@@ -912,24 +558,26 @@ def rate_trial_mistakes(program, rate):
 
 
 def held_mistakes(program):
-    """What is wrong where nothing comes for 5 s in the middle of a file, at a station that may end
-    after 2 s: it has to stay."""
+    """What is wrong where nothing comes for 8 s in the middle of a file, at a station that may end
+    after 4 s: it has to stay. Its first frames wait for it, so that it isn't silent before."""
     with Link(program, Relay()) as link:
-        octets = stations.chance_of(41).randbytes(20_000)
-        receiver = link.starts(2, ["--inbox", "to", "--idle", "2"])
-        sender = link.starts(1, link.puts(1, {"a": octets}) + ["--rate", "30", "--idle", "8"])
-        while len(link.relay.came) < 20 and sender.process.poll() is None:
-            time.sleep(0.01)
+        octets = chance_of(41).randbytes(20_000)
         link.relay.holds = True
-        time.sleep(5)
+        sender = link.starts(1, link.puts(1, {"a": octets}) + ["--rate", "30", "--idle", "8"])
+        waits_for(lambda: len(link.relay.held) >= 20)
+        receiver = link.starts(2, ["--inbox", "to", "--idle", "4"])
+        link.relay.release_first(20)
+        if receiver.comes_to("metadata") is None:
+            yield f"the file never began to come: {receiver.text('stderr')!r}"
+        time.sleep(8)
         link.relay.release()
         status, out, err = receiver.ended()
-        if status or err or not re.search(r"finished \S+ 0 complete retained", out):
+        if status or unheard(err) or not re.search(r"finished \S+ 0 complete retained", out):
             yield f"the receiver: status {status}, {out!r}, {err!r}"
-        if stations.files_at(link.folder, 2) != {"a": octets}:
+        if files_at(link.folder, 2) != {"a": octets}:
             yield "the file didn't come"
         status, out, err = sender.ended()
-        if status or err or not out.endswith("complete 1 of 1\n"):
+        if status or unheard(err) or not out.endswith("complete 1 of 1\n"):
             yield f"the sender: status {status}, {out!r}, {err!r}"
 
 
@@ -964,7 +612,7 @@ def late_mistakes(program):
         link.starts(2, ["--inbox", "to"], PATIENT)
         once = {"eof_time": 10, "eof_limit": 0}
         sender = link.starts(1, link.puts(1, {"a": b"hello"}), once, waits=False)
-        stations.waits_for(lambda: answers)
+        waits_for(lambda: answers)
         time.sleep(0.5)
         sender.process.send_signal(signal.SIGSTOP)
         for frame in [*(idle_frame(count) for count in range(150)), *answers]:
@@ -989,33 +637,6 @@ def kept_mistakes(program):
             counts = [int.from_bytes(it[2:5], "big") for it in frames if it[1] & 63 == channel]
             if any((after - it) % (1 << 24) != 1 for it, after in zip(counts, counts[1:])):
                 yield f"a frame of channel {channel} never left: the counts were {counts}"
-
-
-def wakes_of(station):
-    """How often a station has waited."""
-    with open(f"/proc/{station.process.pid}/status", encoding="ascii") as it:
-        return int(re.search(r"(?m)^voluntary_ctxt_switches:\s*(\d+)", it.read())[1])
-
-
-def processor_seconds(station):
-    """How long a station has had a processor."""
-    with open(f"/proc/{station.process.pid}/stat", encoding="ascii") as it:
-        user, system = it.read().rsplit(")", 1)[1].split()[11:13]
-    return (int(user) + int(system)) / os.sysconf("SC_CLK_TCK")
-
-
-def rests(program):
-    """How often stations wake in a second that have nothing to do, or a put whose peer isn't there,
-    for how long they have a processor in 5 s, and which station it is."""
-    with Link(program) as link, Link(program) as other:
-        three = [link.starts(own, ["--inbox", "to"]) for own in (1, 2)]
-        three += [other.starts(1, other.puts(1, {"a": b"hello"}), PATIENT)]
-        time.sleep(2)
-        before = [(wakes_of(it), processor_seconds(it)) for it in three]
-        time.sleep(5)
-        now = [(wakes_of(it), processor_seconds(it)) for it in three]
-        names = ("station 1 at rest", "station 2 at rest", "a station whose peer isn't there")
-        return [((b[0] - a[0]) / 5, b[1] - a[1], it) for a, b, it in zip(before, now, names)]
 
 
 def rest_mistakes(program):
@@ -1060,7 +681,7 @@ def report_mistakes(program):
             link.starts(1, link.puts(1, {"a": octets}), PATIENT)
             if receiver.comes_to("finished .* 0 complete retained") is None:
                 yield f"the file didn't come: {receiver.text('stdout')!r}"
-        if stations.files_at(link.folder, 2) != {"a": octets}:
+        if files_at(link.folder, 2) != {"a": octets}:
             yield "what came isn't what was sent"
 
 
@@ -1093,14 +714,14 @@ def large_mistakes(program):
             most = int(re.search(r"(?m)^VmHWM:\s*(\d+) kB", it.read())[1])
         if most >= 16_000:
             yield f"the receiver had {most} kB of memory"
-        if stations.files_at(link.folder, 2) != {"a": octets}:
+        if files_at(link.folder, 2) != {"a": octets}:
             yield "what came isn't what was sent"
 
 
 def lone_mistakes(program):
     """What is tried with nothing beside it, since what it shows depends on milliseconds, or since
     it leaves no processor to others."""
-    floods = stations.in_one_of(TRIALS, lambda: flood_mistakes(program))
+    floods = in_one_of(TRIALS, lambda: flood_mistakes(program))
     yield "floods of what carries nothing", floods
     yield "a file of 64 MiB", large_mistakes(program)
 
@@ -1112,7 +733,7 @@ def all_mistakes(program, kills):
     yield f"senders killed {kills} times, their clock set back", numbers_mistakes(program, kills)
     yield "a receiver killed behind the EOF", waiting_mistakes(program)
     yield "a table filled with what nobody sent", full_mistakes(program)
-    yield "nothing comes for 5 s", held_mistakes(program)
+    yield "nothing comes for 8 s", held_mistakes(program)
     yield "idle frames alone", unended_mistakes(program)
     yield "stations at rest", rest_mistakes(program)
     yield "100 Finisheds of unknown transactions at once", strange_mistakes(program)

@@ -6,16 +6,16 @@ import pty
 import re
 import select
 import subprocess
+import tempfile
 import threading
 import time
 
-import control
-import relay
-import stations
-from control import asked, controlled
-from links import SLACK, Link
+from lib.control import Client, asked, controlled
+from lib.disks import fill, small_disk
+from lib.links import Link
+from lib.waiting import SECONDS, SLACK, waits_for
 
-# So many puts of files that aren't there are asked for: each is a line of the log, and together
+# So many puts of a file that is too large are asked for: each is a line of the log, and together
 # they are more than what a pipe, a terminal and the station have room for.
 PUTS = 14_000
 
@@ -26,10 +26,26 @@ MOST_END = 3 + SLACK
 SOME_ROOM = 8192
 
 
+# Folders in memory, which are removed at the end.
+MADE = []
+
+
+def makes_outbox(link):
+    """Makes the outbox of station 1, with a file that is longer than any that can be sent. It is in
+    memory, since a file system of a disk takes no file of this length."""
+    MADE.append(tempfile.TemporaryDirectory(dir="/dev/shm"))
+    outbox = f"{MADE[-1].name}/from"
+    os.makedirs(outbox)
+    with open(f"{outbox}/no", "wb") as it:
+        it.truncate((1 << 48) + 1)
+    os.makedirs(f"{link.folder}/1", exist_ok=True)
+    os.symlink(outbox, f"{link.folder}/1/from")
+
+
 def line(number, is_json):
     """The line of a put that is refused, as it is compared."""
-    answer = {"station": 1, "event": "put", "line": number, "answer": "NoSuchFile"}
-    return answer if is_json else f"line {number} NoSuchFile"
+    answer = {"station": 1, "event": "put", "line": number, "answer": "TooLarge"}
+    return answer if is_json else f"line {number} TooLarge"
 
 
 def lost(count, is_json):
@@ -43,13 +59,14 @@ def read(text, is_json):
     if not is_json:
         return text.splitlines()
     objects = [json.loads(it) for it in text.splitlines()]
+    objects = [it for it in objects if it["event"] != "note"]
     keys = ("station", "event", "line", "answer", "lines", "complete", "asked")
     return [{key: it[key] for key in keys if key in it} for it in objects]
 
 
 def puts(port, count):
-    """Asks for so many puts of a file that isn't there; the answers that are others than ok."""
-    with control.Client(port) as client:
+    """Asks for so many puts of a file that is too large; the answers that are others than ok."""
+    with Client(port) as client:
         asking = threading.Thread(target=client.says, args=(b"put no no\n" * count,))
         asking.start()
         answers = [client.hears() for _ in range(count)]
@@ -64,7 +81,7 @@ def refused(program, port):
     return int(found[1] or found[2]) if found else None
 
 
-def reads(output, is_whole, seconds=stations.SECONDS):
+def reads(output, is_whole, seconds=SECONDS):
     """What comes from an output until this is so of it, or it is at its end."""
     told, stop = b"", time.monotonic() + seconds
     while not is_whole(told) and time.monotonic() < stop:
@@ -84,14 +101,14 @@ def unread_mistakes(program, is_terminal=False, is_json=False):
     while. Once it is read, whole lines come in order, then how many were lost, then all others."""
     outer, inner = pty.openpty() if is_terminal else os.pipe()
     with Link(program) as link:
-        os.makedirs(f"{link.folder}/1/from")
+        makes_outbox(link)
         words = ["--outbox", "from", "--json", "--no-time"]
         words = words if is_json else words[:2]
         it, port = controlled(link, 1, words, stdout=inner, reads=("stderr",))
         os.close(inner)
         if wrong := puts(port, PUTS):
             yield f"of {PUTS} puts {len(wrong)} were answered {wrong[:2]}"
-        if not stations.waits_for(lambda: refused(program, port) == PUTS):
+        if not waits_for(lambda: refused(program, port) == PUTS):
             yield f"it refused {refused(program, port)} puts, and was asked for {PUTS}"
         ends = b'"lost"' if is_json else b" were lost"
         told = reads(outer, lambda told: re.search(ends + b"[^\n]*\n", told))
@@ -106,7 +123,7 @@ def unread_mistakes(program, is_terminal=False, is_json=False):
     kept = next((at for at, it in enumerate(found) if it != line(at + 1, is_json)), 0)
     wanted = [line(at + 1, is_json) for at in range(kept)]
     wanted += [lost(PUTS - kept, is_json), line(PUTS + 1, is_json)]
-    if not 1000 < kept < PUTS or found[: kept + 2] != wanted:
+    if not 500 < kept < PUTS or found[: kept + 2] != wanted:
         yield f"behind {kept} lines it told {found[kept : kept + 3]}"
     if status != 1 or err or f"{PUTS + 1}" not in str(found[-1]) or "0" not in str(found[-1]):
         yield f"it ended with status {status}, {err!r} and {found[-1:]}"
@@ -117,14 +134,14 @@ def stuck_mistakes(program, is_broken=False):
     the station ends soon when it is told to, and says why its last lines are missing."""
     outer, inner = os.pipe()
     with Link(program) as link:
-        os.makedirs(f"{link.folder}/1/from")
+        makes_outbox(link)
         it, port = controlled(link, 1, ["--outbox", "from"], stdout=inner, reads=("stderr",))
         os.close(inner)
         if is_broken:
             os.close(outer)
         if wrong := puts(port, PUTS):
             yield f"of {PUTS} puts {len(wrong)} were answered {wrong[:2]}"
-        if not stations.waits_for(lambda: refused(program, port) == PUTS):
+        if not waits_for(lambda: refused(program, port) == PUTS):
             yield f"it refused {refused(program, port)} puts, and was asked for {PUTS}"
         began = time.monotonic()
         asked(program, port, "stop", "now")
@@ -140,7 +157,7 @@ def full_mistakes(program):
     """What is wrong where the log is on a full disk: the station goes on, and says at its end that
     its last lines are missing."""
     with Link(program) as link, open("/dev/full", "wb") as full:
-        os.makedirs(f"{link.folder}/1/from")
+        makes_outbox(link)
         it, port = controlled(link, 1, ["--outbox", "from"], stdout=full, reads=("stderr",))
         if wrong := puts(port, PUTS):
             yield f"of {PUTS} puts {len(wrong)} were answered {wrong[:2]}"
@@ -157,9 +174,9 @@ def freed_mistakes(program):
     once there is room, the log goes on where it broke off, and tells how many lines are lost."""
     with Link(program) as link:
         folder = f"{link.folder}/1"
-        os.makedirs(f"{folder}/from")
+        makes_outbox(link)
         os.makedirs(f"{folder}/disk")
-        with relay.small_disk(f"{folder}/disk") as is_mounted:
+        with small_disk(f"{folder}/disk") as is_mounted:
             if is_mounted:
                 yield from freed_on_mistakes(program, link, f"{folder}/disk")
 
@@ -168,15 +185,15 @@ def freed_on_mistakes(program, link, disk):
     """The same, with the log on this disk."""
     with open(f"{disk}/log", "ab") as log:
         it, port = controlled(link, 1, ["--outbox", "from"], stdout=log, reads=("stderr",))
-    relay.fill(f"{disk}/filler")
+    fill(f"{disk}/filler")
     os.truncate(f"{disk}/filler", os.stat(f"{disk}/filler").st_size - SOME_ROOM)
     if wrong := puts(port, PUTS):
         yield f"of {PUTS} puts {len(wrong)} were answered {wrong[:2]}"
-    if not stations.waits_for(lambda: refused(program, port) == PUTS):
+    if not waits_for(lambda: refused(program, port) == PUTS):
         yield f"it refused {refused(program, port)} puts, and was asked for {PUTS}"
     os.remove(f"{disk}/filler")
     is_told = lambda: " were lost\n" in text_of(f"{disk}/log")
-    if not stations.waits_for(is_told):
+    if not waits_for(is_told):
         yield "it doesn't tell how many lines were lost"
     puts(port, 1)
     asked(program, port, "stop", "now")
@@ -200,11 +217,11 @@ def whole_mistakes(program):
     """What is wrong with the log in a file, of as many lines as are lost where nobody reads: all of
     them are there, in order."""
     with Link(program) as link:
-        os.makedirs(f"{link.folder}/1/from")
+        makes_outbox(link)
         with open(f"{link.folder}/1/log", "wb") as log:
             it, port = controlled(link, 1, ["--outbox", "from"], stdout=log, reads=("stderr",))
         puts(port, PUTS)
-        if not stations.waits_for(lambda: refused(program, port) == PUTS):
+        if not waits_for(lambda: refused(program, port) == PUTS):
             yield f"it refused {refused(program, port)} puts, and was asked for {PUTS}"
         asked(program, port, "stop", "now")
         status, _, err = it.ended()
@@ -220,18 +237,18 @@ def once_mistakes(program):
     missing."""
     with Link(program) as link, contextlib.ExitStack() as stack:
         log = stack.enter_context(open(f"{link.folder}/log", "wb"))
-        os.makedirs(f"{link.folder}/1/from")
+        makes_outbox(link)
         words = ["--outbox", "from"]
         ways = {"stdout": log, "reads": ("stderr",), "faults": "full-once"}
         it, port = controlled(link, 1, words, **ways)
         puts(port, 3)
         is_told = lambda: text_of(f"{link.folder}/log").count("\n") == 3
-        if not stations.waits_for(is_told):
+        if not waits_for(is_told):
             yield f"it told {text_of(f'{link.folder}/log')!r}"
         asked(program, port, "stop", "now")
         status, _, err = it.ended()
         told = text_of(f"{link.folder}/log")
-    if status != 1 or err or told != "".join(f"line {n} NoSuchFile\n" for n in (1, 2, 3)) + (
+    if status != 1 or err or told != "".join(f"line {n} TooLarge\n" for n in (1, 2, 3)) + (
         "complete 0 of 3\n"
     ):
         yield f"status {status}, {err!r}, {told!r}"
@@ -242,13 +259,13 @@ def input_mistakes(program):
     come, whole and in order, and then how many lines were lost."""
     outer, inner = os.pipe()
     with Link(program) as link:
-        os.makedirs(f"{link.folder}/1/from")
+        makes_outbox(link)
         ways = {"stdin": subprocess.PIPE, "stdout": inner, "reads": ("stderr",)}
         it, port = controlled(link, 1, ["--outbox", "from", "--commands"], **ways)
         os.close(inner)
         it.process.stdin.write(b"lst\n" * 10_000 + b"put no no\n")
         it.process.stdin.flush()
-        if not stations.waits_for(lambda: refused(program, port) == 1):
+        if not waits_for(lambda: refused(program, port) == 1):
             yield "it doesn't take all that is asked of it"
         told = reads(outer, lambda told: b" were lost\n" in told)
         asked(program, port, "stop", "now")

@@ -1,8 +1,7 @@
 #!/usr/bin/env python3
 """The page of `cfdp_node play`: what its server answers, and what the page shows and does.
 
-    tests/play.py [PROGRAM]                 all of it, by this program or by that of `rt ci`
-    tests/play.py --picture FILE [PROGRAM]  draws the page, as the documents show it
+    tests/play.py [PROGRAM]    all of it, by this program or by that of `rt ci`
 
 The page is tried in a browser, Debian's chromium; where there is none that is said, and not tried.
 """
@@ -11,8 +10,6 @@ import contextlib
 import glob
 import hashlib
 import http.client
-import importlib.machinery
-import importlib.util
 import json
 import os
 import re
@@ -20,18 +17,16 @@ import socket
 import struct
 import subprocess
 import sys
-import tempfile
 import time
-import types
 import urllib.parse
 
-import any_order
-import links
-from browser import Browser, path_of_browser
-from console_page import FAINT, NAMED
-
-HERE = os.path.dirname(os.path.abspath(__file__))
-TOP = os.path.dirname(HERE)
+from lib.browser import FAINT, NAMED, Browser, path_of_browser
+from lib.counting import print_all
+from lib.paths import TESTS, TOP
+from lib.program import program_of
+from lib.rows import is_told, rows_of
+from lib.scripts import is_of_any_order
+from lib.waiting import SLACK
 
 # For how many seconds an answer is waited for, and something that the page is to show.
 PATIENCE, SOON = 600, 60
@@ -50,18 +45,6 @@ LEFT_AFTER, MOST_MEMORY = 10, 65536
 DESK, TELEPHONE, NARROW = (1280, 1000), (390, 844), (320, 640)
 
 PUT = "file 1 a.txt hello\nput 1 a.txt b.txt\n"
-
-
-def rows_module():
-    """What reads rows."""
-    known = sys.modules.get("__main__")
-    if hasattr(known, "rows_of"):
-        return known
-    loader = importlib.machinery.SourceFileLoader("rows_of_tests", f"{HERE}/run")
-    spec = importlib.util.spec_from_loader("rows_of_tests", loader)
-    module = importlib.util.module_from_spec(spec)
-    loader.exec_module(module)
-    return module
 
 
 class Served:
@@ -112,11 +95,12 @@ def simulated(program, script, *words):
 
 
 def scripts():
-    """The scripts of the rows that have no files and no faults, and those of the examples."""
-    module = rows_module()
-    for path in sorted(glob.glob(f"{HERE}/rows/*.rows")):
-        for row in module.rows_of(path):
+    """The scripts of the rows that have no files, no faults and no lack of memory, which the page
+    says in other words, and those of the examples."""
+    for path in sorted(glob.glob(f"{TESTS}/rows/*.rows")):
+        for row in rows_of(path):
             is_plain = not (row.faults or row.files or row.there or row.before or row.is_swept)
+            is_plain = is_plain and row.status != 3
             if is_plain and row.words == ["sim"] and is_shown("".join(row.given)):
                 yield row.place, "".join(row.given), row
     for path in sorted(glob.glob(f"{TOP}/examples/*.script")):
@@ -128,13 +112,13 @@ def scripts():
 
 def is_shown(script):
     """Whether the page's world has all that a script asks for."""
-    return not any_order.is_of_any_order(script)
+    return not is_of_any_order(script)
 
 
 def same_mistakes(program):
     """What is wrong where the page's run of a script isn't that of `sim`: the report, the status
     and the mistake of each row, and the trace, octet for octet."""
-    is_told, count, refused = rows_module().is_told, 0, 0
+    count, refused = 0, 0
     with Served(program) as it:
         for place, script, row in scripts():
             if len(script.encode("latin-1")) > MOST_BODY:
@@ -178,7 +162,7 @@ def bound_mistakes(program):
             begun = time.monotonic()
             script = settings + "fill 1 a 16384 41\n" + "put 1 a b\n" * 64 + "recover\n"
             found = it.runs(script)
-            if time.monotonic() - begun > 120 * links.SLACK:
+            if time.monotonic() - begun > 120 * SLACK:
                 yield f"{settings}: it took {time.monotonic() - begun:.0f} s"
             if found["report"] != simulated(program, script)[1]:
                 yield f"{settings}: {found['report'][-300:]}"
@@ -269,14 +253,14 @@ def slow_mistakes(program):
         with socket.create_connection(("127.0.0.1", it.port), 0.4, OTHER) as late:
             late.sendall(f"GET / HTTP/1.1\r\nHost: {it.own[7:]}\r\n\r\n".encode())
             found = b""
-            while not found and time.monotonic() < begun + 3 * LEFT_AFTER + links.SLACK:
+            while not found and time.monotonic() < begun + 3 * LEFT_AFTER + SLACK:
                 for one in held[8:]:
                     with contextlib.suppress(OSError):
                         one.sendall(b"#")
                 with contextlib.suppress(TimeoutError):
                     found = late.recv(20)
         took = time.monotonic() - begun
-        if not found.startswith(b"HTTP/1.1 200") or took > LEFT_AFTER + 10 + links.SLACK:
+        if not found.startswith(b"HTTP/1.1 200") or took > LEFT_AFTER + 10 + SLACK:
             yield f"after {took:.0f} s one is answered {found}"
         for one in held:
             one.close()
@@ -298,7 +282,7 @@ def gone_mistakes(it):
                 one.sendall(words[count % len(words)])
         count += 1
     begun = time.monotonic()
-    if it.asks("GET", "/")[0] != 200 or time.monotonic() - begun > 20 + links.SLACK:
+    if it.asks("GET", "/")[0] != 200 or time.monotonic() - begun > 20 + SLACK:
         yield f"behind {count} that went away one waits {time.monotonic() - begun:.0f} s"
     with open(f"/proc/{it.process.pid}/status", encoding="ascii") as status:
         most = int(re.search(r"VmHWM:\s+(\d+) kB", status.read())[1])
@@ -399,6 +383,9 @@ def transfer_mistakes(program):
         if not status_is(page, "complete 1 of 1"):
             yield f"recovered: {page.finds(TEXT_OF.format('status'))}"
         page.awaits(f"{TEXT_OF.format('chart')}.includes('ack 1:1 5')", SOON)
+        rows = page.finds("[...document.querySelectorAll('#open tr')].map((it) => it.textContent)")
+        if not any("received 5 of 5" in it for it in rows) or any("0 of 5" in it for it in rows):
+            yield f"a receiver that has the whole file: {rows}"
         wanted = "file 1 a.txt hello\nput 1 a.txt a.txt\nspread 1\nstrike 1 data\nrecover\n"
         if page.finds(SCRIPT) != wanted:
             yield f"the script is {page.finds(SCRIPT)}"
@@ -503,6 +490,33 @@ def damage_mistakes(program):
         yield from loaded_mistakes(it, page)
 
 
+# Which frame has the focus: its lane and what is told of it; the element's id where it is none.
+FOCUSED = """(() => { const it = document.activeElement;
+  return it.dataset?.place ? it.getAttribute("aria-label") : it.id || it.tagName; })()"""
+
+
+def focus_mistakes(program):
+    """What is wrong with what has the focus after a key has lost or delivered the frame that had
+    it: the next frame of its lane, or else another one, or the link; with motion and without."""
+    script = "set segment 100\nfill 1 a.bin 300 00\nput 1 a.bin a.bin\nspread 1\n"
+    for motion in ("no-preference", "reduce"):
+        with opened(program, script) as (_, page):
+            page.asks("Page.bringToFront")
+            page.asks("Emulation.setEmulatedMedia",
+                      features=[{"name": "prefers-reduced-motion", "value": motion}])
+            page.awaits(f"{FRAMES} === 5", SOON)
+            page.finds("document.querySelector('.frame.data').focus()")
+            for key, wanted in (("l", "data 1:1 100"), ("d", "data 1:1 200"), ("l", "metadata")):
+                page.presses(key, f"Key{key.upper()}", key)
+                if not page.awaits(f"{FOCUSED}.includes({json.dumps(wanted)})", SOON):
+                    yield f"{motion}, {key}: {page.finds(FOCUSED)} has the focus, not {wanted}"
+            for key in "ll":
+                page.presses(key, "KeyL", key)
+                page.awaits(f"!{FOCUSED}.includes('metadata')", SOON)
+            if not page.awaits(f"{FRAMES} === 0 && {FOCUSED} === 'scene'", SOON):
+                yield f"{motion}: {page.finds(FRAMES)} frames, {page.finds(FOCUSED)} has the focus"
+
+
 def key_mistakes(program):
     """What is wrong where all is done by keys, and nothing moves."""
     with opened(program) as (it, page):
@@ -563,23 +577,6 @@ def form_mistakes(program):
                 yield f"in a window of {size[0]} these are too small to be met: {small}"
 
 
-def picture(program, path):
-    """Draws the page at work, as the documents show it."""
-    script = ("set segment 200\nfill 1 image.fits 1000 41\nput 1 image.fits image.fits\nspread 1\n"
-              "deliver 1 dir\ndeliver 1 data 2\nstrike 1 data\ndeliver 1 data\ndeliver 1 dir\n"
-              "spread 2\n")
-    with opened(program, script) as (_, page):
-        page.has_size(1180, 860)
-        page.awaits(f"{TEXT_OF.format('chart')}.includes('eof-recv') && {FRAMES} === 3", SOON)
-        time.sleep(2)
-        page.clicks("document.querySelectorAll('.frame.dir')[1]")
-        page.awaits(f"{TEXT_OF.format('opened-body')}.includes('AOS')", SOON)
-        page.finds("document.activeElement.blur()")
-        page.finds("scrollTo(0, 0)")
-        time.sleep(0.5)
-        page.draws(path)
-
-
 def all_mistakes(program):
     """What is tried, with what is wrong in it."""
     tried = [("the page's run of a script is that of sim", same_mistakes),
@@ -594,6 +591,7 @@ def all_mistakes(program):
                   ("files that are dropped on a station of the page", dropped_mistakes),
                   ("a frame that is damaged in the page", damage_mistakes),
                   ("the page by keys alone, without motion", key_mistakes),
+                  ("what has the focus after a key in the page", focus_mistakes),
                   ("the page's names, contrast and width", form_mistakes)]
     if path_of_browser():
         tried += in_browser
@@ -604,22 +602,8 @@ def all_mistakes(program):
 
 
 def main(words):
-    drawn = words[1] if words[:1] == ["--picture"] else None
-    words = words[2:] if drawn else words
-    path = os.path.abspath(words[0] if words else f"{TOP}/crates/cfdp_node/out/cfdp_node")
-    failed = 0
-    with tempfile.TemporaryDirectory() as room:
-        program = types.SimpleNamespace(path=path, room=room)
-        if drawn:
-            picture(program, drawn)
-            return 0
-        for what, wrong in all_mistakes(program):
-            found = list(wrong)
-            failed += bool(found)
-            print(f"{'failed' if found else 'passed'}: {what}", flush=True)
-            for it in found:
-                print(f"    {it}", flush=True)
-    return 1 if failed else 0
+    with program_of(words) as program:
+        return print_all(all_mistakes(program))
 
 
 if __name__ == "__main__":

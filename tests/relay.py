@@ -3,52 +3,30 @@ and started anew, links lose frames, and a disk is full; and what becomes of sin
 import contextlib
 import os
 import re
-import resource
 import signal
 import subprocess
 import tempfile
 import threading
 import time
 
-import links
-import stations
-from stations import PATIENT, waits_for
+from lib import processes
+from lib.choices import chance_of
+from lib.disks import fill, limited, small_disk
+from lib.links import Link
+from lib.ports import free_ports
+from lib.processes import PATIENT, Station, put
+from lib.spools import HASTY, INBOX, SPOOL, drop, names_in, octets_of, spool_of
+from lib.waiting import waits_for
 
 # A relay has these stations, each with its peer, and what it does with a folder: the inbox of the
 # second is the spool of the third.
 STATIONS = {1: (2, "--spool", "A"), 2: (1, "--inbox", "B")}
 STATIONS |= {3: (4, "--spool", "B"), 4: (3, "--inbox", "C")}
 
-# What both ends of a link of a relay are set to: who was killed has forgotten its transactions, and
-# its peer gives them up within some seconds. Then the spool gives the file again.
-HASTY = {"eof_time": 1, "nak_time": 1, "finished_time": 1, "inactivity_time": 4, "zone": 1024}
-HASTY |= {"eof_limit": 4, "nak_limit": 4, "finished_limit": 4}
-
 FILES, KILLS = 200, 20
 
 # How long a relay may take, in seconds, from the first file on.
 LONGEST = 600
-
-
-def names_in(folder):
-    """The names in a folder that begin with no point; none where there is no folder."""
-    with contextlib.suppress(FileNotFoundError):
-        return {it for it in os.listdir(folder) if not it.startswith(".")}
-    return set()
-
-
-def octets_of(path):
-    """What a file has, or None where it isn't there any more."""
-    with contextlib.suppress(FileNotFoundError), open(path, "rb") as it:
-        return it.read()
-    return None
-
-
-def drop(folder, name, octets):
-    """Drops a file into a spool, as is to be done: whole, by a rename."""
-    with open(f"{folder}/.{name}", "wb") as it:
-        it.write(octets)
-    os.rename(f"{folder}/.{name}", f"{folder}/{name}")
 
 
 # ---- a relay
@@ -94,7 +72,7 @@ class Relay:
 
     def __init__(self, program, room):
         self.program, self.room, self.running, self.limits = program, room, {}, set()
-        ports, self.ends = stations.free_ports(4), {}
+        ports, self.ends = free_ports(4), {}
         self.ports, self.lock = dict(zip(STATIONS, ports)), threading.Lock()
         for folder in "ABC":
             os.mkdir(f"{room}/{folder}")
@@ -114,7 +92,7 @@ class Relay:
             if own in self.limits:
                 ways |= {"preexec_fn": limited, "restore_signals": False}
             ends = (self.program, self.room, own, peer, self.ports)
-            self.running[own] = stations.Station(*ends, words, HASTY, **ways)
+            self.running[own] = Station(*ends, words, HASTY, **ways)
             ways["stderr"].close()
 
     def log(self, own):
@@ -168,31 +146,6 @@ class Relay:
         return {own: (octets_of(f"{self.room}/{own}.log") or b"")[-300:] for own in STATIONS}
 
 
-def limited():
-    """No file of this process may have more than 4,096 octets: as if its disk were full."""
-    signal.signal(signal.SIGXFSZ, signal.SIG_IGN)
-    resource.setrlimit(resource.RLIMIT_FSIZE, (4096, 4096))
-
-
-@contextlib.contextmanager
-def small_disk(folder):
-    """A disk of 32 MB at this folder, where the system lets one be mounted; gives whether."""
-    words = ["mount", "-t", "tmpfs", "-o", "size=32m", "tmpfs", folder]
-    is_there = os.geteuid() == 0 and subprocess.run(words, capture_output=True).returncode == 0
-    try:
-        yield is_there
-    finally:
-        if is_there:
-            subprocess.run(["umount", "-l", folder], capture_output=True, check=False)
-
-
-def fill(path):
-    """Fills the disk of this path up."""
-    with contextlib.suppress(OSError), open(path, "wb", buffering=0) as it:
-        while it.write(bytes(4096)):
-            pass
-
-
 def many_files(chance):
     """Files of mixed sizes, from none to 200,000 octets, by their names."""
     sizes = [0, 1, 1023, 1024, 1025, 200_000]
@@ -232,7 +185,7 @@ def relay_mistakes(program, is_full=False):
     """What is wrong where 200 files go over three stations to a fourth, a fifth of all frames is
     lost, and each station is killed 20 times; the disk at the end may be full for 10 s meanwhile.
     Nothing may be lost, and nothing partial be seen."""
-    chance = stations.chance_of(43 + is_full)
+    chance = chance_of(43 + is_full)
     files = many_files(chance)
     with contextlib.ExitStack() as stack:
         room = stack.enter_context(tempfile.TemporaryDirectory(dir=program.room))
@@ -267,51 +220,6 @@ def drop_all(folder, files):
 
 # ---- single files
 
-# Words of a station that sends what lies in its folder `from`, and of one that takes files.
-SPOOL = ["--spool", "from", "--no-time", "--rate", "4000"]
-INBOX = ["--inbox", "to", "--no-time", "--rate", "4000"]
-
-
-class Spool:
-    """The spool of station 1 of a link, and the inbox of station 2."""
-
-    def __init__(self, link):
-        self.link = link
-        self.folder, self.inbox = f"{link.folder}/1/from", f"{link.folder}/2/to"
-        for it in (self.folder, self.inbox):
-            os.makedirs(it, exist_ok=True)
-
-    def drops(self, files):
-        for name, octets in files.items():
-            drop(self.folder, name, octets)
-
-    def came(self):
-        """What lies in the inbox."""
-        return {name: octets_of(f"{self.inbox}/{name}") for name in names_in(self.inbox)}
-
-    def in_folder(self, folder):
-        """What lies in a folder of the spool, such as `.sent`."""
-        path = f"{self.folder}/{folder}"
-        return {name: octets_of(f"{path}/{name}") for name in names_in(path)}
-
-    def mistakes(self, files, removes=False):
-        """What is wrong where these files are to come, and to leave the spool."""
-        sent = {} if removes else files
-        left = lambda: names_in(self.folder) & files.keys()
-        if not waits_for(lambda: not left() and self.in_folder(".sent") == sent):
-            there = sorted(self.in_folder(".sent"))
-            yield f"{sorted(left())[:9]} stay, and {there[:9]} lie in .sent"
-        if self.came() != files:
-            came = {name: len(octets or b"") for name, octets in self.came().items()}
-            yield f"of {len(files)} files {len(came)} came, as {sorted(came.items())[:9]}"
-
-
-@contextlib.contextmanager
-def spool_of(program):
-    """A link with a spool, in a block."""
-    with links.Link(program) as link:
-        yield link, Spool(link)
-
 
 def unfinished_mistakes(program):
     """What is wrong where a file is still written, under a name that begins with a point: it may
@@ -340,6 +248,7 @@ def unsendable_mistakes(program):
         os.symlink("a", f"{spool.folder}/link")
         station = link.starts(1, SPOOL, PATIENT)
         yield from spool.mistakes({"a": b"hello"})
+        station.comes_to("bad")
         time.sleep(3)
         told = [it for it in station.text("stderr").splitlines() if "bad" in it]
         if len(told) != 1 or "A-Z a-z 0-9" not in told[0]:
@@ -351,7 +260,7 @@ def unsendable_mistakes(program):
 def replaced_mistakes(program):
     """What is wrong where a new file is moved over one that is being sent: the new one has to come,
     and to leave the spool in the end."""
-    chance = stations.chance_of(44)
+    chance = chance_of(44)
     old, new = chance.randbytes(300_000), chance.randbytes(50_000)
     with spool_of(program) as (link, spool):
         receiver = link.starts(2, INBOX, PATIENT)
@@ -440,7 +349,7 @@ def failed_mistakes(program):
     once = {"eof_time": 1, "eof_limit": 1, "inactivity_time": 3}
     for words in ([*INBOX, "--no-overwrite"], None):
         with spool_of(program) as (link, spool):
-            stations.put(link.folder, 2, "../to/a", b"it was here")
+            put(link.folder, 2, "../to/a", b"it was here")
             spool.drops({"a": b"hello"})
             if words:
                 link.starts(2, words, PATIENT)
@@ -470,12 +379,12 @@ def restarted_mistakes(program):
             yield f"it sent {sorted(spool.in_folder('.sent'))}"
         sender.killed()
         sent = spool.in_folder(".sent").keys()
-        before = receiver.text("stdout").count("metadata")
         link.starts(1, SPOOL, PATIENT)
         yield from spool.mistakes(files)
-        again = re.findall(r"metadata \S+ (\S+)", receiver.text("stdout"))[before:]
-        if set(again) & sent:
-            yield f"{sorted(set(again) & sent)} were sent again"
+        names = re.findall(r"metadata \S+ (\S+)", receiver.text("stdout"))
+        again = [it for it in sorted(sent) if names.count(it) > 1]
+        if again:
+            yield f"{again} were sent again"
 
 
 def set_back_mistakes(program):
@@ -504,19 +413,19 @@ def set_back_mistakes(program):
 def refused_mistakes(program):
     """What is wrong where another station has the spool, or where it can't be used: a station has
     to end at once, and say why."""
-    with spool_of(program) as (link, spool), links.Link(program) as other:
+    with spool_of(program) as (link, spool), Link(program) as other:
         link.starts(1, SPOOL)
         folder = os.path.abspath(spool.folder)
         words = ["--spool", folder, "--state", "numbers", "--no-time"]
-        yield from links.refused_mistakes(other.starts(1, words), "another station")
+        yield from processes.refused_mistakes(other.starts(1, words), "another station")
         # The inbox of another station may be the same folder: this is how a relay is made.
         inbox = ["--inbox", folder, "--state", "numbers", "--idle", "1", "--no-time"]
         status, out, err = other.starts(2, inbox).ended()
         if status or err:
             yield f"an inbox there is refused: {status}, {out!r}, {err!r}"
-    with links.Link(program) as link:
+    with Link(program) as link:
         station = link.starts(1, ["--spool", "nowhere", "--no-time"])
-        yield from links.refused_mistakes(station, "nowhere: no such file or folder")
+        yield from processes.refused_mistakes(station, "nowhere: no such file or folder")
 
 
 def stays_mistakes(program):
@@ -529,6 +438,7 @@ def stays_mistakes(program):
         sender = link.starts(1, SPOOL, PATIENT)
         if not waits_for(lambda: spool.came() == {"a": b"hello"}):
             yield "it didn't come"
+        sender.comes_to("cannot move")
         time.sleep(4)
         told = [it for it in sender.text("stderr").splitlines() if "cannot move" in it]
         if len(told) != 1:

@@ -7,16 +7,16 @@ import sys
 import tempfile
 import tomllib
 
-import stations
+from lib.paths import TOP
+from lib.ports import free_ports
 
-TOP = os.path.dirname(os.path.dirname(os.path.abspath(__file__)))
 SECONDS = 600
 
 # Options that name a settings file, and those of every command.
 NO_KEYS = {"config", "print-config", "help"}
 
 # What a station has in place of a script's default; and what it says by an option of its own.
-OTHERS = {"number_width": 8, "pdu_crc": 1}
+OTHERS = {"number_width": 8, "pdu_crc": 1, "most_gaps": 65_536}
 NO_SETTINGS = {"first_number"}
 
 
@@ -77,7 +77,7 @@ def read_again_mistakes(program):
     ran = []
     for settings in (None, text, whole):
         with tempfile.TemporaryDirectory(dir=program.room) as folder:
-            own, peer = stations.free_ports(2)
+            own, peer = free_ports(2)
             words = ["--id", "1", "--peer", "2", "--listen", f"127.0.0.1:{own}", "--idle", "1"]
             words += ["--to", f"127.0.0.1:{peer}", "--outbox", "FILES", "--inbox", "RECEIVED"]
             words += ["--put", "a", "b", "--trace", "--drop", "0", "--no-time", "--rate", "0"]

@@ -2,33 +2,26 @@
 import itertools
 import os
 import pty
-import random
 import re
-import resource
-import select
 import signal
 import socket
-import struct
-import subprocess
 import tempfile
-import threading
 import time
 
-SECONDS = 200
-
-# The ports that were given out: runs go side by side, and none is to have that of another. A
-# process that begins has all sockets of this one for a moment, so none begins while a port is
-# looked for.
-GIVEN, ALONE = set(), threading.Lock()
-
-# What is chosen by chance is chosen by this seed: SEED=1 tests/run makes other choices, and each
-# seed the same ones again.
-SEED = int(os.environ.get("SEED", "0"))
-
-# Answers are waited for a second, and what is lost is sent again as often as it takes.
-PATIENT = {"eof_time": 1, "nak_time": 1, "finished_time": 1}
-PATIENT |= {"eof_limit": 255, "nak_limit": 255, "finished_limit": 255}
-
+from lib.choices import chance_of
+from lib.ports import free_ports
+from lib.processes import (
+    PATIENT,
+    Station,
+    files_at,
+    peak_of,
+    put,
+    read,
+    shown_on,
+    unheard,
+)
+from lib.seen import packets_in, pdus_of
+from lib.waiting import waits_for
 
 # How often a station may ask for memory in a transfer of ten times as many frames.
 MOST_GROWTHS = 420
@@ -44,133 +37,6 @@ MEMORY_ENDS = {
         r"error: from/a: out of memory\n",
     ),
 }
-
-
-def seeds(count):
-    """So many seeds, which are others with another SEED."""
-    return range(1000 * SEED, 1000 * SEED + count)
-
-
-def chance_of(number):
-    """What makes the choices of a test, which has this number."""
-    return random.Random(number + 1_000_000 * SEED)
-
-
-def free_ports(count):
-    """So many ports of 127.0.0.1 that nobody has, and that were given to nobody before."""
-    ports = []
-    while len(ports) < count:
-        with ALONE, socket.socket(socket.AF_INET, socket.SOCK_DGRAM) as it:
-            it.bind(("127.0.0.1", 0))
-            port = it.getsockname()[1]
-            if port not in GIVEN:
-                GIVEN.add(port)
-                ports.append(port)
-    return ports
-
-
-def waits_for(what, seconds=SECONDS):
-    """Whether this comes true within so many seconds."""
-    end = time.monotonic() + seconds
-    while not what() and time.monotonic() < end:
-        time.sleep(0.02)
-    return what()
-
-
-class Timed(str):
-    """A mistake of time, such as a busy machine may make once."""
-
-
-def in_one_of(times, trial):
-    """What is wrong in so many trials, at most: a rule of time has to hold in one of them, and all
-    else in each that is made."""
-    for _ in range(times):
-        wrong = list(trial())
-        yield from (it for it in wrong if not isinstance(it, Timed))
-        timed = [it for it in wrong if isinstance(it, Timed)]
-        if not timed:
-            return
-    yield from timed
-
-
-class Station:
-    """A station that runs in a folder, with one folder for files to send and one for others."""
-
-    def __init__(self, program, folder, own, peer, ports, words, settings, **ways):
-        self.own, self.port, self.told = own, ports[own], b""
-        for it in ("from", "to"):
-            os.makedirs(f"{folder}/{own}/{it}", exist_ok=True)
-        addresses = ["--listen", f"127.0.0.1:{ports[own]}", "--to", f"127.0.0.1:{ports[peer]}"]
-        sets = [word for key, value in settings.items() for word in ("--set", key, str(value))]
-        ids = ["--id", str(own), "--peer", str(peer)]
-        plain = [] if {"--no-time", "--json"} & {*words} else ["--no-time"]
-        whole = [program.path, "station", *ids, *addresses, *sets, *words, *plain]
-        how = {"cwd": f"{folder}/{own}", "env": {"PATH": "/usr/bin:/bin"}}
-        pipes = {"stdout": subprocess.PIPE, "stderr": subprocess.PIPE}
-        with ALONE:
-            self.process = subprocess.Popen(whole, **{**how, **pipes, **ways})
-
-    def comes_up(self):
-        """Waits until it has its port, or has ended."""
-        end, is_up = time.monotonic() + SECONDS, False
-        while not is_up and self.process.poll() is None and time.monotonic() < end:
-            time.sleep(0.01)
-            with open("/proc/net/udp", encoding="ascii") as it:
-                ports = [line.split()[1].split(":")[1] for line in it.readlines()[1:]]
-            is_up = f"{self.port:04X}" in ports
-
-    def comes_to(self, word):
-        """Reads what it tells, as it happens, until a line has this word."""
-        end = time.monotonic() + SECONDS
-        while word not in self.told and time.monotonic() < end:
-            if select.select([self.process.stdout], [], [], 1)[0]:
-                octets = os.read(self.process.stdout.fileno(), 4096)
-                if not octets:
-                    break
-                self.told += octets
-        return word in self.told
-
-    def ended(self):
-        """Its exit status, and both outputs, once it has ended by itself; it is given some time."""
-        try:
-            rest, err = self.process.communicate(timeout=SECONDS)
-        except subprocess.TimeoutExpired:
-            self.process.kill()
-            rest, err = self.process.communicate()
-        return self.process.returncode, (self.told + rest).decode(), without_keys(err.decode())
-
-
-def without_keys(text):
-    """What a station without keys told, but that it has none, as each of them does at its start."""
-    return re.sub(r"note: (frames|datagrams) are not authenticated: [^\r\n]*\r?\n", "", text)
-
-
-def many_words():
-    """Room for a command line of as many words as a station may be given."""
-    resource.setrlimit(resource.RLIMIT_STACK, (64 << 20, 64 << 20))
-
-
-def put(folder, own, name, octets):
-    """Puts a file to send into a station's folder."""
-    os.makedirs(f"{folder}/{own}/from", exist_ok=True)
-    with open(f"{folder}/{own}/from/{name}", "wb") as it:
-        it.write(octets)
-
-
-def unheard(text):
-    """What a station told on standard error, but that its peer wasn't there yet, or any more, and
-    whether frames are authenticated."""
-    notes = r"note: (nothing listens at \S+|(frames|datagrams) are (not )?authenticated: .*)\n"
-    return re.sub(notes, "", text)
-
-
-def files_at(folder, own):
-    """The files that a station received."""
-    found = {}
-    for name in os.listdir(f"{folder}/{own}/to"):
-        with open(f"{folder}/{own}/to/{name}", "rb") as it:
-            found[name] = it.read()
-    return found
 
 
 def exchange_mistakes(program):
@@ -206,7 +72,7 @@ def restart_mistakes(program):
     """What is wrong where a station is killed as it sends, and one is started in its place."""
     chance = chance_of(38)
     first, second = chance.randbytes(1 << 20), chance.randbytes(30_000)
-    settings = {"eof_time": 1, "nak_time": 1, "finished_time": 1, "inactivity_time": 5}
+    settings = {**PATIENT, "inactivity_time": 10, "finished_limit": 10}
     with tempfile.TemporaryDirectory(dir=program.room) as folder:
         ports = dict(zip((1, 2), free_ports(2)))
         put(folder, 1, "first", first)
@@ -282,19 +148,6 @@ def refused_mistakes(program, inbox, name, wanted):
             yield f"it left {sorted(files_at(folder, 2))}"
 
 
-def shown_on(reading):
-    """All that is written to the terminal whose other end this is, until nobody has it any more."""
-    told, end = b"", time.monotonic() + SECONDS
-    while time.monotonic() < end:
-        try:
-            if select.select([reading], [], [], 1)[0]:
-                told += os.read(reading, 4096)
-        except OSError:
-            break
-    os.close(reading)
-    return told.decode()
-
-
 def terminal_mistakes(program):
     """What is wrong where both outputs of a station are one terminal: the line that says how far a
     transfer is gives way to the report."""
@@ -312,14 +165,19 @@ def terminal_mistakes(program):
         sender.process.wait()
         receiver.ended()
     line = r"\r *\d+ octets received, *\d+ gaps, *\d+ PDUs sent"
-    report = re.sub(rf"(({line})*\r\x1b\[K)+", "", without_keys(told))
+    sends = r"\r\x1b\[Ka: (\d+) % of 150000 octets sent(, \d+ octets/s, \d+ s left)?"
+    report = unheard(re.sub(rf"{sends}|{line}|\r\x1b\[K", "", told))
     answers = ("transaction 1:7", "eof-sent 1:7", "finished 1:7 0 complete retained")
-    lines = "".join(rf"1 {it}\r\n" for it in answers)
-    wanted = rf"{lines}({line})+\r\ncomplete 1 of 1\r\n"
-    if sender.process.returncode or not re.fullmatch(wanted, report):
+    lines = "".join(f"1 {it}\r\n" for it in answers)
+    if sender.process.returncode or report != f"{lines}\r\ncomplete 1 of 1\r\n":
         yield f"with status {sender.process.returncode} it wrote {told!r} to a terminal"
-    elif len(re.findall(line, told)) < 5:
+    shares = [(int(share), rate) for share, rate in re.findall(sends, told)]
+    # However slow the machine is, some 160 turns send the frames, since few leave at once.
+    is_in_order = shares == sorted(shares, key=lambda it: it[0])
+    if not is_in_order or len({share for share, rate in shares if rate}) < 3:
         yield f"it didn't say how far the transfer is: {told!r}"
+    if not re.search(rf"{line}\r\ncomplete", told):
+        yield f"it didn't say how far the transfer was: {told!r}"
 
 
 def memory_mistakes(program):
@@ -371,33 +229,14 @@ def steady_mistakes(program, words):
             yield "the file didn't come"
 
 
-def packets_of(octets):
-    """The packets of a capture: the event of each, and the PDU. The last may be cut short."""
-    at, packets = 0, []
-    while at + 8 <= len(octets):
-        kind, length = struct.unpack_from(">II", octets, at)
-        if length < 12 or at + length > len(octets):
-            break
-        if octets[at + length - 4 : at + length] != octets[at + 4 : at + 8]:
-            raise ValueError(f"a block of {length} octets has another length at its end")
-        if kind == 6:
-            time_of_it, size = struct.unpack_from(">QI", octets, at + 12)
-            packets.append((time_of_it // 1_000_000, octets[at + 28 : at + 28 + size]))
-        at += length
-    return packets
-
-
 def events_of(trace, pattern):
     """The event of each line of a trace that has this pattern behind its station."""
     return [int(it) for it in re.findall(rf"(?m)^\d+\.(\d+) [12] {pattern}", trace)]
 
 
-def read(path):
-    """What a file holds; nothing where there is none."""
-    if not os.path.exists(path):
-        return b""
-    with open(path, "rb") as it:
-        return it.read()
+def dumped(program, capture):
+    """The lines that a dump prints of the PDUs in a capture."""
+    return program.run(["dump", "pdus", "it"], "", there={"it": capture})[1].splitlines()
 
 
 def watched_as_killed(program, folder):
@@ -433,13 +272,13 @@ def killed_watched_mistakes(program):
     missing = set(told(heard, "hears")) - set(told(sent, "sends"))
     if len(missing) > 1 or len(told(heard, "hears")) < 40:
         yield f"its trace lacks {sorted(missing)} of {len(told(heard, 'hears'))} that were heard"
-    traced = events_of(sent, "sends (?!dir frame|data frame)")
-    packets = packets_of(capture)
-    captured = [event for event, _ in packets]
-    if captured != traced[: len(captured)] or len(set(traced[len(captured) :])) > 1:
-        yield f"its capture has PDUs of the events {captured}, and its trace of {traced}"
+    traced, packets = pdus_of(sent), packets_in(capture)
+    captured = dumped(program, capture)[: len(packets)]
+    late = {event for event, _ in traced[len(captured) :]}
+    if captured != [line for _, line in traced[: len(captured)]] or len(late) > 1:
+        yield f"its capture has the PDUs {captured}, and its trace {traced}"
     # A PDU whose first octet has the bit of value 2 ends in a CRC of two octets.
-    whole = (pdu[: len(pdu) - (pdu[0] & 2)] for _, pdu in packets if pdu[0] & 0x10)
+    whole = (it[3][: len(it[3]) - (it[3][0] & 2)] for it in packets if it[3][0] & 0x10)
     data = b"".join(pdu[-1024:] for pdu in whole)
     if data != chance_of(41).randbytes(300_000)[: len(data)] or len(data) < 40_000:
         yield f"the {len(data)} octets of file data in its capture aren't those of the file"
@@ -450,18 +289,12 @@ def killed_watched_mistakes(program):
         yield f"its chart has {len(charted)} lines, and its trace {len(events)}"
 
 
-def peak_of(process):
-    """The most memory that a process has had so far, in octets."""
-    with open(f"/proc/{process.pid}/status", encoding="ascii") as it:
-        return 1024 * int(re.search(r"VmHWM:\s+(\d+) kB", it.read())[1])
-
-
 def watched_peak(program, more):
     """The most memory of a station that sends a file of 8 MB, with these words too."""
     with tempfile.TemporaryDirectory(dir=program.room) as folder:
         ports = dict(zip((1, 2), free_ports(2)))
         put(folder, 1, "a", bytes(8_000_000))
-        words = ["--inbox", "to", "--rate", "0", "--idle", "6"]
+        words = ["--inbox", "to", "--rate", "0"]
         receiver = Station(program, folder, 2, 1, ports, words, PATIENT)
         receiver.comes_up()
         words = ["--outbox", "from", "--put", "a", "b", "--rate", "0", *more]

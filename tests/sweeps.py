@@ -2,6 +2,9 @@
 import itertools
 import re
 
+from lib.pdus import checksum_of
+from lib.scripts import files_of
+
 # Commands of many events, which end at the first in which something was short.
 SETTLING = ("settle", "recover")
 # What a run says of a refused growth of memory, apart from its report.
@@ -10,25 +13,6 @@ UNSHOWN = "error: out of memory for --explain, --trace, --pcap or --chart\n"
 DROPPED = re.compile(r"station [12] dropped: (link 11|pdu 16) NoMemory, \d+")
 # The answers of commands that runs showed of which a growth of memory was refused.
 SHOWN = set()
-
-
-def checksum_of(octets):
-    """The modular checksum of a file: its words of four octets, summed modulo 2^32."""
-    octets += bytes(-len(octets) % 4)
-    words = (octets[at : at + 4] for at in range(0, len(octets), 4))
-    return sum(int.from_bytes(it, "big") for it in words) % (1 << 32)
-
-
-def files_of(script):
-    """The files of both outboxes, by station and name, as a script says them."""
-    files = {}
-    for line in script.split("\n"):
-        it = line.split(" ")
-        if it[0] == "file":
-            files[it[1], it[2]] = " ".join(it[3:]).encode()
-        elif it[0] == "fill":
-            files[it[1], it[2]] = bytes([int(it[4], 16)]) * int(it[3])
-    return files
 
 
 def folded(script, report):

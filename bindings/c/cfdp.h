@@ -3,25 +3,27 @@
  * Written by hand for crates/cfdp_c; tests/bindings.py compares both: names, arguments, fields and
  * numbers.
  *
- * It is proved that each call does what stands here, provided that its caller keeps to this; but
- * that cfdp_close gives back all memory, and that another thread may go on with a handle, is
- * tested, and not proved:
+ * It is proved that each call does what stands here, if its caller keeps these rules; but that
+ * cfdp_close gives back all memory, and that another thread may go on with a handle, is tested, and
+ * not proved:
  *
- * 1. A pointer isn't null, also where its length is 0, is aligned, and may be read or written for
- *    that length. No two arguments of a call overlap, but for two that are only read.
- * 2. A handle begins as all zero octets (CFDP_STATION_INIT), which is a closed one. Nobody but
- *    these calls writes in it. It may be moved by memcpy if the old one isn't used again; of two
+ * 1. A pointer must not be null, even if its length is 0, must be aligned, and must be readable or
+ *    writable for that length. No two arguments of a call may overlap, except two that are only
+ *    read.
+ * 2. A handle must begin as all zero octets (CFDP_STATION_INIT), which is a closed one. Nobody but
+ *    these calls may write in it. It may be moved by memcpy if the old one isn't used again; of two
  *    copies of an open one only one may be used.
- * 3. One call at a time on a handle. Another thread may go on with it, ordered behind the one
- *    before by a lock, or by a start or a join of a thread. Calls on different handles may run side
- *    by side, if malloc may. No call from a signal handler.
- * 4. The program defines the functions of cfdp_hooks.h, by heap.c and errno.c or others
- *    (docs/EMBEDDING.md), and has 32 KiB of stack for a call; 64 KiB for one on a handle with
+ * 3. Calls on a handle must be one at a time. Another thread may go on with it, if it is ordered
+ *    after the one before by a lock, or by a start or a join of a thread. Calls on different
+ *    handles may run side by side, if malloc may. A signal handler must not call.
+ * 4. The program must define the functions of cfdp_hooks.h, by heap.c and errno.c or others
+ *    (docs/EMBEDDING.md), and must have 32 KiB of stack for a call; 64 KiB for one on a handle with
  *    folders.
  *
  * There is nothing else to keep to: every value of every number is answered, every frame and every
- * PDU is taken, and a call on a closed handle answers CFDP_CLOSED. Where the answer isn't CFDP_OK,
- * what a call lends for its results is as it was. Nothing that a call gives points into a station.
+ * PDU is taken, and a call on a closed handle answers CFDP_CLOSED. If the answer isn't CFDP_OK,
+ * what a call borrows for its results is as it was. Nothing that a call gives points into a
+ * station.
  */
 #ifndef CFDP_H
 #define CFDP_H
@@ -34,11 +36,14 @@
 extern "C" {
 #endif
 
-/* The number of this interface. It grows by one wherever a call, a struct or a number changes. */
-#define CFDP_VERSION 6
+/* The number of this interface. It grows by one whenever a call, a struct or a number changes. */
+#define CFDP_VERSION 7
 
 /* The release that this header belongs to (docs/EMBEDDING.md, "Versions"). */
-#define CFDP_RELEASE "0.1.0"
+#define CFDP_RELEASE "1.0.0-rc.1"
+#define CFDP_RELEASE_MAJOR 1
+#define CFDP_RELEASE_MINOR 0
+#define CFDP_RELEASE_PATCH 0
 
 /* Returns the number of the interface of the library that the program is linked with. */
 uint32_t cfdp_version(void);
@@ -53,7 +58,7 @@ enum {
     CFDP_BAD_ARGUMENT = 3, /* cfdp_read_file: the file ends before; cfdp_seal_frame,
                               cfdp_open_frame: a field of cfdp_security isn't in its range */
     CFDP_NO_MEMORY = 4,    /* out of memory */
-    CFDP_NO_ROOM = 5,      /* the lent room has too few octets, or the wrong number */
+    CFDP_NO_ROOM = 5,      /* the borrowed room has too few octets, or the wrong number */
     CFDP_NOTHING = 6,      /* there is nothing of the kind */
     CFDP_IN_FOLDERS = 7,   /* the call is of files in memory, and the station has folders */
     CFDP_NAME_TAKEN = 11,  /* cfdp_add: there is a file of that name */
@@ -62,6 +67,8 @@ enum {
     CFDP_NO_OUTBOX = 12,    /* the folder to send from isn't there, or can't be read */
     CFDP_NO_INBOX = 13,     /* the folder to receive into isn't, or can't be */
     CFDP_INBOX_IN_USE = 14, /* another station receives into it */
+
+    CFDP_SOURCE_IN_USE = 15, /* cfdp_remove_source: a transaction is sending the file */
 
     /* cfdp_put: the first that holds, in the order 22, 24, 25, 26, 21, 23; then CFDP_NO_MEMORY */
     CFDP_NO_SUCH_FILE = 21,  /* the outbox has no file of that name */
@@ -98,7 +105,7 @@ enum {
     CFDP_BAD_INACTIVITY_TIME = 80,
     CFDP_BAD_CAPACITY = 81,
     CFDP_BAD_SENDS_VIRTUAL_CHANNEL = 82,
-    CFDP_BAD_SENDS_DATA_VIRTUAL_CHANNEL = 83, /* also where it is that of directives */
+    CFDP_BAD_SENDS_DATA_VIRTUAL_CHANNEL = 83, /* also if directives have it */
     CFDP_BAD_SENDS_ZONE = 84,
     CFDP_BAD_SENDS_APID = 85,
     CFDP_BAD_RECEIVES_VIRTUAL_CHANNEL = 86,
@@ -222,12 +229,12 @@ typedef struct cfdp_link {
     uint16_t zone;        /* octets of the packet zone, 16 to 2040 */
     uint16_t apid;        /* application process of the packets, 0 to 2046 */
     uint8_t spacecraft;   /* spacecraft of the frames */
-    uint8_t virtual_channel;      /* that of directives, 0 to 62 */
-    uint8_t data_virtual_channel; /* that of file data, 0 to 62, another than virtual_channel */
+    uint8_t virtual_channel;      /* the channel of directives, 0 to 62 */
+    uint8_t data_virtual_channel; /* of file data, 0 to 62; not virtual_channel */
     uint8_t insert_zone;   /* octets of the insert zone, 0 to 64: sent as zeros, and passed over */
-    uint8_t control_field; /* 1: with an operational control field, of 4 octets; else 0 */
-    uint8_t error_control; /* 1: with a frame error control field, of 2 octets, the check of all
-                              before it; else 0 */
+    uint8_t control_field; /* 1 if there is an operational control field, of 4 octets, or 0 */
+    uint8_t error_control; /* 1 if there is a frame error control field, of 2 octets, the check
+                              of all before it, or 0 */
 } cfdp_link;
 
 typedef struct cfdp_config {
@@ -242,8 +249,8 @@ typedef struct cfdp_config {
     uint32_t inactivity_time; /* .. any PDU of a transaction */
     cfdp_link sends;          /* the frames that it sends */
     cfdp_link receives;       /* the frames that it receives: the peer's sends */
-    uint8_t pdu_crc;          /* 1: the PDUs of the files that it sends, and those that answer them,
-                                 end in a CRC, of 2 octets; else 0 */
+    uint8_t pdu_crc;          /* 1 if the PDUs of the files that it sends, and those that answer
+                                 them, end in a CRC, of 2 octets, otherwise 0 */
     uint16_t segment;         /* most octets of a file in a PDU, 1 to 4096 */
     uint8_t id_width;         /* octets of an entity id, 1 to 8 */
     uint8_t number_width;     /* octets of a sequence number, 1 to 8 */
@@ -254,11 +261,14 @@ typedef struct cfdp_config {
     uint8_t on_ack_limit;     /* then: a handler, CFDP_HANDLER_CANCEL and others */
     uint8_t on_nak_limit;
     uint8_t on_inactivity;
+    uint64_t most_gaps;       /* most gaps in what is held of a file that it receives, 0: no limit:
+                                 file data that would make one more are dropped, counted as
+                                 no_memory, and requested again */
 } cfdp_config;
 
-/* Fills in the defaults where size says that the struct is the library's, else nothing. No two
- * versions of the struct have as many octets: that of a program which was compiled with an older
- * cfdp.h, or a newer one, is left as it is, and cfdp_open answers CFDP_BAD_SIZE. */
+/* Fills in the defaults if size says that the struct is the library's, otherwise nothing. No two
+ * versions of the struct have as many octets: if a program was compiled with an older cfdp.h, or a
+ * newer one, its struct is left as it is, and cfdp_open answers CFDP_BAD_SIZE. */
 void cfdp_fill_defaults(cfdp_config *config);
 
 /* Fills in the size, and the defaults: those of station 1 of a script, with ids 1 and 2, zones of
@@ -273,8 +283,8 @@ static inline void cfdp_defaults(cfdp_config *config)
 
 /* ---- A station. */
 
-/* A handle, in the caller's memory. Its fields are no caller's business. A call that takes it as
- * const leaves the station as it is; rule 3 holds of it too. */
+/* A handle, in the caller's memory. A caller must not use its fields. A call that takes it as const
+ * leaves the station as it is; rule 3 holds of it too. */
 typedef struct cfdp_station {
     void *at;
     bool is_open;
@@ -288,19 +298,19 @@ typedef struct cfdp_station {
 cfdp_answer cfdp_open(cfdp_station *station, const cfdp_config *config);
 
 /* Opens a closed handle on a station that sends the files of one folder and receives into another:
- * of any size, in bounded memory. Both are there; each is named by its path in UTF-8, and no file
- * of it is in memory. A file is looked for as it is put, read as it is sent, and written as it
+ * of any size, in bounded memory. Both must be there; each is named by its path in UTF-8, and no
+ * file of it is in memory. A file is looked for as it is put, read as it is sent, and written as it
  * comes, under a name that begins with .part-, until all of it is there; it is flushed to the
  * device before it gets its name, in the place of a file that has it. Names of files have 1 to 64
- * of A-Z a-z 0-9 . _ - and don't begin with a dot. A file mustn't change while it is sent: that
- * is noticed where its length does. No other station, of whichever process, can receive into the
+ * of A-Z a-z 0-9 . _ - and don't begin with a dot. A file must not change while it is sent: that
+ * is noticed if its length does. No other station, of whichever process, can receive into the
  * inbox as long as the handle is open. CFDP_OK, CFDP_ALREADY_OPEN, 70 to 99 as cfdp_open,
  * CFDP_NO_OUTBOX, CFDP_NO_INBOX, CFDP_INBOX_IN_USE or CFDP_NO_MEMORY. */
 cfdp_answer cfdp_open_folders(cfdp_station *station, const cfdp_config *config,
                               const void *outbox, size_t outbox_len, const void *inbox,
                               size_t inbox_len);
 
-/* Gives back all memory of the station. The handle is closed then; a closed one stays so. */
+/* Gives back all memory of the station. The handle is closed then; a closed one stays closed. */
 void cfdp_close(cfdp_station *station);
 
 /* ---- What its user asks for. All but cfdp_next_indication only ask; cfdp_poll sends. */
@@ -311,28 +321,35 @@ typedef struct cfdp_id {
     uint64_t number;
 } cfdp_id;
 
-/* Copies a file into the outbox, under a name that it has no file of. It stays there until the
- * station is closed. CFDP_OK, CFDP_CLOSED, CFDP_IN_FOLDERS, CFDP_NAME_TAKEN or CFDP_NO_MEMORY. */
+/* Copies a file into the outbox, under a name that it has no file of. It stays there until it is
+ * removed, or the station is closed. CFDP_OK, CFDP_CLOSED, CFDP_IN_FOLDERS, CFDP_NAME_TAKEN or
+ * CFDP_NO_MEMORY. */
 cfdp_answer cfdp_add(cfdp_station *station, const void *name, size_t name_len,
                      const void *octets, size_t octets_len);
 
+/* Removes a file that no transaction is sending from the outbox, and gives its memory back. It
+ * takes no memory. A transaction sends its file until it is cancelled or closed. CFDP_OK,
+ * CFDP_CLOSED, CFDP_IN_FOLDERS, CFDP_NO_SUCH_FILE, or CFDP_SOURCE_IN_USE if a transaction is
+ * sending the file; unless it returns CFDP_OK, nothing changed. */
+cfdp_answer cfdp_remove_source(cfdp_station *station, const void *name, size_t name_len);
+
 /* Sends a file of the outbox, which the peer publishes under the name destination; *id is the
  * transaction. In a folder the file is looked for first. CFDP_OK, CFDP_CLOSED, 21 to 26 or
- * CFDP_NO_MEMORY; but for CFDP_OK no number is used. */
+ * CFDP_NO_MEMORY; unless it is CFDP_OK no number is used. */
 cfdp_answer cfdp_put(cfdp_station *station, const void *source, size_t source_len,
                      const void *destination, size_t destination_len, cfdp_id *id);
 
-/* Gives a transaction up, and tells the peer. CFDP_OK, CFDP_CLOSED, 31 to 34 or CFDP_NO_MEMORY;
- * but for CFDP_OK nothing has changed. So the three below. */
+/* Cancels a transaction, and notifies the peer. CFDP_OK, CFDP_CLOSED, 31 to 34 or CFDP_NO_MEMORY;
+ * unless it is CFDP_OK nothing has changed. The three below answer the same. */
 cfdp_answer cfdp_cancel(cfdp_station *station, const cfdp_id *id);
 
-/* Sends nothing of a transaction, and lets no time run for it. */
+/* Suspends a transaction: sends nothing of it, and lets no time run for it. */
 cfdp_answer cfdp_suspend(cfdp_station *station, const cfdp_id *id);
 
-/* Goes on with a suspended transaction. */
+/* Resumes a suspended transaction. */
 cfdp_answer cfdp_resume(cfdp_station *station, const cfdp_id *id);
 
-/* Asks the receiver of a file that this station sends for a Keep Alive where true, else for a
+/* Asks the receiver of a file that this station sends for a Keep Alive if true, otherwise for a
  * NAK. */
 cfdp_answer cfdp_prompt(cfdp_station *station, const cfdp_id *id, bool keep_alive);
 
@@ -342,15 +359,15 @@ cfdp_answer cfdp_prompt(cfdp_station *station, const cfdp_id *id, bool keep_aliv
 /* Forgets the record of a transaction that is over. It is never opened again: an EOF or a
  * Finished that still comes of it is acknowledged, and anything else is passed over. CFDP_OK,
  * CFDP_CLOSED, CFDP_UNKNOWN, CFDP_STILL_OPEN, CFDP_ANSWER_DUE or CFDP_NO_MEMORY, the first that
- * holds; but for CFDP_OK nothing has changed. */
+ * holds; unless it is CFDP_OK nothing has changed. */
 cfdp_answer cfdp_forget(cfdp_station *station, const cfdp_id *id);
 
-/* Forgets the records of all transactions that are over, but for those with an acknowledgement
+/* Forgets the records of all transactions that are over, except those with an acknowledgement
  * due. CFDP_OK, CFDP_CLOSED, or CFDP_NO_MEMORY: some of them may be gone then. */
 cfdp_answer cfdp_forget_closed(cfdp_station *station);
 
-/* Whether the record of a transaction was forgotten: *was is 1 where it was, else 0. CFDP_OK or
- * CFDP_CLOSED. */
+/* Says whether the record of a transaction was forgotten: *was is 1 if it was, otherwise 0. CFDP_OK
+ * or CFDP_CLOSED. */
 cfdp_answer cfdp_was_forgotten(const cfdp_station *station, const cfdp_id *id, uint8_t *was);
 
 /* ---- What it has. */
@@ -368,27 +385,28 @@ typedef struct cfdp_transaction {
     uint8_t phase; /* how far it has come */
 } cfdp_transaction;
 
-/* Gives the transaction at a cursor, and moves that on to the next one: begin with *cursor 0. They
- * stand in order of opening, and one that is forgotten moves those behind it up by one. CFDP_OK,
- * CFDP_CLOSED, or CFDP_NOTHING where there are no more. */
+/* Gives the transaction at a cursor, and moves that on to the next one: *cursor must be 0
+ * at first. They stand in order of opening, and one that is forgotten moves those after it up by
+ * one. CFDP_OK, CFDP_CLOSED, or CFDP_NOTHING if there are no more. */
 cfdp_answer cfdp_transactions(const cfdp_station *station, size_t *cursor, cfdp_transaction *out);
 
-/* How many more transactions there is room for, of 4,096 records; 0 of a closed handle. */
+/* Returns how many more transactions there is room for, of 4,096 records; 0 if the handle is
+ * closed. */
 size_t cfdp_records_left(const cfdp_station *station);
 
 /* ---- Down. */
 
-/* Writes the next frame that is to leave: polls until a whole frame waits, or nothing is due, and
+/* Writes the next frame that must leave: polls until a whole frame waits, or nothing is due, and
  * fills up what is begun. Frames of directives go first; the virtual channel, frame[1] & 63,
- * says which lane it is. room is cfdp_frame_len octets, no more and no less, else
- * CFDP_NO_ROOM. CFDP_OK, CFDP_CLOSED, CFDP_NOTHING where there is nothing to send, or
+ * says which lane it is. room must be cfdp_frame_len octets, no more and no less, or the answer is
+ * CFDP_NO_ROOM. CFDP_OK, CFDP_CLOSED, CFDP_NOTHING if there is nothing to send, or
  * CFDP_NO_MEMORY: what was polled before waits for the next call. cfdp_poll, cfdp_flush and
  * cfdp_next_frame do the same step by step. */
 cfdp_answer cfdp_transmit(cfdp_station *station, uint8_t *frame, size_t room);
 
-/* Moves the PDU whose turn it is into the frames of its lane. CFDP_OK where one was moved: poll
- * again; CFDP_NOTHING where none is due: flush; CFDP_FULL, where its lane has no room for it: take
- * frames off first; CFDP_SOURCE_FAULT, where the outbox failed, for which the transaction is
+/* Moves the PDU whose turn it is into the frames of its lane. CFDP_OK if one was moved: poll
+ * again; CFDP_NOTHING if none is due: flush; CFDP_FULL if its lane has no room for it: take
+ * frames off first; CFDP_SOURCE_FAULT if the outbox failed, for which the transaction is
  * cancelled: poll again; CFDP_CLOSED; or CFDP_NO_MEMORY: nothing has changed then. */
 cfdp_answer cfdp_poll(cfdp_station *station);
 
@@ -396,20 +414,20 @@ cfdp_answer cfdp_poll(cfdp_station *station);
  * CFDP_CLOSED. */
 cfdp_answer cfdp_flush(cfdp_station *station);
 
-/* Octets of each frame, in either lane; 0 of a closed handle. */
+/* Returns the octets of each frame, in either lane; 0 if the handle is closed. */
 size_t cfdp_frame_len(const cfdp_station *station);
 
-/* The most frames that can wait after a poll or a flush, both lanes together; 0 of a closed
- * handle. */
+/* Returns the most frames that can wait after a poll or a flush, both lanes together; 0 if the
+ * handle is closed. */
 size_t cfdp_frames_ahead(const cfdp_station *station);
 
-/* Writes the next whole frame, and takes it off: the oldest one of directives, or where none of
- * them waits that of file data. room is as for cfdp_transmit. CFDP_OK, CFDP_CLOSED, CFDP_NO_ROOM,
- * or CFDP_NOTHING where no whole frame waits. */
+/* Writes the next whole frame, and takes it off: the oldest one of directives, or if none of them
+ * waits, of file data. room must be as for cfdp_transmit. CFDP_OK, CFDP_CLOSED, CFDP_NO_ROOM,
+ * or CFDP_NOTHING if no whole frame waits. */
 cfdp_answer cfdp_next_frame(cfdp_station *station, uint8_t *frame, size_t room);
 
-/* Has this in the operational control field of the frames that leave from now on, of both lanes, if
- * those that it sends have one; at first it is 0. CFDP_OK or CFDP_CLOSED. */
+/* Sets the operational control field of the frames that leave from now on, of both lanes, if those
+ * that it sends have one; at first it is 0. CFDP_OK or CFDP_CLOSED. */
 cfdp_answer cfdp_set_control_field(cfdp_station *station, uint32_t control);
 
 /* ---- Up. */
@@ -418,10 +436,9 @@ cfdp_answer cfdp_set_control_field(cfdp_station *station, uint32_t control);
  * dropped and counted. CFDP_OK or CFDP_CLOSED. */
 cfdp_answer cfdp_receive(cfdp_station *station, const void *frame, size_t len);
 
-/* Tells what the operational control field says of the last frame that came and was one of a lane:
- * CFDP_LANE_FILE_DATA or CFDP_LANE_DIRECTIVES. A damaged frame is one of neither.
- * CFDP_OK, CFDP_CLOSED, or CFDP_NOTHING where none came, or the frames that it receives have no
- * such field. */
+/* Writes the operational control field of the last received frame of a lane: CFDP_LANE_FILE_DATA or
+ * CFDP_LANE_DIRECTIVES. A damaged frame is one of neither. CFDP_OK, CFDP_CLOSED, or CFDP_NOTHING if
+ * none was received, or the frames that it receives have no such field. */
 cfdp_answer cfdp_control_field(const cfdp_station *station, bool file_data, uint32_t *control);
 
 /* How often something of a frame of either lane was dropped, by the cause (docs/FORMATS.md). No
@@ -438,7 +455,7 @@ typedef struct cfdp_frame_drops {
     uint64_t other_apid;       /* a packet is of another application process */
     uint64_t segmented;        /* a packet is a segment, or has a secondary header */
     uint64_t no_memory;        /* out of memory for the packets of a frame */
-    uint64_t damaged;          /* its check tells that it was damaged on the way */
+    uint64_t damaged;          /* its check says that it was damaged on the way */
 } cfdp_frame_drops;
 
 /* How often a PDU was dropped, by the cause. */
@@ -525,8 +542,8 @@ static inline uint64_t cfdp_dropped(const cfdp_counts *counts, size_t drop)
 }
 
 #ifndef CFDP_NO_TEXT
-/* What one of them says, as a text that stays. Where CFDP_NO_TEXT is defined before this header,
- * no texts are part of the program: neither these nor those of cfdp_answer_text. */
+/* Returns what one of them says, as a text that stays. If CFDP_NO_TEXT is defined before this
+ * header, no texts are part of the program: neither these nor those of cfdp_answer_text. */
 static inline const char *cfdp_drop_text(size_t drop)
 {
     const char *text = "unknown cause";
@@ -568,12 +585,13 @@ static inline const char *cfdp_drop_text(size_t drop)
 
 /* ---- Time, in any unit, from any start. */
 
-/* Tells the time: each timer that is due fires once. A time before the last one given counts as
- * that. CFDP_OK, CFDP_CLOSED, or CFDP_NO_MEMORY: nothing has changed then, the time neither. */
+/* Gives the time: each timer that is due fires once. If a time is before the last one given, it
+ * counts as that. CFDP_OK, CFDP_CLOSED, or CFDP_NO_MEMORY: nothing has changed then, the time
+ * neither. */
 cfdp_answer cfdp_tick(cfdp_station *station, uint64_t now);
 
-/* When cfdp_tick has to be called at the latest: the earliest time at which a timer is due.
- * CFDP_OK, CFDP_CLOSED, or CFDP_NOTHING where none is armed. */
+/* Writes when cfdp_tick must be called at the latest: the earliest time at which a timer is due.
+ * CFDP_OK, CFDP_CLOSED, or CFDP_NOTHING if none is armed. */
 cfdp_answer cfdp_next_timeout(const cfdp_station *station, uint64_t *deadline);
 
 /* ---- Indications: what it reports to its user. */
@@ -606,14 +624,14 @@ typedef struct cfdp_indication {
 enum { CFDP_NAMES = 510, CFDP_NAME = 255 };
 
 /* Gives the next indication, which the station releases then; names gets the name at the sender,
- * and after it that at the receiver. CFDP_OK, CFDP_CLOSED, CFDP_NOTHING where there is none, or
+ * and after it the name at the receiver. CFDP_OK, CFDP_CLOSED, CFDP_NOTHING if there is none, or
  * CFDP_NO_ROOM: it stays the next then. */
 cfdp_answer cfdp_next_indication(cfdp_station *station, cfdp_indication *out, uint8_t *names,
                                  size_t room);
 
-/* ---- The published files, where they are in memory; of a station with folders these calls answer
- * CFDP_IN_FOLDERS, and its files lie in its folder. Their places are 0, 1, .. in
- * ascending order of their names; a file that is published or removed may shift those behind it.
+/* ---- The published files, if they are in memory; if a station has folders, these calls answer
+ * CFDP_IN_FOLDERS, and its files lie in its folder. Their indexes (place) are 0, 1, .. in
+ * ascending order of their names; a file that is published or removed may shift those after it.
  * Each stays until it is removed, another one is published under its name, or the station is
  * closed. */
 
@@ -622,22 +640,22 @@ typedef struct cfdp_file_info {
     size_t size;
 } cfdp_file_info;
 
-/* How many there are; 0 of a closed handle, and of one with folders. */
+/* Returns how many there are; 0 if the handle is closed, or has folders. */
 size_t cfdp_file_count(const cfdp_station *station);
 
-/* How long one is, and its name. CFDP_OK, CFDP_CLOSED, CFDP_IN_FOLDERS, CFDP_NOTHING where there
- * are not so many, or CFDP_NO_ROOM. */
+/* Writes how long one is, and its name. CFDP_OK, CFDP_CLOSED, CFDP_IN_FOLDERS, CFDP_NOTHING if
+ * there are not so many, or CFDP_NO_ROOM. */
 cfdp_answer cfdp_file(const cfdp_station *station, size_t place, cfdp_file_info *out, uint8_t *name,
                       size_t room);
 
 /* Fills all of out with octets of one, from an offset on. CFDP_OK, CFDP_CLOSED, CFDP_IN_FOLDERS,
- * CFDP_NOTHING, or CFDP_BAD_ARGUMENT where the file ends before. */
+ * CFDP_NOTHING, or CFDP_BAD_ARGUMENT if the file ends before. */
 cfdp_answer cfdp_read_file(const cfdp_station *station, size_t place, size_t offset, uint8_t *out,
                            size_t room);
 
-/* Removes the file of a name; the places of those behind it are one less then. Nothing else
+/* Removes the file of a name; the indexes of those after it are one less then. Nothing else
  * changes, and a file that comes later under that name is published as ever. It needs no memory.
- * CFDP_OK, CFDP_CLOSED, CFDP_IN_FOLDERS, or CFDP_NOTHING where there is no file of that name. */
+ * CFDP_OK, CFDP_CLOSED, CFDP_IN_FOLDERS, or CFDP_NOTHING if there is no file of that name. */
 cfdp_answer cfdp_remove_file(cfdp_station *station, const void *name, size_t name_len);
 
 /* ---- One PDU. */
@@ -645,21 +663,21 @@ cfdp_answer cfdp_remove_file(cfdp_station *station, const void *name, size_t nam
 typedef struct cfdp_pdu {
     cfdp_id id;
     uint64_t destination;  /* the entity that receives the file */
-    uint64_t offset;       /* of file data; where a NAK's scope starts; progress of a Keep Alive */
-    uint64_t size;         /* of the file; where a NAK's scope ends */
-    size_t data_len;       /* octets of file data: the last ones of the PDU, but for its CRC */
+    uint64_t offset;       /* of file data; start of a NAK's scope; progress of a Keep Alive */
+    uint64_t size;         /* of the file; end of a NAK's scope */
+    size_t data_len;       /* octets of file data: the last ones of the PDU, except its CRC */
     size_t pairs;          /* ranges that a NAK asks for */
     uint32_t checksum;     /* of an EOF */
     uint8_t kind;          /* CFDP_PDU_FILE_DATA and others */
-    uint8_t toward_sender; /* 1 where it goes toward the file's sender */
+    uint8_t toward_sender; /* 1 if it goes toward the file's sender */
     uint8_t condition;     /* of an EOF, a Finished or an ACK */
     uint8_t delivery;      /* of a Finished */
     uint8_t status;        /* of the file (a Finished), or of the transaction (an ACK) */
     uint8_t acknowledged;  /* of an ACK: CFDP_PDU_EOF or CFDP_PDU_FINISHED */
     uint8_t checksum_kind; /* of Metadata: a checksum type */
     uint8_t keep_alive;    /* of a Prompt: 1 for a Keep Alive, 0 for a NAK */
-    uint8_t large;         /* 1 where sizes and offsets have 8 octets, 0 where they have 4 */
-    uint8_t crc;           /* 1 where the PDU ends in a CRC, of 2 octets, else 0 */
+    uint8_t large;         /* 1 if sizes and offsets have 8 octets, 0 if they have 4 */
+    uint8_t crc;           /* 1 if the PDU ends in a CRC, of 2 octets, otherwise 0 */
 } cfdp_pdu;
 
 /* Reads a PDU. CFDP_OK, or CFDP_BAD_PDU and the number of the first thing that is wrong. */
@@ -671,30 +689,30 @@ cfdp_answer cfdp_decode(const void *pdu, size_t len, cfdp_pdu *out);
  * link: seal each frame that cfdp_next_frame or cfdp_transmit gives, and give cfdp_receive those
  * that cfdp_open_frame accepts. A frame of the link has 10 octets more, the MAC, and the fields
  * below. The keys of the two directions must differ, and so must those of two links. Numbers must
- * never come back under a key, so a program keeps them over restarts: it notes a number before it
- * uses it. */
+ * never come back under a key, so a program must keep them over restarts: it must note a number
+ * before it uses it. */
 
 /* One direction with one key. All zero octets are none that can be used. */
 typedef struct cfdp_security {
-    uint64_t number;       /* to seal: that of the next frame, from 1 on; to open: that of the
-                              frame that was accepted last, or 0. The calls count it on */
+    uint64_t number;       /* to seal: of the next frame, from 1 on; to open: of the frame that
+                              was accepted last, or 0. The calls count it on */
     uint16_t spi;          /* security parameter index, by which frames name the key, 1 to 65534 */
     uint8_t mac_len;       /* octets of the MAC that are sent, 16 to 32 */
     uint8_t insert_zone;   /* octets of the insert zone, 0 to 64 */
-    uint8_t control_field; /* 1: with an operational control field, of 4 octets; else 0 */
-    uint8_t error_control; /* 1: with a frame error control field, of 2 octets; else 0 */
+    uint8_t control_field; /* 1 if there is an operational control field, of 4 octets, or 0 */
+    uint8_t error_control; /* 1 if there is a frame error control field, of 2 octets, otherwise 0 */
     uint8_t key[32];       /* octets drawn at random */
 } cfdp_security;
 
 /* Seals a frame of len octets into out, which has as many as a frame of the link. Its operational
- * control field says control, if it has one. CFDP_OK, CFDP_BAD_ARGUMENT, CFDP_NO_ROOM where the
+ * control field says control, if it has one. CFDP_OK, CFDP_BAD_ARGUMENT, CFDP_NO_ROOM if the
  * frame has fewer than 6 octets or out another length, or CFDP_NUMBERS_SPENT. */
 cfdp_answer cfdp_seal_frame(cfdp_security *security, const void *frame, size_t len,
                             uint32_t control, uint8_t *out, size_t room);
 
-/* Verifies a frame that came, whatever its octets are, and writes the station's frame over the
+/* Verifies a received frame, whatever its octets are, and writes the station's frame over the
  * front of out. CFDP_OK, CFDP_BAD_ARGUMENT, CFDP_SHORT_FRAME to CFDP_REPLAYED, or CFDP_NO_ROOM
- * where out has fewer octets. While the peer changes its key, keep a struct for either key: where
+ * if out has fewer octets. While the peer changes its key, keep a struct for either key: if
  * one answers CFDP_UNKNOWN_SPI, copy its number into the other one and ask that. */
 cfdp_answer cfdp_open_frame(cfdp_security *security, const void *frame, size_t len, uint8_t *out,
                             size_t room);
@@ -702,7 +720,7 @@ cfdp_answer cfdp_open_frame(cfdp_security *security, const void *frame, size_t l
 /* ---- Answers in words. */
 
 #ifndef CFDP_NO_TEXT
-/* What an answer says, as a text that stays. */
+/* Returns what an answer says, as a text that stays. */
 static inline const char *cfdp_answer_text(cfdp_answer answer)
 {
     const char *text = "unknown answer";
@@ -719,6 +737,7 @@ static inline const char *cfdp_answer_text(cfdp_answer answer)
     case CFDP_NO_OUTBOX: text = "cannot read the folder to send from"; break;
     case CFDP_NO_INBOX: text = "cannot use the folder to receive into"; break;
     case CFDP_INBOX_IN_USE: text = "another station already receives into that folder"; break;
+    case CFDP_SOURCE_IN_USE: text = "a transaction is still sending the file"; break;
     case CFDP_NAME_TAKEN: text = "a file of that name already exists"; break;
     case CFDP_NO_SUCH_FILE: text = "no such file"; break;
     case CFDP_BAD_NAME: text = "file names must be 1 to 255 octets that the folder allows"; break;

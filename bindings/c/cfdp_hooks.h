@@ -15,7 +15,7 @@
 extern "C" {
 #endif
 
-/* A block of memory, or none. at isn't null, also where there is none. */
+/* A block of memory, or none. at isn't null, even if there is none. */
 typedef struct rattle_block {
     bool is_there;
     void *at;
@@ -26,7 +26,7 @@ typedef struct rattle_block {
 rattle_block rattle_alloc(size_t size, size_t align);
 
 /* Returns a block of size octets that begins with the octets of the block at, as many as both
- * have. at is given back, except where there is no memory: then it stays as it is. */
+ * have. at is given back, except if there is no memory: then it stays as it is. */
 rattle_block rattle_realloc(void *at, size_t old_size, size_t size, size_t align);
 
 /* Gives a block back. */

@@ -30,7 +30,7 @@ typedef struct cfdp_block {
     } link;
 } block;
 
-/* It isn't compiled where that is no unit. */
+/* It isn't compiled if that is no unit. */
 typedef uint8_t block_is_unit[(sizeof(block) == 16U) ? 1 : -1];
 
 static cfdp_pool process_pool;
@@ -53,7 +53,7 @@ static block *end_of(block *it)
     return &it[it->len / UNIT];
 }
 
-/* Octets of a block for so many; 0 where there can be none. */
+/* Octets of a block for so many; 0 if there can be none. */
 static size_t len_for(size_t size, size_t align)
 {
     const size_t octets = (size != 0U) ? size : 1U;
@@ -75,7 +75,7 @@ static block *cut_off(block *it, size_t len)
     return rest;
 }
 
-/* Takes a free block off the list, or its front where that suffices. */
+/* Takes a free block off the list, or its front if that suffices. */
 static block *take(cfdp_pool *pool, block **link, size_t len)
 {
     block *it = *link;
@@ -97,7 +97,7 @@ static block *take(cfdp_pool *pool, block **link, size_t len)
     return it;
 }
 
-/* Joins a free block with the next free one, where that stands right after it. */
+/* Joins a free block with the next free one, if that stands right after it. */
 static void join(block *it)
 {
     block *next = it->link.next;

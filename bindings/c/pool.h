@@ -10,22 +10,22 @@
 extern "C" {
 #endif
 
-/* How many octets the array has to have: CFDP_POOL_FOR the sum of what its stations take, of the
+/* How many octets the array must have: CFDP_POOL_FOR the sum of what its stations take, of the
  * parts below. Half as much again is for the gaps between blocks. It was measured, and isn't
  * proved: docs/EMBEDDING.md, "A heap of fixed size". */
 #define CFDP_POOL_FOR(octets) ((octets) + (octets) / 2U)
 
-/* A station, by the capacity of its configuration, with what it has to tell. */
+/* A station, by the capacity of its configuration, with what it reports. */
 #define CFDP_POOL_STATION(capacity) ((size_t)5 * (capacity) + (size_t)163840)
 
-/* So many records of transactions at once, with their names; one that is over is one until it is
+/* count records of transactions at once, with their names; one that is over is one until it is
  * forgotten. */
 #define CFDP_POOL_RECORDS(count) ((size_t)2560 * (count))
 
-/* A file of so many octets in the outbox. */
+/* A file of len octets in the outbox, until it is removed. */
 #define CFDP_POOL_SENT(len) ((size_t)(len) + (size_t)1024)
 
-/* A file of so many octets that is being received, or was and isn't removed yet. */
+/* A file of len octets that is being received, or was and isn't removed yet. */
 #define CFDP_POOL_RECEIVED(len) ((size_t)2 * (len) + (size_t)4096)
 
 /* A file that is sent from a folder, or comes into one, of whatever size. */
@@ -41,7 +41,7 @@ extern "C" {
 /* How much of the array is in use, in octets, with what each block has before it. */
 size_t cfdp_pool_used(void);
 
-/* How far the array was ever in use, from its front: an array of so many octets would have done. */
+/* How far the array was ever in use, from its front: an array of this size would have done. */
 size_t cfdp_pool_most(void);
 
 /* How often a call found no memory in it. */
@@ -61,12 +61,12 @@ typedef struct cfdp_pool {
 
 /* Makes a pool of an array of len octets, whose former octets don't matter. The array and the pool
  * must stay where they are until the stations that took memory from it are closed. false, and no
- * pool, where it has fewer than 64 octets. */
+ * pool, if it has fewer than 64 octets. */
 bool cfdp_pool_begin(cfdp_pool *pool, void *array, size_t len);
 
-/* Has each call take its memory from this pool from now on, or from the array of the process where
+/* Has each call take its memory from this pool from now on, or from the array of the process if
  * pool is null, as at first. So before each call on a handle use the pool of its station. A block
- * goes back to the pool that it came from, whichever is used then. Where pool.c is compiled with
+ * goes back to the pool that it came from, whichever is used then. If pool.c is compiled with
  * -DCFDP_POOL_LOCAL=_Thread_local, this is so for the calling thread alone: stations with pools of
  * their own may then be called on threads of their own. */
 void cfdp_pool_use(cfdp_pool *pool);

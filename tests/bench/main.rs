@@ -14,10 +14,12 @@
 mod bench;
 mod entity;
 mod joined;
+mod kept;
 mod large;
 mod parts;
 mod ranges;
 mod records;
+mod resuming;
 mod rules;
 mod setup;
 mod station;
@@ -82,6 +84,7 @@ fn play(
         "sender" => entity::play(alloc, &with(ONE, setup), transcript, out),
         "receiver" => entity::play(alloc, &with(TWO, setup), transcript, out),
         "entities" => entity::play_both(alloc, setup, transcript, out),
+        "resuming" => resuming::play(alloc, setup, transcript, out),
         "station" => station::play(alloc, &with(TWO, setup), transcript, out),
         _ => write!(out, " there is no such bench\n"),
     }

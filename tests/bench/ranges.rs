@@ -4,6 +4,8 @@
 //!     covers START END    to say whether all of these are held
 //!     missing LIMIT       to tell the gaps below an offset
 //!     gaps START LIMIT    to tell those from an offset on
+//!     count               to tell how many gaps there are before the end
+//!     admits START END    to say under which limits of gaps, 0 to 3, these may be added
 //!     front MAX           to tell the first range, of so many offsets at the most
 //!     take MAX            to take it
 //!     end, empty          to tell where the last range ends, and whether none is held
@@ -43,6 +45,8 @@ impl Bench for HeldBench {
                 )
             }
             "missing" | "gaps" => self.tells_gaps(verb, first, second, out),
+            "count" => write!(out, " {}\n", self.held.gap_count()),
+            "admits" => self.tells_limits(first, second, out),
             "front" => write!(out, " {:?}\n", self.held.front(first)),
             "end" => write!(out, " {}\n", self.held.end()),
             "empty" => write!(out, " {}\n", self.held.is_empty()),
@@ -52,6 +56,16 @@ impl Bench for HeldBench {
 }
 
 impl HeldBench {
+    /// Tells which of the limits 0 to 3 admit the offsets from the first one up to the second.
+    fn tells_limits(&self, first: u64, second: u64, out: &mut String) -> Result<(), AllocError> {
+        for most in [0u64, 1, 2, 3] {
+            if first <= second && self.held.admits(first, second, most) {
+                write!(out, " {most}")?;
+            }
+        }
+        write!(out, "\n")
+    }
+
     /// Tells the gaps below the first offset, or from it on up to the second.
     fn tells_gaps(
         &self,

@@ -129,9 +129,13 @@ fn tell_received(record: &JournalRecord, out: &mut String) -> Result<(), AllocEr
             write!(out, " {}:{} held large {large}", id.source, id.number)?;
             tell_ranges(ranges.as_slice(), out)
         }
-        JournalRecord::Publishing(id) => {
-            write!(out, " {}:{} publishing\n", id.source, id.number)
-        }
+        JournalRecord::Publishing(id, name, size) => write!(
+            out,
+            " {}:{} publishing {}, {size} octets\n",
+            id.source,
+            id.number,
+            text(name.as_slice())
+        ),
         JournalRecord::Finishing(id, outcome) => {
             write!(out, " {}:{} finishing", id.source, id.number)?;
             tell_outcome(outcome, out)

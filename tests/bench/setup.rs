@@ -5,25 +5,25 @@ use cfdp_station::{EntityConfig, FrameFields, LinkConfig, StationConfig};
 
 /// The keys, in the order of their numbers. `octets` says how much of `hello` is in `a.txt`. From
 /// the calls `outbox_call` and `inbox_call` on, the outbox and the inbox of an entity fail. PDUs
-/// have a CRC if `pdu_crc` is 1.
+/// have a CRC if `pdu_crc` is 1. `most_gaps` limits the gaps of a file, unless it is 0.
 const KEYS: &str = "entity peer id_width number_width first_number segment checksum eof_time \
     nak_time finished_time inactivity_time sends_channel sends_zone sends_apid receives_channel \
     receives_zone receives_apid capacity eof_limit nak_limit finished_limit ack_handler octets \
-    outbox_call inbox_call sends_data_channel receives_data_channel pdu_crc";
+    outbox_call inbox_call sends_data_channel receives_data_channel pdu_crc most_gaps";
 
 /// A number for each key.
-pub type Setup = [u64; 28];
+pub type Setup = [u64; 29];
 
 /// The first entity or station, with zones of 32 octets.
 pub const ONE: Setup = [
     1, 2, 2, 4, 1, 1024, 0, 10, 10, 10, 100, 5, 32, 100, 6, 32, 101, 16_384, 3, 3, 3, 0, 5,
-    1_000_000, 1_000_000, 7, 8, 0,
+    1_000_000, 1_000_000, 7, 8, 0, 0,
 ];
 
 /// The second one.
 pub const TWO: Setup = [
     2, 1, 2, 4, 1, 1024, 0, 10, 10, 10, 100, 6, 32, 101, 5, 32, 100, 16_384, 3, 3, 3, 0, 5,
-    1_000_000, 1_000_000, 8, 7, 0,
+    1_000_000, 1_000_000, 8, 7, 0, 0,
 ];
 
 /// Returns a setup with other numbers: pairs of a key and its number, all of them words.
@@ -82,6 +82,11 @@ fn policy(setup: &Setup) -> Policy {
         handlers: Handlers {
             ack: Handler::from_number(octet(setup[21])).unwrap_or(Handler::Cancel),
             ..Handlers::default()
+        },
+        most_gaps: if setup[28] == 0 {
+            None
+        } else {
+            Some(setup[28])
         },
     }
 }

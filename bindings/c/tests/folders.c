@@ -244,6 +244,7 @@ static void memory_refused(cfdp_station *one)
     uint8_t room[CFDP_NAME] = {1};
 
     IS(cfdp_add(one, octets_in("a"), 1, octets_in("b"), 1), CFDP_IN_FOLDERS);
+    IS(cfdp_remove_source(one, octets_in("a"), 1), CFDP_IN_FOLDERS);
     IS(cfdp_file_count(one), 0);
     IS(cfdp_file(one, 0, &info, room, sizeof room), CFDP_IN_FOLDERS);
     IS(cfdp_read_file(one, 0, 0, room, 1), CFDP_IN_FOLDERS);

@@ -15,7 +15,7 @@
 #include <unistd.h>
 
 enum { SAID = 32 * 1024, SAID_OF_FOLDERS = 64 * 1024, PAINTED = 128 * 1024 };
-enum { FILE_LEN = 100 * 1000, LOST = 7, CALLS = 64, MEASURED = 35 };
+enum { FILE_LEN = 100 * 1000, LOST = 7, CALLS = 64, MEASURED = 36 };
 
 /* ---- the stack below: filled, and looked at later. Both functions and the calls between them are
  * called from one place, so that they have the same octets of it. */
@@ -237,6 +237,7 @@ static void transfer(void)
     TAKES(cfdp_cancel, answer = cfdp_cancel(&two, &id));
     TAKES(cfdp_forget, answer = cfdp_forget(&one, &id));
     TAKES(cfdp_forget_closed, answer = cfdp_forget_closed(&one));
+    TAKES(cfdp_remove_source, answer = cfdp_remove_source(&one, NAME, sizeof NAME));
     (void)answer;
     TAKES(cfdp_close, cfdp_close(&one));
     TAKES(cfdp_close, cfdp_close(&two));

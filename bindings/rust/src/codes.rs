@@ -148,7 +148,7 @@ pub enum TransactionStatus {
     Unrecognized,
 }
 
-/// What is done where a limit is reached, or nothing is received for too long (4.8).
+/// What is done if a limit is reached, or nothing is received for too long (4.8).
 #[derive(Clone, Copy, Debug, PartialEq, Eq, Hash)]
 pub enum Handler {
     /// The transaction is cancelled.
@@ -157,7 +157,7 @@ pub enum Handler {
     Suspend,
     /// It goes on.
     Ignore,
-    /// The transaction is given up, and the peer isn't told.
+    /// The transaction is abandoned, and the peer isn't notified.
     Abandon,
 }
 

@@ -16,7 +16,7 @@ pub struct Link {
     pub spacecraft: u8,
     /// The virtual channel of directives: 0 to 62.
     pub virtual_channel: u8,
-    /// The virtual channel of file data: 0 to 62, another than that of directives.
+    /// The virtual channel of file data: 0 to 62; it must not be `virtual_channel`.
     pub data_virtual_channel: u8,
     /// Octets of the insert zone of a frame: 0 to 64.
     pub insert_zone: u8,
@@ -26,8 +26,8 @@ pub struct Link {
     pub error_control: bool,
 }
 
-/// How a station is set up. It begins with the library's defaults, so each field that isn't set has
-/// a value that can be.
+/// How a station is set up. It begins with the library's defaults, so if a field isn't set, it has
+/// a valid value.
 ///
 /// # Examples
 ///
@@ -49,10 +49,10 @@ pub struct Link {
 pub struct Config {
     /// This entity.
     pub entity: u64,
-    /// The other one.
+    /// The other one, which must differ from this entity.
     pub peer: u64,
-    /// The sequence number of the first put. A station that is restarted begins with one that it
-    /// never used.
+    /// The sequence number of the first put. A station that is restarted must begin with one that
+    /// it never used.
     pub first_number: u64,
     /// Octets of packets that may wait in a lane: 8,192 to 65,536.
     pub capacity: usize,
@@ -84,12 +84,15 @@ pub struct Config {
     pub nak_limit: u8,
     /// How often a Finished is sent again.
     pub finished_limit: u8,
-    /// What is done where no ACK is received.
+    /// What is done if no ACK is received.
     pub on_ack_limit: Handler,
-    /// What is done where nothing is received after NAKs.
+    /// What is done if nothing is received after NAKs.
     pub on_nak_limit: Handler,
-    /// What is done where nothing at all is received.
+    /// What is done if nothing at all is received.
     pub on_inactivity: Handler,
+    /// Most gaps in what is held of a file that it receives; 0: no limit. File data that would make
+    /// one more are dropped, and requested again.
+    pub most_gaps: u64,
 }
 
 impl Config {
@@ -101,7 +104,7 @@ impl Config {
     }
 
     /// Returns the configuration of the station at the other end: ids and links the other way
-    /// round, and all else the same.
+    /// round, and everything else the same.
     #[must_use]
     pub fn of_peer(&self) -> Config {
         Config {
@@ -137,6 +140,7 @@ impl Config {
             on_ack_limit: self.on_ack_limit.number(),
             on_nak_limit: self.on_nak_limit.number(),
             on_inactivity: self.on_inactivity.number(),
+            most_gaps: self.most_gaps,
         }
     }
 }
@@ -167,6 +171,7 @@ impl Default for Config {
             on_ack_limit: Handler::of(it.on_ack_limit).unwrap_or(Handler::Cancel),
             on_nak_limit: Handler::of(it.on_nak_limit).unwrap_or(Handler::Cancel),
             on_inactivity: Handler::of(it.on_inactivity).unwrap_or(Handler::Cancel),
+            most_gaps: it.most_gaps,
         }
     }
 }

@@ -20,6 +20,8 @@ pub enum Error {
     NoInbox,
     /// Another station receives into that folder.
     InboxInUse,
+    /// A transaction is still sending the file.
+    SourceInUse,
     /// The outbox has a file of that name.
     NameTaken,
     /// The outbox has no file of that name.
@@ -28,7 +30,7 @@ pub enum Error {
     BadName,
     /// The file has more than 2^48 octets.
     TooLarge,
-    /// The station has 4,096 records: some have to be forgotten.
+    /// The station has 4,096 records: some must be forgotten.
     TableFull,
     /// The next sequence number doesn't fit its width.
     NumbersSpent,
@@ -44,7 +46,7 @@ pub enum Error {
     AlreadySo,
     /// The transaction isn't over.
     StillOpen,
-    /// A poll has yet to send an acknowledgement of it.
+    /// A poll must still send an acknowledgement of it.
     AnswerDue,
     /// The octets are no PDU: the first thing that is wrong.
     BadPdu(PduError),
@@ -144,7 +146,7 @@ const FIELDS: [(&str, &str); 30] = [
 ];
 
 impl Error {
-    /// The error that an answer but 0 stands for.
+    /// Returns the error that an answer but 0 stands for.
     pub(crate) fn of(answer: u32) -> Error {
         match answer {
             3 => Error::BadArgument,
@@ -155,6 +157,7 @@ impl Error {
             12 => Error::NoOutbox,
             13 => Error::NoInbox,
             14 => Error::InboxInUse,
+            15 => Error::SourceInUse,
             21 => Error::NoSuchFile,
             22 => Error::BadName,
             23 => Error::TooLarge,
@@ -223,6 +226,7 @@ impl fmt::Display for Error {
             Error::NoOutbox => "cannot read the folder to send from",
             Error::NoInbox => "cannot use the folder to receive into",
             Error::InboxInUse => "another station already receives into that folder",
+            Error::SourceInUse => "a transaction is still sending the file",
             Error::NameTaken => "a file of that name already exists",
             Error::NoSuchFile => "no such file",
             Error::BadName => "file names must be 1 to 255 octets that the folder allows",

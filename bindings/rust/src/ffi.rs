@@ -1,5 +1,5 @@
 //! The calls of `cfdp.h`, and the memory that they ask for. All that is `unsafe` stands here: each
-//! method of [`Handle`] passes whole slices and references, so that no caller owes anything.
+//! method of [`Handle`] passes whole slices and references, so that a caller must keep no rule.
 
 use std::ffi::c_void;
 use std::mem::size_of;
@@ -50,6 +50,7 @@ pub struct Config {
     pub on_ack_limit: u8,
     pub on_nak_limit: u8,
     pub on_inactivity: u8,
+    pub most_gaps: u64,
 }
 
 /// How the frames of one direction are secured, with one key.
@@ -75,7 +76,7 @@ pub struct Id {
     pub number: u64,
 }
 
-/// An indication; what its kind hasn't is 0.
+/// An indication; a field that its kind hasn't is 0.
 #[repr(C)]
 #[derive(Clone, Copy, Default)]
 pub struct Told {
@@ -132,7 +133,7 @@ pub struct FrameDrops {
     pub segmented: u64,
     /// Out of memory for the packets of a frame.
     pub no_memory: u64,
-    /// Its check tells that it was damaged on the way.
+    /// Its check says that it was damaged on the way.
     pub damaged: u64,
 }
 
@@ -249,7 +250,7 @@ pub struct Counters {
     pub pdus: PduDrops,
 }
 
-/// A PDU; what its kind hasn't is 0.
+/// A PDU; a field that its kind hasn't is 0.
 #[repr(C)]
 #[derive(Clone, Copy, Default)]
 pub struct Pdu {
@@ -299,6 +300,7 @@ extern "C" {
     ) -> u32;
     fn cfdp_close(station: &mut Handle);
     fn cfdp_add(s: &mut Handle, name: *const u8, n: usize, octets: *const u8, m: usize) -> u32;
+    fn cfdp_remove_source(station: &mut Handle, name: *const u8, n: usize) -> u32;
     fn cfdp_put(
         s: &mut Handle,
         source: *const u8,
@@ -357,13 +359,13 @@ extern "C" {
     ) -> u32;
 }
 
-/// The number of the library's interface.
+/// Returns the number of the library's interface.
 pub fn version() -> u32 {
     // SAFETY: it takes nothing.
     unsafe { cfdp_version() }
 }
 
-/// The defaults.
+/// Returns the defaults.
 pub fn defaults() -> Config {
     let mut config = Config { size: size_of::<Config>(), ..Config::default() };
     // SAFETY: the reference is to a whole struct.
@@ -392,7 +394,7 @@ pub fn open_frame(security: &mut Security, frame: &[u8], out: &mut [u8]) -> u32 
 }
 
 impl Handle {
-    /// A closed one.
+    /// Returns a closed handle.
     pub const CLOSED: Handle = Handle { at: std::ptr::null_mut(), is_open: false };
 
     pub fn open(&mut self, config: &Config) -> u32 {
@@ -409,6 +411,11 @@ impl Handle {
     pub fn add(&mut self, name: &[u8], octets: &[u8]) -> u32 {
         // SAFETY: both slices are readable for their lengths, and only read.
         unsafe { cfdp_add(self, name.as_ptr(), name.len(), octets.as_ptr(), octets.len()) }
+    }
+
+    pub fn remove_source(&mut self, name: &[u8]) -> u32 {
+        // SAFETY: the slice is readable for its length.
+        unsafe { cfdp_remove_source(self, name.as_ptr(), name.len()) }
     }
 
     pub fn put(&mut self, source: &[u8], destination: &[u8], id: &mut Id) -> u32 {

@@ -81,7 +81,7 @@ pub enum Indication {
         /// What it was.
         condition: Condition,
     },
-    /// It was given up, and the peer isn't told.
+    /// It was abandoned, and the peer isn't notified.
     Abandoned {
         /// The transaction.
         id: Id,

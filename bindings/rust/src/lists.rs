@@ -4,7 +4,7 @@ use crate::error::Error;
 use crate::ffi::{Id, Listed};
 use crate::station::{gave, File, Station};
 
-/// The frames that a station has to send, those of directives first. It ends after an error.
+/// The frames that a station must send, those of directives first. It ends after an error.
 #[derive(Debug)]
 pub struct Frames<'a> {
     station: &'a mut Station,

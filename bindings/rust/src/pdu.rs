@@ -60,7 +60,7 @@ pub enum Content {
     },
     /// What file it is.
     Metadata {
-        /// The number of the checksum type, of which
+        /// The number of the checksum type.
         /// [`ChecksumType`](crate::ChecksumType) has those that a station can compute.
         checksum_type: u8,
         /// Octets of the file.

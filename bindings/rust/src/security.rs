@@ -114,7 +114,7 @@ impl fmt::Debug for Security {
 }
 
 impl Sealer {
-    /// Returns the number of the next frame. A program keeps a greater one, in a place that
+    /// Returns the number of the next frame. A program must keep a greater one, in a place that
     /// outlasts a restart, before a frame leaves.
     #[must_use]
     pub fn next(&self) -> u64 {
@@ -134,7 +134,7 @@ impl Sealer {
         Ok(out)
     }
 
-    /// Seals a frame, as [`seal`](Self::seal) does, into all of `out`, which has
+    /// Seals a frame, as [`seal`](Self::seal) does, into all of `out`, which must have
     /// [`overhead`](Security::overhead) octets more than the frame.
     ///
     /// # Errors
@@ -149,14 +149,14 @@ impl Sealer {
 }
 
 impl Opener {
-    /// Returns the number of the frame that was accepted last. A program keeps one that is at least
-    /// as great, in a place that outlasts a restart, before the station receives the frame.
+    /// Returns the number of the frame that was accepted last. A program must keep one that is at
+    /// least as great, in a place that outlasts a restart, before the station receives the frame.
     #[must_use]
     pub fn last(&self) -> u64 {
         self.last
     }
 
-    /// Verifies a frame that came, whatever its octets are, and returns the frame of the station.
+    /// Verifies a received frame, whatever its octets are, and returns the frame of the station.
     ///
     /// # Errors
     ///

@@ -25,9 +25,9 @@ pub enum Polled {
 /// One of the two lanes of a direction: virtual channels of their own.
 #[derive(Clone, Copy, Debug, PartialEq, Eq, Hash)]
 pub enum Lane {
-    /// That of directives: all PDUs but file data.
+    /// The lane of directives: all PDUs except file data.
     Directives,
-    /// That of file data.
+    /// The lane of file data.
     FileData,
 }
 
@@ -45,7 +45,7 @@ pub struct File {
 ///
 /// # Examples
 ///
-/// A turn takes what came, tells the time, and sends what is due:
+/// A turn takes what came, gives the time, and sends what is due:
 ///
 /// ```
 /// use cfdp::{Error, Station};
@@ -88,7 +88,7 @@ const _: () = {
     may_go_to_a_thread::<Station>();
 };
 
-/// Whether a call gave something: all went well, or there was nothing of the kind.
+/// Returns whether a call gave something: all went well, or there was nothing of the kind.
 pub(crate) fn gave(answer: u32) -> Result<bool, Error> {
     match answer {
         ffi::OK => Ok(true),
@@ -151,6 +151,16 @@ impl Station {
         Error::check(self.handle.get_mut().add(name, octets))
     }
 
+    /// Removes a file that no transaction is sending from the outbox, and gives its memory back.
+    ///
+    /// # Errors
+    ///
+    /// `InFolders` if the station has folders; `NoSuchFile` if there is no file of that name;
+    /// `SourceInUse` if a transaction is sending it. Nothing changed.
+    pub fn remove_source(&mut self, name: &[u8]) -> Result<(), Error> {
+        Error::check(self.handle.get_mut().remove_source(name))
+    }
+
     /// Sends a file of the outbox, which the peer publishes under the name `destination`.
     ///
     /// # Errors
@@ -163,17 +173,17 @@ impl Station {
         Ok(id)
     }
 
-    /// Gives a transaction up, and tells the peer.
+    /// Cancels a transaction, and notifies the peer.
     ///
     /// # Errors
     ///
     /// `Unknown` if it has no record here; `AlreadyClosed` if it is over; `AlreadySo` if it is
-    /// given up already; `NoMemory`. Nothing changed.
+    /// cancelled already; `NoMemory`. Nothing changed.
     pub fn cancel(&mut self, id: Id) -> Result<(), Error> {
         Error::check(self.handle.get_mut().cancel(id))
     }
 
-    /// Sends nothing of a transaction, and lets no time run for it.
+    /// Suspends a transaction: sends nothing of it, and lets no time run for it.
     ///
     /// # Errors
     ///
@@ -183,7 +193,7 @@ impl Station {
         Error::check(self.handle.get_mut().suspend(id))
     }
 
-    /// Goes on with a suspended transaction.
+    /// Resumes a suspended transaction.
     ///
     /// # Errors
     ///
@@ -246,9 +256,9 @@ impl Station {
         self.handle.borrow_mut().records_left()
     }
 
-    /// Returns the next frame that is to leave, those of directives first: it polls until a whole
-    /// frame waits, or nothing is due, and fills up what is begun. `None` if there is nothing to
-    /// send.
+    /// Returns the next frame that must leave, those of directives first: it polls until a whole
+    /// frame waits, or nothing is due, and fills up what is begun. Returns `None` if there is
+    /// nothing to send.
     ///
     /// # Errors
     ///
@@ -258,9 +268,9 @@ impl Station {
         Ok(self.transmit_into(&mut frame)?.then_some(frame))
     }
 
-    /// Writes the next frame that is to leave into all of `frame`, which has
-    /// [`frame_len`](Self::frame_len) octets, as [`transmit`](Self::transmit) returns it; `false`
-    /// if there is nothing to send.
+    /// Writes the next frame that must leave into all of `frame`, which must have
+    /// [`frame_len`](Self::frame_len) octets, as [`transmit`](Self::transmit) returns it. Returns
+    /// `false` if there is nothing to send.
     ///
     /// # Errors
     ///
@@ -270,7 +280,7 @@ impl Station {
         gave(self.handle.get_mut().transmit(frame))
     }
 
-    /// Returns the frames that are to leave, as [`transmit`](Self::transmit) does, until there is
+    /// Returns the frames that must leave, as [`transmit`](Self::transmit) does, until there is
     /// nothing to send or no memory.
     pub fn frames(&mut self) -> Frames<'_> {
         Frames::of(self)
@@ -321,8 +331,8 @@ impl Station {
         self.handle.borrow_mut().frames_ahead()
     }
 
-    /// Takes off the next whole frame: the oldest one of directives, or if none of them waits that
-    /// of file data. `None` if no whole frame waits.
+    /// Takes off the next whole frame: the oldest one of directives, or if none of them waits, of
+    /// file data. Returns `None` if no whole frame waits.
     ///
     /// # Errors
     ///
@@ -333,7 +343,8 @@ impl Station {
     }
 
     /// Takes off the next whole frame, as [`next_frame`](Self::next_frame) does, and writes it into
-    /// all of `frame`, which has [`frame_len`](Self::frame_len) octets; `false` if none waits.
+    /// all of `frame`, which must have [`frame_len`](Self::frame_len) octets. Returns `false` if
+    /// none waits.
     ///
     /// # Errors
     ///
@@ -348,15 +359,15 @@ impl Station {
         never_fails(self.handle.get_mut().receive(frame));
     }
 
-    /// Has this in the operational control field of the frames that leave from now on, of both
-    /// lanes, if [`sends`](Config::sends) has such a field; at first it is 0.
+    /// Sets the operational control field of the frames that leave from now on, of both lanes, if
+    /// [`sends`](Config::sends) has such a field; at first it is 0.
     pub fn set_control_field(&mut self, control: u32) {
         never_fails(self.handle.get_mut().set_control_field(control));
     }
 
-    /// Returns the operational control field of the last frame that came and was one of a lane;
-    /// `None` if none came, or [`receives`](Config::receives) has no such field. A damaged frame is
-    /// one of neither.
+    /// Returns the operational control field of the last received frame of a lane; `None` if none
+    /// was received, or [`receives`](Config::receives) has no such field. A damaged frame is one of
+    /// neither lane.
     #[must_use]
     pub fn control_field(&self, lane: Lane) -> Option<u32> {
         let mut control = 0;
@@ -374,7 +385,7 @@ impl Station {
         counts
     }
 
-    /// Tells the time: each timer that is due fires once.
+    /// Gives the time: each timer that is due fires once.
     ///
     /// # Errors
     ///
@@ -384,7 +395,7 @@ impl Station {
     }
 
     /// Returns when [`tick`](Self::tick) must be called at the latest: the earliest time at which a
-    /// timer is due. `None` if none is armed.
+    /// timer is due; `None` if none is armed.
     #[must_use]
     pub fn next_timeout(&self) -> Option<u64> {
         let mut deadline = 0;

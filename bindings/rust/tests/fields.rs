@@ -59,6 +59,32 @@ fn damage_is_mended() -> Result<(), Error> {
 }
 
 #[test]
+fn gaps_have_a_limit() -> Result<(), Error> {
+    for most_gaps in [0, 1] {
+        let mut config = Config::new(1, 2);
+        config.segment = 100;
+        config.most_gaps = most_gaps;
+        let (mut one, mut two) = (Station::open(&config)?, Station::open(&config.of_peer())?);
+        one.add(b"a", &OCTETS)?;
+        one.put(b"a", b"b")?;
+        // Each second frame of file data is lost.
+        let mut is_lost = false;
+        for frame in one.frames() {
+            let frame = frame?;
+            is_lost ^= frame[1] & 63 == 7;
+            if frame[1] & 63 != 7 || !is_lost {
+                two.receive(&frame);
+            }
+        }
+        assert_eq!(two.counters().pdus.no_memory != 0, most_gaps == 1);
+        pass(&mut two, &mut one)?;
+        pass(&mut one, &mut two)?;
+        assert_eq!(two.file(0)?.map(|it| it.octets), Some(OCTETS.to_vec()));
+    }
+    Ok(())
+}
+
+#[test]
 fn wrong_fields() {
     fn refused(change: impl FnOnce(&mut Config)) -> String {
         let mut config = Config::default();

@@ -57,6 +57,7 @@ fn files_of_each_size() -> Result<(), Box<dyn std::error::Error>> {
     assert_eq!(receiver.file(0), Err(Error::InFolders));
     assert!(receiver.files().eq([Err(Error::InFolders)]));
     assert_eq!(receiver.remove_file(b"one"), Err(Error::InFolders));
+    assert_eq!(receiver.remove_source(b"one"), Err(Error::InFolders));
     assert_eq!(sender.add(b"a", b"b"), Err(Error::InFolders));
     Ok(())
 }

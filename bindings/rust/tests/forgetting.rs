@@ -105,6 +105,28 @@ fn makes_room() -> Result<(), Error> {
 }
 
 #[test]
+fn gives_a_file_up() -> Result<(), Error> {
+    let (mut one, mut two) = both()?;
+    let id = one.put(NAME, NAME)?;
+    assert_eq!(one.remove_source(b"none"), Err(Error::NoSuchFile));
+    assert_eq!(one.remove_source(NAME), Err(Error::SourceInUse));
+    one.suspend(id)?;
+    assert_eq!(one.remove_source(NAME), Err(Error::SourceInUse));
+    one.resume(id)?;
+    exchange(&mut one, &mut two)?;
+    assert_eq!((ended_well(&mut one), ended_well(&mut two)), (1, 1));
+    one.remove_source(NAME)?;
+    assert_eq!(one.remove_source(NAME), Err(Error::NoSuchFile));
+    assert_eq!(one.put(NAME, NAME), Err(Error::NoSuchFile));
+    one.add(NAME, b"another")?;
+    one.put(NAME, NAME)?;
+    exchange(&mut one, &mut two)?;
+    assert_eq!((ended_well(&mut one), ended_well(&mut two)), (1, 1));
+    assert_eq!(two.file(0)?.map(|it| it.octets), Some(b"another".to_vec()));
+    Ok(())
+}
+
+#[test]
 fn acknowledges_a_late_eof() -> Result<(), Error> {
     let (mut one, mut two) = both()?;
     let id = one.put(NAME, NAME)?;

@@ -1,4 +1,5 @@
--- What the calls of a station's user say: each put that was accepted is found, and what was heard was told.
+-- What the calls of a station's user say: each put that was accepted is found, and what was heard
+-- was indicated.
 use Rattle.std.proofs.Common.{◌≡◌, ℕ, ◌<◌, Bool, false, Some, None, Ok, List, [], ◌∷◌, ◌++◌, length, map, drop, refl, sym, ap, ap₂, subst, ◌∙◌, inl, inr, arith}
 use Rattle.std.specs.Prelude.{Contains, ◌^◌, nat_lt, cond, true}
 use Rattle.std.proofs.lemmas.Grind.{flat_map-append}
@@ -94,7 +95,7 @@ pub record IsPut (own : ℕ) (puts : List Put) (names : PutNames) (id : Transact
 abbrev pub ArePut : ℕ → List Put → List UserCall → Type 0
 ArePut own puts calls = (before behind : List UserCall) (names : PutNames) (id : TransactionId) → calls ≡ before ++ asks_put names ∷ accepts_put id ∷ behind → IsPut own puts names id
 
--- All that was heard was told.
+-- All that was heard was indicated.
 abbrev pub AreTold : List UserCall → List Indication → Type 0
 AreTold calls told = (i : Indication) → Contains (heard_by calls) i → Contains told i
 
@@ -109,7 +110,7 @@ BeginsElse calls = (id : TransactionId) (behind : List UserCall) → calls ≡ a
 pub put_more : (own : ℕ) (puts added : List Put) (names : PutNames) (id : TransactionId) → IsPut own puts names id → IsPut own (puts ++ added) names id
 put_more own puts added names id p = record { put = p.put; is_put = finds_more puts added id p.put p.is_put; its_id = p.its_id; source = p.source; destination = p.destination; of_own = p.of_own }
 
--- more calls, of which none is about a put
+-- more calls, none of which is about a put
 more_else : (own : ℕ) (puts : List Put) (calls more : List UserCall) → ArePut own puts calls → BeginsElse more → NoPut more → ArePut own puts (calls ++ more)
 more_else own puts calls more are begins none before behind names id e = by (apart (asks_put names) (accepts_put id) calls more before behind e)
   where

@@ -92,7 +92,7 @@ module _ (all : AllLaws) (c t : StationConfig) (first there : FileMap) (joined :
       (makes_request id request answer c k theirs (at b k) puts answers.entity.called answers.err answers.link refl) refl h)
   wish_held (wishes.Change id request) (replies.Put answer) k b puts added f h = absurd f
 
-  -- ---- what is let go
+  -- ---- what is discarded
   pub told_held : (k : EndKept) (puts : List Put) → Holds puts k → Holds puts (at (once_told k.station) k)
   told_held k puts h =
       held_like c t first there puts k (at (once_told k.station) k) theirs refl refl refl (record { told = refl; config = refl; next = refl; files = refl })
@@ -105,7 +105,7 @@ module _ (all : AllLaws) (c t : StationConfig) (first there : FileMap) (joined :
       held_like c t first there puts k (at b k) theirs refl go.link.0 go.link.1 (some_like k.station.entity.state b.entity.state go.forgets)
       (λ heard begun sound. all.forgets (found puts) heard begun k.station.entity.state b.entity.state go.forgets sound) h
 
-  -- ---- what was told stays
+  -- ---- what was indicated stays
   put_told : (source destination : List ℕ) (answer : Result TransactionId PutError) (k : EndKept) (a b : StationState) (puts : List Put) → asking.Puts source destination answer a b → Holds puts (at a k) →
       TellsMore (told_of (at a k)) (told_of (at b k))
   put_told source destination (Ok id) k a b puts p h =
@@ -147,7 +147,7 @@ module _ (all : AllLaws) (c t : StationConfig) (first there : FileMap) (joined :
       let none : (table_of new.kept.station).told ≡ [] = ap (λ (x : Counted). x.state.table.told) anew.begun.counts.rest.0 ∙ ap (λ (e : EntityState). e.table.told) anew.begun.is_new.entity in
       tells_same (told_of old.kept) (told_of new.kept) (ap (λ (k : EndKept). k.told_before ++ (table_of new.kept.station).told) anew.kept ∙ ap (λ l. told_of old.kept ++ l) none ∙ append-nil (told_of old.kept))
 
-  -- ---- what was heard is what was let go
+  -- ---- what was heard is what was discarded
   wish_gains : (wish : Wish) (reply : Reply) (a b : StationState) (added : List Put) → Fulfils wish reply a b added → Gains (table_of a) (table_of b)
   wish_gains (wishes.Put names) (replies.Put (Ok id)) a b added (inl f) =
       gains-both (table_of a) (table_of f.looked) (table_of b) (look-gains names.source.items a f.looked f.looks)
@@ -176,7 +176,7 @@ module _ (all : AllLaws) (c t : StationConfig) (first there : FileMap) (joined :
     heard = h.heard ∙ ap₂ (λ (n : ℕ) (l : List Indication). take n l) (sym gone) (sym told);
   }
 
-  -- by calls that tell nothing, of a table that gained some
+  -- by calls that indicate nothing, of a table that gained some
   hears_so : (old new : Served) (more : List UserCall) → new.calls ≡ old.calls ++ more → heard_by more ≡ [] → Gains (table_of old.kept.station) (table_of new.kept.station) →
       HearsGone old.calls (table_of old.kept.station) → HearsGone new.calls (table_of new.kept.station)
   hears_so old new more is none gains h =

@@ -1,4 +1,4 @@
--- What a user heard in a life of its station is what was let go in it.
+-- What a user heard in a life of its station is what was discarded in it.
 use Rattle.std.proofs.Common.{◌≡◌, ◌∙◌, ◌+◌, ◌≤◌, Bool, true, false, List, [], ◌∷◌, ◌++◌, ap, arith, cond, drop, length, length-append, map, refl, sym, take, take_all}
 use Rattle.std.specs.Prelude.{◌^◌, nat_lt}
 use Rattle.std.proofs.lemmas.List.{append-nil, take-append-drop, take-append-le}
@@ -19,7 +19,7 @@ heard_all (i ∷ all) = ap (λ l. i ∷ l) (heard_all all)
 pub heard_both : (calls more : List UserCall) → heard_by (calls ++ more) ≡ heard_by calls ++ heard_by more
 heard_both calls more = flat_map-append heard_in calls more
 
--- ---- what is let go
+-- ---- what is discarded
 said_few : (t : TableState) → t.gone ≤ length t.told → (once_said t).gone ≤ length (once_said t).told
 said_few t few = by (nat_lt (length t.told) (2 ^ 64))
   where
@@ -34,7 +34,7 @@ said_gone t = by (nat_lt (length t.told) (2 ^ 64))
     by true = take_all (length t.told) t.told (omega arith) ∙ sym (take-append-drop t.gone t.told)
     by false = sym (append-nil (take t.gone t.told))
 
--- records that are let go change nothing of it
+-- records that are released change nothing of it
 each_told : (ids : List TransactionId) (a b : EntityState) → ForgetsEach ids a b → (b.table.told ≡ a.table.told) × (b.table.gone ≡ a.table.gone)
 unfolding ForgetsEach
 each_told [] a b same = (ap (λ (e : EntityState). e.table.told) same, ap (λ (e : EntityState). e.table.gone) same)
@@ -50,7 +50,7 @@ forgot_told a b f = each_told f.ids a b f.forgets
 pub hears_first : (t : TableState) → t.gone ≡ 0 → HearsGone [] t
 hears_first t none = record { few = omega (arith, none); heard = ap (λ n. take n t.told) (sym none) }
 
--- as the station tells more
+-- as the station indicates more
 pub hears_gains : (calls : List UserCall) (t t_now : TableState) → HearsGone calls t → Gains t t_now → HearsGone calls t_now
 hears_gains calls t t_now h g = record {
   few = (let low : t.gone ≤ length t.told = h.few in let same : t_now.gone ≡ t.gone = g.gone in
@@ -58,14 +58,14 @@ hears_gains calls t t_now h g = record {
   heard = h.heard ∙ sym ((λ i. take (g.gone i) (g.told i)) ∙ take-append-le t.gone t.told g.gained h.few);
 }
 
--- by a call that tells it nothing
+-- by a call that reports nothing to it
 pub hears_more : (calls more : List UserCall) (t : TableState) → HearsGone calls t → heard_by more ≡ [] → HearsGone (calls ++ more) t
 hears_more calls more t h none = record {
   few = h.few;
   heard = heard_both calls more ∙ ap (λ l. heard_by calls ++ l) none ∙ append-nil (heard_by calls) ∙ h.heard;
 }
 
--- all that is left is told, and let go
+-- all that is left is reported, and discarded
 pub hears_said : (calls : List UserCall) (t : TableState) → HearsGone calls t → HearsGone (calls ++ map Hears (said_by t)) (once_said t)
 hears_said calls t h = record {
   few = said_few t h.few;

@@ -1,4 +1,5 @@
--- What is kept of two stations, with histories of both of which the promise holds, as calls are made.
+-- What is kept of two stations, with histories of both for which the promise holds, as calls are
+-- made.
 use Rattle.std.proofs.Common.{◌≡◌, ℕ, ◌+◌, ◌<◌, ◌≤◌, List, [], ◌∷◌, ◌++◌, length, map, refl, sym, ap, subst, ◌∙◌, inl, inr, arith, length-append}
 use Rattle.std.proofs.lemmas.List.{length-map}
 use Rattle.aos_frame.specs.declared.config.Lane.{Lane}
@@ -24,7 +25,7 @@ use Rattle.any_order.proofs.Kept.{IsJoinedTo, KeepsLife, SaysSo, kept_mine, kept
 use Rattle.any_order.proofs.Promise.{Laws}
 use Rattle.any_link.proofs.Sounds.{IsLike}
 
--- Histories of both stations of which this is kept, and of which the promise holds.
+-- Histories of both stations that this is kept of, and for which the promise holds.
 pub record Held (c t : StationConfig) (first there : FileMap) (puts : List Put) (mine theirs : EndKept) : Type 0 where
   pub m : End
   pub o : End
@@ -163,7 +164,7 @@ module _ (c t : StationConfig) (first there : FileMap) (puts : List Put) (old ne
   unfolding e
   taken_there = record { coming = h.taken_theirs.coming; near = h.taken_theirs.near; last = h.taken_theirs.last }
 
-  -- what was told, and the rest of the entity, in the words of the history
+  -- what was indicated, and the rest of the entity, in the words of the history
   down_there : new.station.down ≡ h.m.station.down
   down_there = down ∙ ap (λ (s : StationState). s.down) (sym is)
 

@@ -27,7 +27,7 @@ use Rattle.any_link.proofs.Holding.{Held}
 use Rattle.any_link.proofs.Standing.{DoesDeed}
 use Rattle.any_link.proofs.Turning.{early_life, turn_life}
 
--- ---- what was told in all of them
+-- ---- what was indicated in all of them
 abbrev pub told_in : List InboxLife → List Indication
 told_in ls = flat_map (λ (l : InboxLife). l.told) ls
 
@@ -55,7 +55,7 @@ in_one own (x ∷ ls) id done = elim (Contains-append_cases (completions own x.t
     ]
 
 -- ---- what is known
--- Each life that ended is folded, and what was told in them is what was told before.
+-- Each life that ended is folded, and what was indicated in them is what was indicated before.
 pub record Inboxed (own : ℕ) (puts : List Put) (s : Served) : Type 0 where
   pub folded : (l : InboxLife) → Contains s.inboxes_before l → IsFolded own puts l
   pub told : told_in s.inboxes_before ≡ s.kept.told_before
@@ -91,13 +91,13 @@ all_folded own puts s i now l among =
       | inr last ↦ subst (λ (x : InboxLife). IsFolded own puts x) (sym (one_in this l last)) now
     ]
 
--- what was told in all of them is all that was told
+-- what was indicated in all of them is all that was indicated
 pub all_told : (own : ℕ) (puts : List Put) (s : Served) → Inboxed own puts s → told_in (inboxes s) ≡ s.kept.told_before ++ (table_of s.kept.station).told
 all_told own puts s i =
     let this : InboxLife = record { begun = s.begun; told = (table_of s.kept.station).told; files = (table_of s.kept.station).files } in
     flat_map-append (λ (l : InboxLife). l.told) s.inboxes_before (this ∷ []) ∙ ap₂ (λ (a b : List Indication). a ++ b) i.told (append-nil (table_of s.kept.station).told)
 
--- ---- where each life began with what the one before ended with
+-- ---- if each life began with what the one before ended with
 followed : (own : ℕ) (puts : List Put) (first : FileMap) (ls : List InboxLife) (l : InboxLife) → ((x : InboxLife) → Contains (ls ++ l ∷ []) x → IsFolded own puts x) → FollowEachOther first (ls ++ l ∷ []) →
     l.files ≡ inbox_after (found puts) first (completions own (told_in (ls ++ l ∷ [])))
 followed own puts first [] l folded (is, none) =

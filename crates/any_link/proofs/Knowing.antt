@@ -32,11 +32,12 @@ use Rattle.any_link.proofs.Holding.{Held}
 use Rattle.any_link.proofs.Promising.{AreHeld, deed_added, each, first_held, goes_held, held_at, own_so, went_held}
 use Rattle.any_link.proofs.Telling.{TellsMore, tells_same, told_of}
 
--- what an entity is told of a file that was delivered
+-- what an entity indicates of a file that was delivered
 abbrev pub delivered : TransactionId → Indication
 delivered id = Finished id no_error Complete Retained
 
--- Each put that was accepted is found, all that was heard was told, and in this life it is what was let go.
+-- Each put that was accepted is found, all that was heard was indicated, and in this life it is
+-- what was discarded.
 pub record Known (own : ℕ) (puts : List Put) (s : Served) : Type 0 where
   pub are : ArePut own puts s.calls
   pub told : AreTold s.calls (told_of s.kept)
@@ -45,7 +46,7 @@ pub record Known (own : ℕ) (puts : List Put) (s : Served) : Type 0 where
 none_in : {X : Type 0} (x : X) → Contains [] x → ⊥
 none_in x has = let k = has.0 in let low : k < 0 = has.1 in omega arith
 
--- with these calls, where no put was accepted
+-- with these calls, if no put was accepted
 known_on : (own : ℕ) (puts puts_then : List Put) (calls : List UserCall) (new : Served) → puts_then ≡ puts → new.calls ≡ calls → ArePut own puts calls → AreTold calls (told_of new.kept) →
     HearsGone new.calls (table_of new.kept.station) → Known own puts_then new
 known_on own puts puts_then calls new same is are told gone = record {
@@ -57,7 +58,7 @@ known_on own puts puts_then calls new same is are told gone = record {
 module _ (c t : StationConfig) (first there : FileMap) (theirs : EndKept) {W : Type 0} (Steps : W → WireCall → W → Type 0) (old new : Served) (puts puts_then : List Put)
     (h : Held c t first there puts old.kept theirs) (tells : TellsMore (told_of old.kept) (told_of new.kept)) (gone : HearsGone new.calls (table_of new.kept.station))
     (k : Known c.entity.entity puts old) where
-  -- what was heard before was told still
+  -- what was heard before was indicated still
   grown : (calls : List UserCall) → AreTold calls (told_of old.kept) → AreTold calls (told_of new.kept)
   grown calls told = subst (λ (l : List Indication). AreTold calls l) (sym tells.told) (heard_grown calls (told_of old.kept) tells.gained told)
 
@@ -84,7 +85,7 @@ pub record AreKnown (c : Setup) (w : Stations) : Type 0 where
   pub held : AreHeld c w
   pub known : (s : Side) → Known (setup_of s c).entity.entity w.puts (served_at s w)
 
--- the same station, where more was put
+-- the same station, if more was put
 known_same : (own : ℕ) (puts puts_then added : List Put) (old new : Served) → new ≡ old → puts_then ≡ puts ++ added → Known own puts old → Known own puts_then new
 known_same own puts puts_then added old new same more k =
     subst (λ (ps : List Put). Known own ps new) (sym more) (subst (λ (s : Served). Known own (puts ++ added) s) (sym same) (record { are = all_more own puts added old.calls k.are; told = k.told; gone = k.gone }))
@@ -117,14 +118,14 @@ module _ {W : Type 0} (Steps : W → WireCall → W → Type 0) (all : AllLaws) 
           known_on (setup_of s c).entity.entity w.puts w.puts [] (served_at s w) refl none (none_known (setup_of s c).entity.entity w.puts) (λ i has. absurd (none_in i has))
           (subst (λ (l : List UserCall). HearsGone l (table_of (served_at s w).kept.station)) (sym none) (hears_first (table_of (served_at s w).kept.station) (first_gone s)))
 
-  -- what either station told is told still
+  -- what either station indicated is still there
   side_tells : (s : Side) (deed : Deed) (old new : Stations) → DoesDeed Steps deed (setup_of s c) (served_at (other s) old).kept (served_at s old) (served_at s new) old.puts new.puts → AreHeld c old →
       TellsMore (told_of (served_at s old).kept) (told_of (served_at s new).kept)
   side_tells s deed old new does h =
       deed_told all (setup_of s c) (setup_of (other s) c) (served_at s old).begun (served_at (other s) old).begun (joined_to c s joined) (joined.link s) (served_at (other s) old).kept Steps deed (served_at s old) (served_at s new)
       old.puts new.puts does (held_at c old s h)
 
-  -- what was heard in this life is what was let go
+  -- what was heard in this life is what was discarded
   side_hears : (s : Side) (deed : Deed) (old new : Stations) → DoesDeed Steps deed (setup_of s c) (served_at (other s) old).kept (served_at s old) (served_at s new) old.puts new.puts → AreHeld c old →
       HearsGone (served_at s old).calls (table_of (served_at s old).kept.station) → HearsGone (served_at s new).calls (table_of (served_at s new).kept.station)
   side_hears s deed old new does h gone =

@@ -31,7 +31,8 @@ use Rattle.any_link.proofs.Sounds.{some_like}
 use Rattle.any_link.proofs.Standing.{AreFirst, DoesDeed, Fulfils, Goes, HaveServed}
 use Rattle.any_link.proofs.Turning.{MakesSome, stopped, turned}
 
--- The laws of what an entity has to do, also where it forgets, and that files and indications are nothing to it.
+-- The laws of what an entity must do, also if it forgets, and that files and indications are
+-- nothing to it.
 pub record EndLaws : Type 0 where
   pub entity : EntityLaws
   pub some : (old new : EntityState) → ForgetsSome old new → IsLively old → IsLively new

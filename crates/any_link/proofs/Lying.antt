@@ -150,7 +150,7 @@ sent_lies all c joined w h files s name put sent =
     }
 
 -- ---- what left the spool
--- Puts of what left, in order, each of its transaction and of which this holds.
+-- Puts of what left, in order, each of its transaction, for which this holds.
 record PutsOf (P : Put → Type 0) (left : List Left) : Type 0 where
   pub puts : List Put
   pub named : map (λ (put : Put). put.source) puts ≡ names_of left
@@ -189,7 +189,7 @@ all_puts P (l ∷ left) each =
     either one rest put (suc k, low, e) = rest.each put (k, omega (arith, low), e)
 
 module _ {W : Type 0} (Steps : W → WireCall → W → Type 0) (all : AllLaws) (c : Setup) (joined : AreJoined c) where
-  -- a put that was wished and accepted in this life, and told complete
+  -- a put that was wished and accepted in this life, and indicated complete
   abbrev SentBy : Stations → Side → Put → Type 0
   SentBy mid s put = IsSent s put.source put mid × IsAccepted (served_at s mid).calls put.source put.id
 

@@ -13,7 +13,7 @@ use Rattle.cfdp_service.specs.declared.wish.Wish.{Wish}
 use Rattle.cfdp_service.specs.Serving.{once_told, said_by, wish_calls}
 use Rattle.any_link.specs.Serving.{Deed, DoesDeed, DoesFree, Goes, IsPrepared, Leads, LetsGo, Says, Served, Stations, Tells, Wishes, served_at, served_on, with_has}
 
--- both stations, where the one at this side became another
+-- both stations, if the one at this side became another
 abbrev with_served : Side → Served → List Put → Stations → Stations
 with_served One x puts w = record { one = x; two = w.two; puts = puts }
 with_served Two x puts w = record { one = w.one; two = x; puts = puts }
@@ -34,7 +34,7 @@ puts_are Two x puts w = refl
 abbrev with_calls : StationState → Served → List UserCall → Served
 with_calls b x l = record x { kept = record x.kept { station = b }; calls = l }
 
--- more calls behind these
+-- more calls after these
 on_both : (a b : StationState) (c d : List UserCall) (x : Served) → served_on b d (served_on a c x) ≡ served_on b (c ++ d) x
 on_both a b c d x = ap (λ (l : List UserCall). with_calls b x l) (append_assoc x.calls c d)
 

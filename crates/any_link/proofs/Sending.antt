@@ -1,5 +1,5 @@
--- What a clerk knows of the files that left its spool as sent, call by call: each was put, and told complete, as a
--- transaction of its own.
+-- What a clerk knows of the files that left its spool as sent, call by call: each was put, and
+-- indicated complete, as a transaction of its own.
 use Rattle.std.proofs.Common.{◌≡◌, ℕ, ◌+◌, ◌<◌, ◌≤◌, Option, Some, None, Ok, List, [], ◌∷◌, ◌++◌, length, map, take, drop, refl, sym, ap, subst, ◌∙◌, inl, inr, arith, append-nil, append_assoc, ⊎_elim}
 use Rattle.std.specs.Prelude.{Contains, count_by}
 use Rattle.std.proofs.lemmas.List.{map-append, take-append-drop}
@@ -39,7 +39,7 @@ pub record EndsWishing (calls : List UserCall) (name : List ℕ) : Type 0 where
   pub is : calls ≡ front ++ Asks wish ∷ []
   pub wishes : WishesFile name wish
 
--- By these calls it was put as this transaction, and told complete.
+-- By these calls it was put as this transaction, and indicated complete.
 pub record WasSent (own : ℕ) (calls : List UserCall) (l : Left) : Type 0 where
   pub accepted : IsAccepted calls l.name l.id
   pub told : IsToldComplete own (heard_by calls) l.id
@@ -70,7 +70,7 @@ count_more id calls more =
     omega (arith, all)
 
 module _ {S : Type 0} (sent failed : S → List (List ℕ)) where
-  -- What is known of a clerk after these calls, of which it was new before.
+  -- What is known of a clerk after these calls, before which it was new.
   pub record Tracks (old : ClerkState S) (calls : List UserCall) (c : ClerkState S) : Type 0 where
     pub own : c.own ≡ old.own
     pub asked : (name : List ℕ) → c.asked ≡ Some name → EndsWishing calls name

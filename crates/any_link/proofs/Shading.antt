@@ -41,7 +41,7 @@ module _ (files : FileMap) where
   long_same : (a b : StationState) → (table_of b).sources ≡ (table_of a).sources → Long a → Long b
   long_same a b same long = subst (λ (x : FileMap). AreAsLong x files) (sym same) long
 
-  -- a step with these files, behind which they are still as long
+  -- a step with these files, after which they are still as long
   record Step (Rel : StationState → StationState → Type 0) (a b : StationState) : Type 0 where
     pub is : Rel (st a) (st b)
     pub long : Long b

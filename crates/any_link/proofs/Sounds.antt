@@ -1,5 +1,5 @@
--- An entity stays sound where its outbox has other files than before, but for those that its records send, and where
--- indications were let go.
+-- An entity stays sound if its outbox has other files than before, except for those that its
+-- records send, and if indications were discarded.
 use Rattle.std.proofs.Common.{◌≡◌, ℕ, Bool, List, [], ◌∷◌, slice_get, Option, Some, refl, sym, ap, subst, ◌∙◌, inl, inr}
 use Rattle.std.specs.Prelude.{unwrap_or}
 use Rattle.std.specs.Prelude.{bytes_eq}
@@ -38,7 +38,7 @@ like_same old new e = record {
 like_both : (a b c : EntityState) → IsLike a b → IsLike b c → IsLike a c
 like_both a b c g h = record { told = h.told ∙ g.told; config = h.config ∙ g.config; next = h.next ∙ g.next; files = h.files ∙ g.files }
 
--- ---- records that are let go
+-- ---- records that are released
 forgets_like : (id : TransactionId) (old new : EntityState) → Forgets id old new → IsLike old new
 forgets_like id old new f = record {
   told = ap (λ (x : EntityState). x.table.told) f.forgot;
@@ -55,7 +55,7 @@ each_like (id ∷ ids) old new f = like_both old f.0 new (forgets_like id old f.
 pub some_like : (old new : EntityState) → ForgetsSome old new → IsLike old new
 some_like old new f = each_like f.ids old new f.forgets
 
--- ---- other files, and indications that are let go
+-- ---- other files, and indications that are discarded
 module _ (p : TransactionId → Option Put) (heard : List (List ℕ)) (first : FileMap) where
   sends_else : (sources now : FileMap) (id : TransactionId) (s : Seen) → ((x : SenderState) → s ≡ Sends x → octets_in now x.source ≡ octets_in sources x.source) → SendsItsPut p sources id s →
       SendsItsPut p now id s

@@ -59,7 +59,7 @@ module _ {W : Type 0} (Steps : W → WireCall → W → Type 0) where
       latest = with_sent Steps turn.sends.count _ _ turn.sends.sent heard.latest;
     }
 
-  -- Behind what it heard, a station was told the time, and sent some frames; then it was polled at
+  -- After what it heard, a station was given the time, and sent some frames; then it was polled at
   -- most, and the turn ended. The frames that left are kept.
   pub record SendsThen (mid : PortState W) (heard new : EndKept) : Type 0 where
     pub now : ℕ
@@ -74,7 +74,7 @@ module _ {W : Type 0} (Steps : W → WireCall → W → Type 0) where
       latest = with_sent Steps some.count _ _ some.sent heard.latest;
     }
 
-  -- A turn ended early, for want of memory, or since the station was cut off. Some of what came was
+  -- A turn ended early, for lack of memory, or since the station was cut off. Some of what came was
   -- taken, and that was all; or some frames left then.
   pub record EndsEarly (link : LinkConfig) (theirs old new : EndKept) : Type 0 where
     pub wire : W
@@ -127,9 +127,9 @@ pub record IsFirst (c : StationConfig) (first : ℕ) (sources files : FileMap) (
   pub is_begun : s.begun ≡ files
   pub inboxes_before : s.inboxes_before ≡ []
 
--- A station starts anew: with any files in its inbox, and with any files to send. Its frames are
--- counted from a number behind those of its frames before, of which at least one is left out, and
--- its puts are numbered from a number on that no put of it had.
+-- A station restarts: with any files in its inbox, and with any files to send. Its frames must be
+-- counted from a number after those of its frames before, with at least one left out, and its puts
+-- must be numbered from a number on that no put of it had.
 pub record StartsAnew (first number : ℕ) (c : StationConfig) (old new : Served) : Type 0 where
   pub valid : IsConfig (numbered_from number c.entity)
   pub sources : FileMap

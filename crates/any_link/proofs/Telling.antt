@@ -1,4 +1,4 @@
--- What a station told its user stays, over all its lives, whatever is done.
+-- What a station indicated to its user stays, over all its lives, whatever is done.
 use Rattle.std.proofs.Common.{◌≡◌, List, [], ◌∷◌, ◌++◌, sym, ap, ap₂, ◌∙◌, append-nil, append_assoc}
 use Rattle.cfdp_header.specs.Files.{FileMap}
 use Rattle.cfdp_directives.specs.declared.user.indication.Indication.{Indication}
@@ -16,7 +16,7 @@ use Rattle.any_order.proofs.Calls.{all_goes, goes_same, served_goes}
 use Rattle.any_order.proofs.Promise.{Laws}
 use Rattle.any_link.proofs.Holding.{Held}
 
--- More was told behind what was.
+-- More was indicated after what was.
 pub record TellsMore (old new : List Indication) : Type 0 where
   pub gained : List Indication
   pub told : new ≡ old ++ gained
@@ -27,7 +27,7 @@ tells_same old new same = record { gained = []; told = same ∙ sym (append-nil 
 pub tells_both : (a b c : List Indication) → TellsMore a b → TellsMore b c → TellsMore a c
 tells_both a b c g h = record { gained = g.gained ++ h.gained; told = h.told ∙ ap (λ l. l ++ h.gained) g.told ∙ append_assoc a g.gained h.gained }
 
--- all that was told, by what is kept
+-- all that was indicated, by what is kept
 abbrev pub told_of : EndKept → List Indication
 told_of k = k.told_before ++ k.station.entity.state.table.told
 

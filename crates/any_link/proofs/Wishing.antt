@@ -1,4 +1,4 @@
--- What a station does for a wish is what is said of it here, where its file is free.
+-- What a station does for a wish is what is said of it here, if its file is free.
 use Rattle.std.proofs.Common.{◌≡◌, ℕ, List, [], Some, slice_get, refl, ap, inl, inr}
 use Rattle.cfdp_header.specs.declared.value.TransactionId.{TransactionId}
 use Rattle.cfdp_header.specs.Files.{FileMap}

@@ -1,5 +1,6 @@
 -- What passes in a turn of a port over a link that delivers frames in any order, any number of
--- times, or not at all, and among them octets of which no packet can come; and what is kept of it.
+-- times, or not at all, and among them octets from which no packet can come; and what is kept of
+-- it.
 use Rattle.std.specs.Prelude.{◌≡◌, ◌⊎◌, ◌<◌, ℕ, zero, suc, List, [], ◌∷◌, Option, Some, None}
 use Rattle.std.specs.Prelude.{slice_index_or, ⊤}
 use Rattle.aos_frame.specs.declared.config.Lane.{Lane}
@@ -20,7 +21,7 @@ use Rattle.any_order.specs.Refusing.{IsNearLast, IsOfNoPacket, MadeIn, number_in
 
 -- ---- what comes
 -- Octets that come are a frame that the other station made, in any of its lives. Its number is near
--- that of the frame of its lane that was taken last, which it is from now on.
+-- the number of the frame of its lane that was taken last, and is the last one from now on.
 pub record IsCopy (octets : List ℕ) (from old new : EndKept) : Type 0 where
   pub frame : SentFrame
   pub life : LifeKept
@@ -47,7 +48,7 @@ with_given (Some lane) frame life = with_frame lane frame life
 with_given None frame life = life
 
 -- ---- what is read
--- These polls read no octets of a file but those that these files have there.
+-- These polls read only octets of a file that these files have there.
 abbrev pub PollsRead : FileMap → (count : ℕ) → (old new : StationState)
     → Times MovesMore count old new → Type 0
 PollsRead files zero old new same = ⊤
@@ -56,7 +57,7 @@ PollsRead files (suc count) old new (mid, before, step) =
     × ReadsAs step.1.0 files mid.entity.state new.entity.state
 
 module _ {W : Type 0} (Steps : W → WireCall → W → Type 0) where
-  -- Nor did those that brought these frames.
+  -- So did the polls that brought these frames.
   abbrev pub FramesRead : FileMap → (count : ℕ) → (old new : PortState W)
       → Times (SendsNext Steps) count old new → Type 0
   FramesRead files zero old new same = ⊤
@@ -65,26 +66,26 @@ module _ {W : Type 0} (Steps : W → WireCall → W → Type 0) where
       × PollsRead files step.pulls.polls.count mid.station step.pulls.polls.last
       step.pulls.polls.moved
 
-  -- Nor did those that brought none, if there were some.
+  -- So did the polls that brought none, if there were some.
   abbrev pub LastRead : FileMap → (count : ℕ) → (last new : PortState W)
       → ((count < 64) × SendsNone Steps last new) ⊎ ((count ≡ 64) × (new ≡ last)) → Type 0
   LastRead files count last new (inl none) = PollsRead files none.1.pulls.polls.count last.station
       none.1.pulls.polls.last none.1.pulls.polls.moved
   LastRead files count last new (inr all) = ⊤
 
-  -- Nor did any that sent what is to leave in a turn.
+  -- So did all polls that sent what must leave in a turn.
   pub record TurnReads (files : FileMap) (old new : PortState W) (some : SendsSome Steps old new)
       : Type 0 where
     pub frames : FramesRead files some.count old some.last some.sent
     pub ends : LastRead files some.count some.last new some.ends
 
-  -- Nor did any that sent some frames, until memory was wanting.
+  -- So did all polls that sent some frames, until memory ran out.
   pub record PartReads (files : FileMap) (old new : PortState W)
       (some : SendsSomeInPart Steps old new) : Type 0 where
     pub frames : FramesRead files some.count old some.last some.sent
     pub ends : PollsRead files some.part.count some.last.station new.station some.part.moved
 
-  -- Nor did any of a turn for which memory was wanting, if it came so far.
+  -- So did all polls of a turn for which memory ran out, if it came so far.
   abbrev pub EndRead : FileMap → (now : ℕ) → (heard : PortState W) → (timed : W)
       → (new : PortState W) → (new ≡ record heard { wire = timed })
       ⊎ ((told : StationState) × TellsTime now heard.station told
@@ -117,7 +118,7 @@ module _ {W : Type 0} (Steps : W → WireCall → W → Type 0) where
       latest = with_sent turn.sends.count _ _ turn.sends.sent heard.latest;
     }
 
-  -- Behind what it heard, a station was told the time, and sent some frames; then it was polled at
+  -- After what it heard, a station was given the time, and sent some frames; then it was polled at
   -- most, and the turn ended. The frames that left are kept, and what was read is as above.
   pub record SendsThen (files : FileMap) (mid : PortState W) (heard new : EndKept) : Type 0 where
     pub now : ℕ
@@ -132,7 +133,7 @@ module _ {W : Type 0} (Steps : W → WireCall → W → Type 0) where
       latest = with_sent some.count _ _ some.sent heard.latest;
     }
 
-  -- A turn ended early, for want of memory, or since the station was cut off. Some of what came was
+  -- A turn ended early, for lack of memory, or since the station was cut off. Some of what came was
   -- taken, and that was all; or some frames left then.
   pub record EndsEarly (link : LinkConfig) (files : FileMap) (theirs old new : EndKept)
       : Type 0 where

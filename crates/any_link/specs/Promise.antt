@@ -26,7 +26,7 @@ use Rattle.any_link.specs.Serving.{InboxLife, Served, Stations, inboxes, kept_se
 abbrev pub own_of : Served → ℕ
 own_of s = s.kept.station.entity.state.config.entity
 
--- all that it told its user, in all its lives, and the transactions that it completed
+-- all that it indicated to its user, in all its lives, and the transactions that it completed
 abbrev pub told_by : Served → List Indication
 told_by s = s.kept.told_before ++ (table_of s.kept.station).told
 
@@ -53,9 +53,9 @@ FollowEachOther first (l ∷ ls) = (l.begun ≡ first) × FollowEachOther l.file
 -- ---- the promise
 -- A history that can be one of a station that is set up so, beside that of the other one: in each
 -- of its lives its frames are made of the PDUs that it put on the link, one after another; what
--- came to it in this life are frames that the other station made, or octets of which no packet can
--- come; what was heard in this life came up of these; and what was heard before, the other station
--- has put on the link.
+-- came to it in this life are frames that the other station made, or octets from which no packet
+-- can come; what was heard in this life came up of these; and what was heard before, the other
+-- station has put on the link.
 pub record CanBe (c t : StationConfig) (mine theirs : End) : Type 0 where
   pub each : (k : ℕ) → k < length (lives mine) → IsLife c.sends c.capacity (life_at (lives mine) k)
   pub sends : DoesAll mine.sent (both_counted_from mine.first (first_down c.sends c.capacity))
@@ -66,11 +66,11 @@ pub record CanBe (c t : StationConfig) (mine theirs : End) : Type 0 where
   pub heard_before : (pdu : List ℕ) → Contains mine.heard_before pdu → HasSent theirs pdu
 
 -- The promise holds of both stations and of all that was done with them. There are histories of
--- both, with what their files to send have, that can be and of which this is kept; there in one
--- life no transaction was finished twice, each put that was completed was heard in full, where a
--- sender was told complete so it is, and what was said of a file is true. In each of its lives an
--- inbox is what it was as the life began, overwritten by the files of the puts that its station
--- completed. So where each life began with what the one before ended with, it is the first one,
+-- both, with what their files to send have, that can be and that this is kept of; there in one life
+-- no transaction was finished twice, each put that was completed was heard in full, if a sender
+-- indicated its put complete, so it is, and what was said of a file is true. In each of its lives
+-- an inbox is what it was as the life began, overwritten by the files of the puts that its station
+-- completed. So if each life began with what the one before ended with, it is the first one,
 -- overwritten by the files of the puts that its station completed, over all its lives, in that
 -- order.
 pub record KeepPromise (c : Setup) (files : Side → FileMap) (w : Stations) : Type 0 where
@@ -90,7 +90,7 @@ pub record KeepPromise (c : Setup) (files : Side → FileMap) (w : Stations) : T
       ≡ inbox_after (found w.puts) (files s) (completed_by (served_at s w))
 
 -- ---- a file that was sent
--- A put of a file under its own name was accepted at a station, which was told that it is complete.
+-- A put of a file under its own name was accepted at a station, which indicated it complete.
 pub record IsSent (s : Side) (name : List ℕ) (put : Put) (w : Stations) : Type 0 where
   pub is_put : found w.puts put.id ≡ Some put
   pub source : put.source ≡ name

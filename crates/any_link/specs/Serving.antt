@@ -1,5 +1,5 @@
--- Two stations in service over such a link, each of which may start anew: what is done at either,
--- one thing after another.
+-- Two stations in service over such a link, each of which may restart: what is done at either, one
+-- thing after another.
 use Rattle.std.specs.FinMap.{get}
 use Rattle.std.specs.Prelude.{◌≡◌, ◌≢◌, ◌⊎◌, ◌<◌, ◌≤◌, ◌+◌, ◌%◌, ℕ, List, [], ◌∷◌, ◌++◌, length, map, slice_get, Some, None, Result, Ok, Err, true, ⊤}
 use Rattle.std.proofs.Common.{inl, inr}
@@ -49,8 +49,8 @@ pub record InboxLife : Type 0 where
   pub files : FileMap
 
 -- What is kept of it; the calls of its user in this life; what the files have that it can send,
--- since each was looked for: as others made them, of which no code sees more than it reads; which
--- files its inbox had as this life began; and the lives before of its inbox.
+-- since each was looked for: as others made them, and no code sees more of them than it reads;
+-- which files its inbox had as this life began; and the lives before of its inbox.
 pub record Served : Type 0 where
   pub kept : EndKept
   pub calls : List UserCall
@@ -70,14 +70,14 @@ inboxes s = s.inboxes_before ++ record {
 abbrev pub kept_sending : FileMap → EndKept → EndKept
 kept_sending files k = record k { station = station_sending files k.station }
 
--- the same, where the station became this one, and these calls of its user were made
+-- the same, if the station became this one, and these calls of its user were made
 abbrev pub served_on : StationState → List UserCall → Served → Served
 served_on station calls s = record s {
   kept = record s.kept { station = station };
   calls = s.calls ++ calls;
 }
 
--- the same, where the files to send have this
+-- the same, if the files to send have this
 abbrev pub with_has : FileMap → Served → Served
 with_has has s = record s { has = has }
 
@@ -139,7 +139,7 @@ IsFree (wishes.Put names) t = IsSent names.source.items t
 IsFree (wishes.Change id request) t = ⊤
 
 -- What the files to send may have once a wish was done: anything that is as long, of the file that
--- was looked for, if none was being sent under its name; and else what they had.
+-- was looked for, if none was being sent under its name; and otherwise what they had.
 abbrev pub MayFind : (wish : Wish) → (reply : Reply) → (old new : StationState)
     → Does wish reply old new → (has now : FileMap) → Type 0
 MayFind (wishes.Put names) (replies.Put answer) old new (inl (looked, looks, puts)) has now =
@@ -191,9 +191,9 @@ pub record IsFirst (c : StationConfig) (first : ℕ) (sources files : FileMap) (
   pub is_begun : s.begun ≡ files
   pub inboxes_before : s.inboxes_before ≡ []
 
--- A station starts anew: with any files in its inbox, and with any files to send, which have
--- anything. Its frames are counted from a number behind those of its frames before, of which at
--- least one is left out, and its puts are numbered from a number on that no put of it had.
+-- A station restarts: with any files in its inbox, and with any files to send, which have anything.
+-- Its frames must be counted from a number after those of its frames before, with at least one left
+-- out, and its puts must be numbered from a number on that no put of it had.
 pub record StartsAnew (first number : ℕ) (c : StationConfig) (old new : Served) : Type 0 where
   pub valid : IsConfig (numbered_from number c.entity)
   pub sources : FileMap
@@ -216,8 +216,8 @@ pub record StartsAnew (first number : ℕ) (c : StationConfig) (old new : Served
 
 -- ---- what is done
 -- What is done at a station: a wish of its user, and how it was answered; a call by which the user
--- wishes and hears nothing; what was indicated is told to the user, and let go; transactions that
--- are over are let go; a turn, whole or not; and a start.
+-- wishes and hears nothing; what was indicated is reported to the user, and discarded; transactions
+-- that are over are released; a turn, whole or not; and a start.
 pub data Deed : Type 0 where
   Wishes : Wish → Reply → Deed
   Says : UserCall → Deed

@@ -41,7 +41,7 @@ use link_stack::what_comes_up_was_put_in_once;
 
 /// What a port does in a turn is calls of its station, as [`any_order`] has them: whole, or ended
 /// early. Each datagram that comes is a frame that the other station made in one of its lives, and
-/// near the one of its lane before it, or octets of which no packet can come; and what is read of
+/// near the one of its lane before it, or octets from which no packet can come; and what is read of
 /// the files that are sent is what these files have. They are calls of the station with what its
 /// files have in the place of what its outbox has.
 pub fn a_turn_is_calls<W: PeerWire>()
@@ -71,7 +71,7 @@ pub fn a_transmission_is_calls()
     an_entity_goes_on();
 }
 
-/// A turn for which memory was wanting is one that ended early.
+/// A turn for which memory ran out is one that ended early.
 pub fn a_turn_in_part_ends_early<W: PeerWire>()
     ensures { (link : LinkConfig) (files : FileMap) (theirs old heard : EndKept) (wire : W)
         (last : PortState W) (turn : TakesInPart W.steps (port_state old.station wire) last)
@@ -82,9 +82,9 @@ pub fn a_turn_in_part_ends_early<W: PeerWire>()
         × (new.station ≡ last.station) }
 {}
 
-/// What a station does for a wish in service is what this crate says of it, where a record is
-/// sending the file that is wished, or none is left that has its name: whatever the file has then
-/// that was looked for, if it is as long as the outbox found it.
+/// What a station does for a wish in service is what this crate says of it, if a record is sending
+/// the file that is wished, or none is left that has its name: whatever the file has then that was
+/// looked for, if it is as long as the outbox found it.
 pub fn what_is_wished_is_fulfilled()
     ensures { (wish : Wish) (reply : Reply) (has now : FileMap) (old new : StationState)
         (does : Does wish reply old new) → IsFree wish (table_of old)
@@ -93,8 +93,8 @@ pub fn what_is_wished_is_fulfilled()
 {}
 
 /// All that a station in service does between two turns is deeds of it, with the very calls of its
-/// user: its wishes are done, what it indicated is told and let go, and so are transactions that
-/// are over, and the user says what it intends.
+/// user: its wishes are done, what it indicated is reported and discarded, transactions that are
+/// over are released, and the user says what it intends.
 pub fn what_is_done_between_turns_is_deeds<W: PeerWire>()
     ensures { (c : Setup) (s : Side) (old : Stations) (calls : List UserCall)
         (now : FileMap) (station : StationState) →
@@ -103,7 +103,7 @@ pub fn what_is_done_between_turns_is_deeds<W: PeerWire>()
         × Leads W.steps c s old (with_has now (served_on station calls (served_at s old))) puts }
 {}
 
-/// Each new station may be what a station becomes at a start, whatever files it has to send and its
+/// Each new station may be what a station becomes at a start, whatever files it sends and its
 /// inbox says that it has, if its numbers are apart from those before: so an inbox over a folder,
 /// which says at a start that it published nothing, meets what is asked of a start.
 pub fn a_new_station_starts_anew()
@@ -120,16 +120,16 @@ pub fn a_new_station_starts_anew()
 {}
 
 /// Two stations in service keep the promise of delivery in whatever order and however often their
-/// frames come, whatever octets come among them of which no packet can come, and whenever either
-/// starts anew: after anything that was done at either, one thing after another.
+/// frames come, whatever octets come among them from which no packet can come, and whenever either
+/// restarts: after anything that was done at either, one thing after another.
 ///
-/// At each station the wishes of any user are done; what the station indicates is told and let go,
-/// and so are transactions that are over; and turns are taken, of which any may end early. A
-/// station may start anew at any time, with any files in its inbox; it counts its frames so that at
-/// least one number is left out, and numbers its puts behind all before. Asked of the link is what
-/// [`any_order::the_promise_holds_in_any_order`] asks; and of the files to send, whatever they
-/// have, that no read showed a change: what is read of a file is what it had when it was looked
-/// for, and none becomes another one as long as a record is left that sent it.
+/// At each station the wishes of any user are done; what the station indicates is reported and
+/// discarded, and transactions that are over are released; and turns are taken, and each may
+/// end early. A station may restart at any time, with any files in its inbox; it must count its
+/// frames so that at least one number is left out, and must number its puts after all before. The
+/// link must be as [`any_order::the_promise_holds_in_any_order`] asks; and no read of the files to
+/// send, whatever they have, may show a change: what is read of a file is what it had when it was
+/// looked for, and none becomes another one as long as a record is left that sent it.
 pub fn stations_keep_the_promise_in_any_order<W: PeerWire>()
     ensures { (c : Setup) (files : Side → FileMap) (now : Stations) → AreJoined c
         → HaveServed W.steps c files now → KeepPromise c files now }
@@ -143,7 +143,7 @@ pub fn stations_keep_the_promise_in_any_order<W: PeerWire>()
 
 /// Whatever is done at two stations in service, every record that is open at either has something
 /// to do, as `IsLively` says, by the policy that it was set up with. So whatever it has open ends
-/// by its limits where it hears nothing from then on: after as many rounds as `records_left` says
+/// by its limits if it receives nothing from then on: after as many rounds as `records_left` says
 /// nothing is open.
 pub fn what_is_open_ends_in_service<W: PeerWire>()
     ensures lively { (c : Setup) (files : Side → FileMap) (now : Stations) → AreJoined c
@@ -169,12 +169,12 @@ pub fn what_is_open_ends_in_service<W: PeerWire>()
     an_entity_alone_ends();
 }
 
-/// What left a spool as sent lies in the inbox of the other station, where a clerk is the user: at
-/// any moment of any life of its station, and at each later one, whatever was lost, repeated or
-/// late, and whichever station started anew. For each file that left there is a put of its own: in
-/// this life it was put under its own name, the put was accepted, and the station was told that it
-/// is complete. So the other station has published it in one of its lives, and under that name had it as this
-/// life ended, or has it now, or a file that was completed later in this life under the same name.
+/// What left a spool as sent lies in the inbox of the other station, if a clerk is the user: at any
+/// moment of any life of its station, and at each later one, whatever was lost, repeated or late,
+/// and whichever station restarted. For each file that left there is a put of its own: in this life
+/// it was put under its own name, the put was accepted, and the station indicated it complete. So
+/// the other station has published it in one of its lives, and under that name had it as this life
+/// ended, or has it now, or a file that was completed later in this life under the same name.
 pub fn what_left_the_spool_lies_in_the_inbox<S: Spool, W: PeerWire>()
     ensures { (c : Setup) (files : Side → FileMap) (mid now : Stations) (more : ℕ) → AreJoined c
         → HaveServed W.steps c files mid → Times (Goes W.steps c) more mid now → (s : Side)

@@ -1,6 +1,6 @@
 //! Two stations in service over a link that delivers their frames in any order, any number of
-//! times, or not at all, and among them other octets; and either of which may start anew: the
-//! promise of delivery, and what it means for the files of a spool.
+//! times, or not at all, and among them other octets; and each of them may restart: the promise
+//! of delivery, and what it means for the files of a spool.
 //!
 //! It has no code: its laws join what a station does in service, turn by turn, to what is promised
 //! over such a link.

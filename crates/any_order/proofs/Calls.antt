@@ -37,7 +37,7 @@ use Rattle.any_order.proofs.Kept.{KeepsLife, Moves, SaysSo}
 use Rattle.any_order.proofs.Link.{receives_behind}
 use Rattle.any_order.proofs.Puts.{finds_by_id, finds_last}
 
--- The laws of an entity, but for those of what it hears.
+-- The laws of an entity, except for those of what it hears.
 pub record EntityLaws : Type 0 where
   pub put : (p : TransactionId → Option user.Put) (heard : List (List ℕ)) (first : FileMap) (source destination : List ℕ) (id : TransactionId) (old new : EntityState) →
       Accepts source destination id old new → p id ≡ Some (next_put source destination old) → IsSound p heard first old → IsSound p heard first new
@@ -124,13 +124,13 @@ down_moves t old theirs new puts puts_then calls added d does up goes says numbe
   kept = λ heard first true_ sound. kept heard first sound;
 }
 
--- the same where the link is as it was, and no put is accepted
+-- the same if the link is as it was, and no put is accepted
 quiet : (t : StationConfig) (old theirs new : End) (puts puts_then : List user.Put) → Does [] [] old new puts puts_then → KeepsLink old.station new.station → GoesOn (entity_of old) (entity_of new) →
     ((heard : List (List ℕ)) (first : FileMap) → IsSound (found puts_then) heard first (entity_of old) → IsSound (found puts_then) heard first (entity_of new)) → Moves t old theirs new puts puts_then
 quiet t old theirs new puts puts_then d link goes kept =
     down_moves t old theirs new puts puts_then [] [] d link.0 link.1 goes (λ p heard first sound lane x c. absurd (none_in x c)) (λ q c. absurd (none_in q c)) kept
 
--- It was made anew.
+-- A new one was made.
 abbrev pub Anew : StationConfig → (old new : End) → (puts puts_then : List user.Put) → Type 0
 Anew c old new puts puts_then = (first : ℕ) × ((number : ℕ) × (StartsAnew first number c old new × (puts_then ≡ puts)))
 

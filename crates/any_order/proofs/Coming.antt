@@ -1,4 +1,4 @@
--- Octets that come to a station, and a station that is made anew.
+-- Octets that come to a station, and a new station that is made.
 use Rattle.std.proofs.Common.{◌≡◌, ◌≢◌, ℕ, zero, suc, ◌+◌, ◌<◌, ◌≤◌, true, Option, Some, None, IfSome, List, [], ◌∷◌, ◌++◌, ◌⊎◌, length, map, slice_index_or, refl, sym, ap, ap₂, subst, ◌∙◌, inl, inr, arith, append-nil, append_assoc}
 use Rattle.std.specs.Prelude.{slice_get, unwrap_or}
 use Rattle.std.proofs.lemmas.List.{map-append}
@@ -143,7 +143,7 @@ makes_copy c life lane place l octets old theirs new puts there low is near same
         at_same Directives = refl
         at_same Data = refl
 
--- octets of which no packet can come
+-- octets from which no packet can come
 pub makes_noise : (c : StationConfig) (octets : List ℕ) (old theirs new : EndKept) (puts : List user.Put) → ((lane : Lane) → IsStray (lane_channel lane c.receives) octets) →
     new ≡ record old { station = new.station } → TakesFrame octets old.station new.station → Makes (Receives (NoiseOf octets) ∷ []) c old theirs new puts puts
 makes_noise c octets old theirs new puts stray same takes = makes_takes c (NoiseOf octets) octets old theirs new puts
@@ -165,7 +165,7 @@ makes_noise c octets old theirs new puts stray same takes = makes_takes c (Noise
           last = λ lane. ap (last_of None) (none lane) ∙ taken.last lane ∙ at_same lane ∙ ap (last_at lane) (sym same);
         }
 
--- ---- made anew
+-- ---- a new station is made
 pub makes_anew : (c : StationConfig) (first number : ℕ) (old theirs new : EndKept) (puts : List user.Put) → IsConfig (numbered_from number c.entity) →
     new.station.entity.state ≡ first_entity old.station.entity.state.table.sources old.station.entity.state.table.files (numbered_from number c.entity) →
     new.station.down ≡ both_counted_from first (first_down c.sends c.capacity) → new.station.up ≡ first_up c.receives →

@@ -32,7 +32,7 @@ pub none_kept : (calls : List DownCall) (k : LifeKept) → MakesNone calls → m
 none_kept calls k (one, two) = ap₂ (λ (a b : List (List ℕ)). record { first = k.first; directives = a; file_data = b })
     (ap (λ l. k.directives ++ l) one ∙ append-nil k.directives) (ap (λ l. k.file_data ++ l) two ∙ append-nil k.file_data)
 
--- ---- a station that goes on, with other calls behind
+-- ---- a station that goes on, with other calls after
 abbrev pub on : StationState → List DownCall → End → End
 on st calls e = record e { station = st; sent = e.sent ++ calls }
 
@@ -160,7 +160,7 @@ taken_grown link k theirs old new grow taken =
       last = λ lane. ap (last_of None) (same lane) ∙ taken.last lane;
     }
 
--- what is kept of a station that was made anew, part by part
+-- what is kept of a new station that was made, part by part
 pub anew_same : (s t : StationState) (a b : List LifeKept) (l m : LifeKept) (o p : List Indication) → s ≡ t → a ≡ b → l ≡ m → o ≡ p → ◌≡◌ {A = EndKept}
     (record { station = s; before = a; latest = l; told_before = o; last_directives = None; last_data = None })
     (record { station = t; before = b; latest = m; told_before = p; last_directives = None; last_data = None })

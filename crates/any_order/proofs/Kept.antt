@@ -28,7 +28,8 @@ use Rattle.any_order.proofs.Lists.{does_append, puts_append, receives_append}
 use Rattle.any_order.proofs.Lives.{Grow, IsLonger, WasPut, apart_last, coming_both, coming_grown, count_lives, each_life, grow_last, life_before, life_last, numbers_grown, octets_grown, put_grown}
 use Rattle.any_order.proofs.Puts.{finds_more}
 
--- A PDU tells the truth of an entity's puts, and that a file was delivered only where it was indicated.
+-- A PDU says the truth of an entity's puts, and says that a file was delivered only if that was
+-- indicated.
 abbrev pub SaysSo : (TransactionId → Option Put) → ℕ → List Indication → List ℕ → Type 0
 SaysSo p own told text = (h : Header) (v : Content) → SpellsPdu h v text → SaysTruth own p h.id v × SaysDelivered own told h.id v
 
@@ -36,7 +37,7 @@ SaysSo p own told text = (h : Header) (v : Content) → SpellsPdu h v text → S
 abbrev pub this_life : End → Life
 this_life e = record { first = e.first; calls = e.sent }
 
--- What holds of its lives before: what was completed and told then was heard.
+-- What holds of its lives before: what was completed and indicated then was heard.
 pub record IsPast (own : ℕ) (puts : List Put) (told : List Indication) (heard : List (List ℕ)) : Type 0 where
   pub caused : (id : TransactionId) → Contains (completions own told) id → (put : Put) × ((found puts id ≡ Some put) × HeardInFull put heard)
   pub was_told : (id : TransactionId) → IsToldComplete own told id → SomePdu (SaysComplete id) heard
@@ -107,7 +108,7 @@ truth_more own p q id (Nak start end pairs) more t = tt
 truth_more own p q id (Prompt keep_alive) more t = tt
 truth_more own p q id (KeepAlive progress) more t = tt
 
--- what was completed is among what was, where more was told
+-- what was completed is among what was, if more was indicated
 abbrev pub TellsAll : ℕ → List Indication → List Indication → Type 0
 TellsAll own old new = (id : TransactionId) → Contains (completions own old) id → Contains (completions own new) id
 
@@ -140,7 +141,7 @@ inbox_same p q first (id ∷ ids) same =
     ap (λ put. inbox_after p (overwritten first put) ids) (same id (0, omega arith, refl))
     ∙ inbox_same p q (overwritten first (q id)) ids (λ other c. same other (suc c.0, (let k = c.0 in let low : k < length ids = c.1 in omega arith), c.2))
 
--- the past stays what it was, where more is put and heard
+-- the past stays what it was, if more is put and heard
 past_more : (own : ℕ) (puts puts_then : List Put) (told : List Indication) (heard more : List (List ℕ)) → FindsMore (found puts) (found puts_then) →
     IsPast own puts told heard → IsPast own puts_then told (heard ++ more)
 past_more own puts puts_then told heard more finds past = record {
@@ -348,7 +349,7 @@ pub record IsKept (c t : StationConfig) (first : FileMap) (puts : List Put) (min
   pub life : KeepsLife c t begun puts mine theirs
   pub inbox : begun ≡ inbox_after (found puts) first (completions c.entity.entity mine.told_before)
 
--- its inbox as this life began was made by the same puts, where more are found
+-- its inbox as this life began was made by the same puts, if more are found
 inbox_more : (c t : StationConfig) (first begun : FileMap) (puts puts_then : List Put) (mine theirs new : End) → FindsMore (found puts) (found puts_then) → KeepsLife c t begun puts mine theirs →
     new.told_before ≡ mine.told_before → begun ≡ inbox_after (found puts) first (completions c.entity.entity mine.told_before) →
     begun ≡ inbox_after (found puts_then) first (completions c.entity.entity new.told_before)

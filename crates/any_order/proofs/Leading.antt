@@ -35,7 +35,7 @@ makes_quiet : (call : Call) (c : StationConfig) (old theirs new : EndKept) (puts
 makes_quiet call c old theirs new puts added calls none same does =
     makes_one call c old theirs new puts added calls (same ∙ ap (λ (k : LifeKept). record old { station = new.station; latest = k }) (sym (none_kept calls old.latest none))) does
 
--- The same where no put is accepted.
+-- The same if no put is accepted.
 makes_still : (call : Call) (c : StationConfig) (old theirs new : EndKept) (puts : List user.Put) (calls : List DownCall) → MakesNone calls → new ≡ record old { station = new.station } →
     ((mine other : End) → mine.station ≡ old.station → DoesCall call c mine other (on new.station calls mine) puts (puts ++ [])) → Makes (call ∷ []) c old theirs new puts puts
 makes_still call c old theirs new puts calls none same does =
@@ -48,7 +48,7 @@ makes_refused c old theirs new puts entity link same = makes_still Refuses c old
     subst (λ (s : StationState). (new.station.entity.state ≡ s.entity.state) × KeepsLink s new.station × Does [] [] mine (on new.station [] mine) puts (puts ++ [])) (sym is)
     (entity, link, on_does new.station [] [] mine puts))
 
--- The same where the station is as it was.
+-- The same if the station is as it was.
 pub makes_unchanged : (c : StationConfig) (old theirs new : EndKept) (puts : List user.Put) → new.station ≡ old.station → new ≡ record old { station = new.station } →
     Makes (Refuses ∷ []) c old theirs new puts puts
 makes_unchanged c old theirs new puts station same =
@@ -110,7 +110,7 @@ makes_fill lane c old theirs new puts flushes others rest same = makes_still (Fi
     (λ (s : StationState). Flushes (lane_down lane s.down) (lane_down lane new.station.down) × (lane_down (other_lane lane) new.station.down ≡ lane_down (other_lane lane) s.down) × KeepsRest s new.station
     × Does (Fill lane ∷ []) [] mine (on new.station (Fill lane ∷ []) mine) puts (puts ++ [])) (sym is) (flushes, others, rest, on_does new.station (Fill lane ∷ []) [] mine puts))
 
--- a poll, and the frames that are given behind it
+-- a poll, and the frames that are given after it
 pub makes_sends : (answer : Polled) (made : List MadeFrame) (c : StationConfig) (old theirs mid new : EndKept) (puts : List user.Put) → IsPolled answer old.station mid.station →
     (answer ≡ Moved → SpellsTurn (turn old.station.entity.state) old.station.entity.state) → mid ≡ record old { station = mid.station } →
     GivesAll made mid.station new.station mid.latest new.latest → new ≡ record mid { station = new.station; latest = new.latest } →
@@ -118,7 +118,7 @@ pub makes_sends : (answer : Polled) (made : List MadeFrame) (c : StationConfig) 
 makes_sends answer made c old theirs mid new puts polls spells same all then =
     makes_both (Polls answer ∷ []) (gives made) c old theirs mid new puts puts puts (makes_poll answer c old theirs mid puts polls spells same) (makes_gives made c mid theirs new puts then all)
 
--- the begun frame of each lane is filled, and frames are given behind it
+-- the begun frame of each lane is filled, and frames are given after it
 pub makes_fills : (made : List MadeFrame) (c : StationConfig) (old theirs one two new : EndKept) (puts : List user.Put) → Flushes (lane_down Directives old.station.down) (lane_down Directives one.station.down) →
     lane_down Data one.station.down ≡ lane_down Data old.station.down → KeepsRest old.station one.station → one ≡ record old { station = one.station } →
     Flushes (lane_down Data one.station.down) (lane_down Data two.station.down) → lane_down Directives two.station.down ≡ lane_down Directives one.station.down → KeepsRest one.station two.station →
@@ -148,7 +148,7 @@ pub makes_config : (calls : List Call) (a b : StationConfig) (old theirs new : E
     Makes calls b old theirs new puts puts_then
 makes_config calls a b old theirs new puts puts_then same makes = subst (λ (k : StationConfig). Makes calls k old theirs new puts puts_then) same makes
 
--- the entity of a station that was made anew
+-- the entity of a new station that was made
 pub entity_anew : (s : EntityState) (a b f h : FileMap) (k c : StationConfig) (n : ℕ) → s ≡ first_entity a f k.entity → a ≡ b → f ≡ h → k ≡ record c { entity = numbered_from n c.entity } →
     s ≡ first_entity b h (numbered_from n c.entity)
 entity_anew s a b f h k c n is one two same = is ∙ ap₂ (λ (x y : FileMap). first_entity x y k.entity) one two ∙ ap (λ (x : StationConfig). first_entity b h x.entity) same

@@ -1,4 +1,4 @@
--- Calls and frames of which more come behind.
+-- Calls and frames that more come after.
 use Rattle.std.proofs.Common.{◌≡◌, ℕ, List, [], ◌∷◌, ◌++◌, refl, sym, ap, subst, ◌∙◌, append_assoc}
 use Rattle.aos_frame.specs.declared.config.Lane.{Lane}
 use Rattle.link_stack.specs.AnyOrder.{ReceivesAll}

@@ -1,4 +1,4 @@
--- Sending ends of which more is done, and more of them.
+-- Sending ends at which more is done, and more of them.
 use Rattle.std.proofs.Common.{◌≡◌, ℕ, zero, suc, ◌+◌, ◌<◌, ◌≤◌, List, [], ◌∷◌, ◌++◌, ◌⊎◌, length, map, slice_index_or, refl, sym, ap, ap₂, subst, ◌∙◌, inl, inr, arith, append-nil, length-append}
 use Rattle.std.specs.Prelude.{Contains}
 use Rattle.std.proofs.lemmas.Bool.{cases_lt}
@@ -11,7 +11,8 @@ use Rattle.link_stack.specs.Lives.{AreApart, AreComingOf, ComingOf, CopyOf, Nois
 use Rattle.cfdp_directives.proofs.Puts.{Contains-append_left}
 use Rattle.any_order.proofs.Lists.{made_append, puts_append}
 
--- More was done with one of them: it has the same numbers, and its calls are those of before and others behind.
+-- More was done with one of them: it has the same numbers, and its calls are those of before and
+-- others after.
 pub record IsLonger (old new : Life) : Type 0 where
   pub first : new.first ≡ old.first
   pub more : List DownCall
@@ -134,7 +135,7 @@ put_grown old new pdu grow was =
 pub apart_one : (last : Life) → AreApart (last ∷ [])
 apart_one last lane j k before low = absurd (omega (arith, before, low))
 
--- a new one begins behind all those before
+-- a new one begins after all those before
 behind_all : (ls : List Life) (lane : Lane) (last new : Life) → AreApart (ls ++ last ∷ []) → last.first + length (made_in lane last) < new.first → (j : ℕ) → j < length (ls ++ last ∷ []) →
     (life_at (ls ++ last ∷ []) j).first + length (made_in lane (life_at (ls ++ last ∷ []) j)) < new.first
 behind_all ls lane last new apart behind j low = each_life

@@ -49,6 +49,6 @@ gives_more [] m old mid new k l n (same, none) one kept =
 gives_more (first ∷ made) m old mid new k l n (after, is, rest) one kept =
     (after, is, gives_more made m after mid new (with_frame first.lane first.octets k) l n rest one kept)
 
--- what is told of one more
+-- what is said of one more
 pub told_more : {X : Type 0} {A : Type 0} (f : X → List A) (xs : List X) (x : X) → flat_map f (xs ++ x ∷ []) ≡ flat_map f xs ++ f x
 told_more f xs x = flat_map-append f xs (x ∷ []) ∙ ap (λ l. flat_map f xs ++ l) (append-nil (f x))

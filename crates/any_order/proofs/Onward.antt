@@ -18,7 +18,7 @@ use Rattle.any_order.specs.World.{Happened, KeepsPromise, WorldKept, calls_at, k
 use Rattle.any_order.proofs.Calls.{EntityLaws, all_goes, served_goes}
 use Rattle.any_order.proofs.Coming.{kept_lives}
 
--- It goes on in its life, and no indication is let go.
+-- It goes on in its life, and no indication is discarded.
 record EndGoes (old new : End) : Type 0 where
   before : new.lives_before ≡ old.lives_before
   told : new.told_before ≡ old.told_before

@@ -136,7 +136,7 @@ new_kept laws c t count sources files puts mine theirs valid link is none = reco
 }
 
 -- ---- a start
--- A station was made anew, as `StartsAnew` has it, but with any files to send and in its inbox.
+-- A new station was made, as `StartsAnew` has it, but with any files to send and in its inbox.
 pub record BeginsWith (first number : ℕ) (sources files : FileMap) (c : StationConfig) (old new : End) : Type 0 where
   pub valid : IsConfig (numbered_from number c.entity)
   pub entity : entity_of new ≡ first_entity sources files (numbered_from number c.entity)

@@ -1,4 +1,4 @@
--- Puts that are found by their ids, of which more are accepted.
+-- Puts that are found by their ids, as more are accepted.
 use Rattle.std.proofs.Common.{◌≡◌, ◌≢◌, ℕ, zero, suc, ◌+◌, ◌<◌, Bool, true, false, Option, Some, None, List, [], ◌∷◌, ◌++◌, ◌⊎◌, length, refl, sym, ap, subst, ◌∙◌, inl, inr, arith}
 use Rattle.std.specs.Prelude.{Contains, if◌then◌else◌, unwrap_or}
 use Rattle.cfdp_header.specs.declared.value.TransactionId.{TransactionId}
@@ -27,7 +27,7 @@ pub finds_by_id : (puts : List Put) → FindsById (found puts)
 finds_by_id [] id put e = absurd cc
 finds_by_id (p ∷ puts) id put e = by_id p put id (same_id p.id id) (found puts id) refl (finds_by_id puts id put) e
 
--- one that isn't there yet is the last one, once it is put behind them
+-- one that isn't there yet is the last one, once it is put after them
 pub finds_last : (puts : List Put) (p : Put) → ((q : Put) → Contains puts q → same_id q.id p.id ≡ false) → found (puts ++ p ∷ []) p.id ≡ Some p
 finds_last [] p none = rw (same_id-itself p.id) refl
 finds_last (q ∷ puts) p none =

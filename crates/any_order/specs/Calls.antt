@@ -1,6 +1,6 @@
--- Two stations, either of which may start anew, and a link that delivers their frames in any order
--- and any number of times, or not at all, and among them other octets of which no packet can come,
--- as damaged frames are.
+-- Two stations, either of which may restart, and a link that delivers their frames in any order and
+-- any number of times, or not at all, and among them other octets from which no packet can come,
+-- such as damaged frames.
 use Rattle.std.specs.Prelude.{◌≡◌, ◌+◌, ◌<◌, ◌≤◌, ◌^◌, ℕ, None, List, [], ◌∷◌, ◌++◌, length}
 use Rattle.aos_frame.specs.Frame.{other_lane}
 use Rattle.aos_frame.specs.declared.config.Lane.{Lane}
@@ -93,7 +93,7 @@ sent_by Nothing e = []
 sent_by Full e = []
 sent_by SourceFailed e = []
 
--- It didn't start anew: it goes on.
+-- It didn't restart: it goes on.
 pub record IsOneLife (old new : End) : Type 0 where
   pub first : new.first ≡ old.first
   pub lives_before : new.lives_before ≡ old.lives_before
@@ -113,9 +113,9 @@ pub record Does (calls : List DownCall) (added : List user.Put) (old new : End)
 abbrev pub numbered_from : ℕ → EntityConfig → EntityConfig
 numbered_from number c = record c { first_number = number }
 
--- A station was made anew, with the files that it can send and those of its inbox. Its frames are
--- counted from a number behind those of its frames before, of which at least one is left out; and
--- its puts are numbered from a number on that no put of it had.
+-- A new station was made, with the files that it can send and those of its inbox. Its frames are
+-- counted from a number after those of its frames before, with at least one left out; and its puts
+-- are numbered from a number on that no put of it had.
 pub record StartsAnew (first number : ℕ) (c : StationConfig) (old new : End) : Type 0 where
   pub valid : IsConfig (numbered_from number c.entity)
   pub entity : entity_of new ≡ first_entity (entity_of old).table.sources

@@ -40,8 +40,8 @@ kept_of life = record {
 }
 
 -- ---- one station
--- The station; the frames of its lives before, and those of this one; what it told its user in the
--- lives before; and of each lane the number of the frame that it took last in this life.
+-- The station; the frames of its lives before, and those of this one; what it indicated to its user
+-- in the lives before; and of each lane the number of the frame that it took last in this life.
 pub record EndKept : Type 0 where
   pub station : StationState
   pub before : List LifeKept
@@ -66,7 +66,7 @@ with_last Data number k = record k { last_data = Some number }
 abbrev pub present : End → Life
 present e = record { first = e.first; calls = e.sent }
 
--- the last of these numbers, of which `before` came before them
+-- the last of these numbers, which came after `before`
 abbrev pub last_of : (before : Option ℕ) → List ℕ → Option ℕ
 last_of before [] = before
 last_of before (n ∷ ns) = last_of (Some n) ns
@@ -78,7 +78,7 @@ pub record IsOf (k : EndKept) (e : End) : Type 0 where
   pub latest : kept_of (present e) ≡ k.latest
   pub told : e.told_before ≡ k.told_before
 
--- All that came to it in this life were frames of the other station, or octets of which no packet
+-- All that came to it in this life were frames of the other station, or octets from which no packet
 -- can come; each frame was near the one of its lane before it, and the last number is kept.
 pub record HasTaken (link : LinkConfig) (k : EndKept) (mine theirs : End) : Type 0 where
   pub coming : AreComingOf link (lives theirs) mine.came

@@ -13,11 +13,11 @@ abbrev pub AreNoStarts : List Call → Type 0
 AreNoStarts [] = Unit {0}
 AreNoStarts (call ∷ calls) = IsNoStart call × AreNoStarts calls
 
--- how many of the indications of this life were let go
+-- how many of the indications of this life were discarded
 abbrev pub let_go_at : EndKept → ℕ
 let_go_at k = k.station.entity.state.table.gone
 
--- It goes on in its life: what is kept of the lives before stays, and no indication is let go.
+-- It goes on in its life: what is kept of the lives before stays, and no indication is discarded.
 pub record GoesOn (old new : EndKept) : Type 0 where
   pub before : new.before ≡ old.before
   pub told_before : new.told_before ≡ old.told_before

@@ -41,7 +41,7 @@ abbrev pub HasSent : End → List ℕ → Type 0
 HasSent e pdu = (k : ℕ) × ((k < length (lives e))
     × ((lane : Lane) × Contains (puts_of lane (life_at (lives e) k).calls) pdu))
 
--- Where a sender was told complete, it heard so, and the other station has completed the put.
+-- If a sender indicated its put complete, it heard so, and the other station has completed it.
 pub record IsTold (mine theirs : End) (id : TransactionId) : Type 0 where
   pub heard : SomePdu (SaysComplete id) (heard_ever mine)
   pub completed : Contains (completed theirs) id
@@ -51,7 +51,7 @@ abbrev pub CausedAt : Side → Pair → Type 0
 CausedAt s w = (id : TransactionId) → Contains (completed (at s w)) id →
     (put : Put) × ((found w.puts id ≡ Some put) × HeardInFull put (heard_ever (at s w)))
 
--- Where it was told complete as a sender, so it is.
+-- If it indicated complete as a sender, so it is.
 abbrev pub ToldAt : Side → Pair → Type 0
 ToldAt s w = (id : TransactionId) → IsToldComplete (own (at s w)) (told_ever (at s w)) id →
     IsTold (at s w) (at (other s) w) id
@@ -64,7 +64,7 @@ TruthAt s w = (text : List ℕ) → HasSent (at s w) text → (h : Header) (v : 
 -- What holds of a station whose inbox had these files at first: its inbox is those, overwritten in
 -- order of the complete indications there, over all its lives, by the files of the puts that they
 -- name; in one life no transaction was finished twice; each put that was completed was heard in
--- full; where a sender was told complete, so it is; and what was said of a file is true.
+-- full; if a sender indicated its put complete, so it is; and what was said of a file is true.
 pub record HoldsAt (s : Side) (first : FileMap) (w : Pair) : Type 0 where
   pub inbox : (entity_of (at s w)).table.files
       ≡ inbox_after (found w.puts) first (completed (at s w))

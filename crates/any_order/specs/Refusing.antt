@@ -1,4 +1,4 @@
--- When a station over such a link refuses a call, is lent no frame or octets, and can't start anew.
+-- When a station over such a link refuses a call, takes no frame or octets, and can't restart.
 use Rattle.std.specs.Prelude.{◌≡◌, ◌≢◌, ◌⊎◌, ◌+◌, ◌<◌, ◌≤◌, ◌^◌, ℕ, List, Option, Some, None, length}
 use Rattle.std.specs.Prelude.{Bool, true, false, Result, Ok, Err, IfSome, IsSomeAnd, slice_get}
 use Rattle.std.specs.Prelude.{max}
@@ -39,12 +39,12 @@ abbrev pub RefusesRequest : RequestError → Request → TransactionId → EndKe
 RefusesRequest by request id k =
     IsRefusal (request_refusal request id k.station.entity.state.table) by
 
--- Memory can only be wanting for the time where a timer's deadline has come.
+-- Memory can only run out for the time if a timer's deadline has come.
 abbrev pub HasDue : (now : ℕ) → EndKept → Type 0
 HasDue now k = 1 ≤ due_count k.station.entity.state.table.armed
     (max k.station.entity.state.table.now now)
 
--- ---- a frame that is to be delivered
+-- ---- a frame that a call should deliver
 -- The station has no such life, or made fewer frames of the lane in it.
 abbrev pub HasNoFrame : SentFrame → EndKept → Type 0
 HasNoFrame f k = (length k.before < f.life)
@@ -59,23 +59,23 @@ MadeIn f l k = (slice_get (all_kept k) f.life ≡ Some l) × (f.place < length (
 abbrev pub number_in : SentFrame → LifeKept → ℕ
 number_in f l = l.first + f.place
 
--- Such a number is so near the one before it that the counts of 28 bits tell both apart.
+-- Such a number is so near the one before it that the counts of 28 bits distinguish both.
 abbrev pub IsNearLast : (last : Option ℕ) → ℕ → Type 0
 IsNearLast last number = IfSome last (λ before. IsWithinCounts true before number)
 
--- There is one before it, from which it is too far: more than 2^28 in front of it, or 2^28 - 1 or
--- more behind it.
+-- There is one before it that it is too far from: it is greater by more than 2^28, or smaller by
+-- 2^28 - 1 or more.
 abbrev pub IsFarFromLast : (last : Option ℕ) → ℕ → Type 0
 IsFarFromLast last number = IsSomeAnd last (λ before. (before + 2 ^ 28 < number)
     ⊎ (number + 2 ^ 28 ≤ before + 1))
 
--- One station made it, and its number is near that of the frame of the lane that the other one took
--- last.
+-- One station made it, and its number is near the number of the frame of the lane that the other
+-- one took last.
 abbrev pub MayCome : SentFrame → (from to : EndKept) → Type 0
 MayCome f from to = (l : LifeKept) × MadeIn f l from
     × IsNearLast (last_at f.lane to) (number_in f l)
 
--- One station made it, and its number is too far from that, or is none of eight octets.
+-- One station made it, and its number is too far from that, or doesn't fit in eight octets.
 abbrev pub IsTooFar : SentFrame → (from to : EndKept) → Type 0
 IsTooFar f from to = (l : LifeKept) × MadeIn f l from
     × ((2 ^ 64 ≤ number_in f l) ⊎ IsFarFromLast (last_at f.lane to) (number_in f l))
@@ -85,7 +85,7 @@ IsTooFar f from to = (l : LifeKept) × MadeIn f l from
 abbrev pub IsOfNoPacket : LinkConfig → List ℕ → Type 0
 IsOfNoPacket link octets = (lane : Lane) → IsStray (lane_channel lane link) octets
 
--- They are a frame of this lane, of which the pointer doesn't say that it has idle data only.
+-- They are a frame of this lane, and its pointer doesn't say that it has idle data only.
 abbrev pub IsNoStray : ChannelConfig → List ℕ → Type 0
 IsNoStray channel octets = (frame_fault octets channel ≡ None)
     × (pointer_of (mpdu_in channel octets) ≢ 2046)
@@ -95,23 +95,23 @@ abbrev pub BringsPacket : LinkConfig → List ℕ → Type 0
 BringsPacket link octets = (lane : Lane) × IsNoStray (lane_channel lane link) octets
 
 -- ---- a start
--- The next put of the station has a number behind this one.
+-- The next put of the station has a number after this one.
 abbrev pub IsUsedNumber : ℕ → EndKept → Type 0
 IsUsedNumber number k = number < k.station.entity.state.next
 
--- The next frame of a lane in this life has this number or one behind it, so that none would be
--- left out.
+-- The next frame of a lane in this life has this number or one after it, so that none would be left
+-- out.
 abbrev pub IsUsedFrame : ℕ → LifeKept → Type 0
 IsUsedFrame first l = (first ≤ l.first + length l.directives)
     ⊎ (first ≤ l.first + length l.file_data)
 
--- Neither.
+-- Neither holds.
 abbrev pub CanStart : (first number : ℕ) → EndKept → Type 0
 CanStart first number k = (k.station.entity.state.next ≤ number)
     × (k.latest.first + length k.latest.directives < first)
     × (k.latest.first + length k.latest.file_data < first)
 
--- ---- when each answer comes; where it refuses, this is as it was
+-- ---- when each answer comes; if it refuses, this is as it was
 -- a frame that one station made, for the other one
 abbrev pub AnswersFrame : Delivered → SentFrame → (from to : EndKept) → (unchanged : Type 0)
     → Type 0

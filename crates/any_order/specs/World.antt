@@ -87,8 +87,8 @@ abbrev pub tick_calls : ℕ → Result (Unit {0}) AllocError → List Call
 tick_calls now (Ok done) = Tells now ∷ []
 tick_calls now (Err error) = Refuses ∷ []
 
--- A poll, and then the frames that are whole. Where there was no memory, none was polled, or not
--- all of these frames were given.
+-- A poll, and then the frames that are whole. If there was no memory, none was polled, or not all
+-- of these frames were given.
 abbrev pub ArePollCalls : Result Polled AllocError → List Call → Type 0
 ArePollCalls (Ok answer) calls = (made : List MadeFrame) × (calls ≡ Polls answer ∷ gives made)
 ArePollCalls (Err error) calls = (calls ≡ Refuses ∷ [])

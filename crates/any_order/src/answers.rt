@@ -2,7 +2,7 @@
 use aos_frame::Lane;
 
 /// A frame that a station made: in which of its lives, from 0 on, in which lane, and at which place
-/// of those of that life and lane, from 0 on.
+/// among the frames of that life and lane, from 0 on.
 #[derive(Clone, Copy, Debug, PartialEq, Eq)]
 pub struct SentFrame {
     pub life: usize,
@@ -10,22 +10,23 @@ pub struct SentFrame {
     pub place: usize,
 }
 
-/// What became of a frame that was to reach a station.
+/// What became of a frame that a call should deliver.
 #[derive(Clone, Copy, Debug, PartialEq, Eq)]
 pub enum Delivered {
     /// The station took it.
     Taken,
     /// The other station made no such frame.
     NoSuchFrame,
-    /// It is too far from the frame of its lane that the station took last: more than 2^28 frames
-    /// in front of it, or 2^28 - 1 or more behind it, so that the counts would not tell it apart.
+    /// It is too far from the frame of its lane that the station took last: its number is greater
+    /// by more than 2^28, or smaller by 2^28 - 1 or more, so that the counts would not distinguish
+    /// it.
     TooFar,
 }
 
-/// What became of a station that was to start anew.
+/// What became of a station that a call should restart.
 #[derive(Clone, Copy, Debug, PartialEq, Eq)]
 pub enum Restarted {
-    /// It started anew.
+    /// It restarted.
     Done,
     /// A put of it had this number, or a later one.
     NumberUsed,

@@ -79,14 +79,14 @@ impl<O: SteadyOutbox, I: Inbox> Model for OneEnd<O, I> {
 }
 
 impl<O: SteadyOutbox, I: Inbox> OneEnd<O, I> {
-    /// The station, lent.
+    /// Returns the station, borrowed.
     pub(crate) fn station(&self) -> &Station<O, I>
         ensures { result.now ≡ self.now.station }
     {
         &self.station
     }
 
-    /// The frames of one of its lives, from 0 on; `None` where there are fewer.
+    /// Returns the frames of one of its lives, from 0 on, or `None` if there are fewer.
     pub(crate) fn life(&self, life: usize) -> Option<&LifeFrames>
         ensures { MatchOption result (length self.now.before < life)
             (λ l. slice_get (all_kept self.now) life ≡ Some l.now) }
@@ -97,7 +97,7 @@ impl<O: SteadyOutbox, I: Inbox> OneEnd<O, I> {
         self.before.get(life)
     }
 
-    /// The number of its lives before this one.
+    /// Returns the number of its lives before this one.
     pub(crate) fn lives_before(&self) -> usize
         ensures { result ≡ length self.now.before }
     {
@@ -137,7 +137,7 @@ impl<O: SteadyOutbox, I: Inbox> OneEnd<O, I> {
         self.station.request(id, request)
     }
 
-    /// Tells it the time.
+    /// Gives it the time.
     pub(crate) fn tick(&mut self, now: u64) -> Result<(), AllocError>
         ensures makes { (c : StationConfig) (theirs : EndKept) (puts : List Put) →
             Makes (tick_calls now result) c self.old theirs self.new puts puts }
@@ -176,7 +176,7 @@ impl<O: SteadyOutbox, I: Inbox> OneEnd<O, I> {
     ///
     /// # Errors
     ///
-    /// `AllocError` where there was no memory for one: that and those behind it wait on.
+    /// `AllocError` if there was no memory for one: that and those after it wait on.
     fn take_off(&mut self, alloc: Global) -> Result<(), AllocError>
         ensures gives { (made : List MadeFrame)
             × GivesAll made self.old.station self.new.station self.old.latest self.new.latest }
@@ -211,8 +211,9 @@ impl<O: SteadyOutbox, I: Inbox> OneEnd<O, I> {
         self.take_off(alloc)
     }
 
-    /// Whether a frame with this number may come in a lane: where one of the lane came before in
-    /// this life, it is at most 2^28 in front of that, and less than 2^28 - 1 behind it.
+    /// Returns `true` if a frame with this number may come in a lane: if one of the lane came
+    /// before in this life, this number must be greater by at most 2^28, or smaller by less than
+    /// 2^28 - 1.
     pub(crate) fn is_near(&self, lane: Lane, number: u64) -> bool
         ensures near { result ≡ true → IsNearLast (last_at lane self.now) number }
         ensures far { result ≡ false → IsFarFromLast (last_at lane self.now) number }
@@ -253,7 +254,8 @@ impl<O: SteadyOutbox, I: Inbox> OneEnd<O, I> {
     }
 }
 
-/// A station without transactions, over these stores, whose frames are counted from this number on.
+/// Returns a station without transactions, over these stores, whose frames are counted from this
+/// number on.
 pub(crate) fn made_anew<O: SteadyOutbox, I: Inbox>(
     alloc: Global,
     config: Valid<StationConfig>,
@@ -272,7 +274,7 @@ pub(crate) fn made_anew<O: SteadyOutbox, I: Inbox>(
     Ok(station)
 }
 
-/// Puts the frames of a life behind those before, and begins others.
+/// Puts the frames of a life after those before, and begins others.
 fn close(
     before: &mut Vec<LifeFrames>,
     latest: &mut LifeFrames,
@@ -302,7 +304,7 @@ fn note_end<O: SteadyOutbox, I: Inbox>(
 }
 
 impl<O: SteadyOutbox, I: Inbox> OneEnd<O, I> {
-    /// One at which nothing was done yet.
+    /// Makes one at which nothing was done yet.
     pub(crate) fn new(
         alloc: Global,
         config: Valid<StationConfig>,
@@ -324,7 +326,7 @@ impl<O: SteadyOutbox, I: Inbox> OneEnd<O, I> {
         })
     }
 
-    /// Whether no put of it had this number, or a later one.
+    /// Returns `true` if no put of it had this number, or a later one.
     pub(crate) fn is_unused(&self, number: u64) -> bool
         ensures { result ≡ true ↔ self.now.station.entity.state.next ≤ number }
     {
@@ -334,7 +336,7 @@ impl<O: SteadyOutbox, I: Inbox> OneEnd<O, I> {
         }
     }
 
-    /// Whether this number is behind that of the next frame of each lane.
+    /// Returns `true` if this number is after the number of the next frame of each lane.
     pub(crate) fn ends_before(&self, number: u32) -> bool
         ensures directives { result ≡ true → self.now.latest.first
             + length self.now.latest.directives < number }
@@ -345,8 +347,8 @@ impl<O: SteadyOutbox, I: Inbox> OneEnd<O, I> {
         self.latest.ends_before(number)
     }
 
-    /// Goes on as another station, that was made anew: its puts are numbered from this number on,
-    /// and its frames from that one.
+    /// Goes on as another station, which is new: its puts are numbered from this number on, and its
+    /// frames from that one.
     pub(crate) fn restart(
         &mut self,
         alloc: Global,

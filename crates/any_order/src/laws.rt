@@ -12,20 +12,20 @@ use cfdp_entity::{an_entity_goes_on, an_entity_keeps_the_truth, an_entity_sends_
 use link_stack::what_comes_up_was_put_in_once;
 
 /// What is promised of the delivery of files holds in whatever order and however often the frames
-/// of a lane come, whatever octets come among them of which no packet can come, and whenever either
-/// station starts anew.
+/// of a lane come, whatever octets come among them from which no packet can come, and whenever
+/// either station restarts.
 ///
 /// Two stations are new, and set up to send to each other. Any calls are made at both. What a
 /// station receives is a copy of a frame that the other one gave, any of its frames; or octets that
-/// are no frame of the link, as a damaged frame is where there is frame error control, or a frame
-/// of idle data. Of two copies of a lane, of which the one is received right behind the other, the
-/// second is at most 2^28 frames in front of the first, and less than 2^28 - 1 behind it. A station
-/// that starts anew keeps the files of its inbox and those that it can send, and nothing else; it
-/// numbers its puts from a number on that it never used, and its frames so that at least one number
-/// is left out. Then for each station: its inbox is the first files, overwritten by those of the
-/// puts that it indicated complete, in that order, over all its lives; in one life no transaction
-/// was finished twice; each of those puts was heard in full; where a sender was told complete, the
-/// other station has completed the put, in some life; and what either says of a file is true.
+/// are no frame of the link, as a damaged frame is if there is frame error control, or a frame of
+/// idle data. Of two copies of a lane, one received right after the other, the number of the second
+/// must be greater by at most 2^28, or smaller by less than 2^28 - 1. A station that restarts keeps
+/// the files of its inbox and those that it can send, and nothing else; it must number its puts
+/// from a number on that it never used, and its frames so that at least one number is left out.
+/// Then for each station: its inbox is the first files, overwritten by those of the puts that it
+/// indicated complete, in that order, over all its lives; in one life no transaction was finished
+/// twice; each of those puts was heard in full; if a sender indicated its put complete, the other
+/// station has completed it, in some life; and what either says of a file is true.
 pub fn the_promise_holds_in_any_order()
     ensures { (c : Setup) (counts : Side → ℕ) (sources files : Side → FileMap)
         (events : List Event) (start now : Pair) → AreJoined c →
@@ -50,8 +50,8 @@ pub fn the_files_to_send_stay()
     an_entity_sends_the_truth();
 }
 
-/// What was told and sent in the lives before stays, and no indication is let go, whatever is
-/// called: a start makes the life that a station had the last of those before.
+/// What was indicated and sent in the lives before stays, and no indication is discarded, whatever
+/// is called: a start makes the life that a station had the last of those before.
 pub fn lives_stay()
     ensures calls { (side : Side) (calls : List Call) (old new : WorldKept) → KeepsPromise old →
         Happened side calls old new → AreNoStarts calls →

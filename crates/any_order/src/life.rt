@@ -35,7 +35,7 @@ impl Model for LifeFrames {
     } };
 }
 
-/// Makes the whole frame that leaves a station next, in this lane, and puts it behind these.
+/// Makes the whole frame that leaves a station next, in this lane, and puts it after these.
 fn take_into<O: Outbox, I: Inbox>(
     alloc: Global,
     station: &mut Station<O, I>,
@@ -56,7 +56,7 @@ fn take_into<O: Outbox, I: Inbox>(
 }
 
 impl LifeFrames {
-    /// A life in which no frame was made yet. Its frames are numbered from this number on.
+    /// Makes a life in which no frame was made yet. Its frames are numbered from this number on.
     pub(crate) fn new(alloc: Global, first: u32) -> Self
         ensures { result ≡ record { first = first; directives = []; file_data = [] } }
     {
@@ -67,7 +67,7 @@ impl LifeFrames {
         }
     }
 
-    /// The frame at a place of those made of a lane, from 0 on; `None` where there is none.
+    /// Returns the frame at a place of those made of a lane, from 0 on, or `None` if there is none.
     pub fn frame(&self, lane: Lane, place: usize) -> Option<&[u8]>
         ensures { MatchOption result (length (frames_in lane self.now) ≤ place)
             (λ f. (place < length (frames_in lane self.now))
@@ -83,8 +83,8 @@ impl LifeFrames {
         }
     }
 
-    /// The number of the frame at a place of either lane: as many behind that of the first one.
-    /// `None` where that is no `u64`.
+    /// Returns the number of the frame at a place of either lane: as many after the number of the
+    /// first one. Returns `None` if that is no `u64`.
     pub fn number(&self, place: usize) -> Option<u64>
         ensures { MatchOption result (2 ^ 64 ≤ self.now.first + place)
             (λ n. n ≡ self.now.first + place) }
@@ -92,7 +92,7 @@ impl LifeFrames {
         u64::from(self.first).checked_add(place as u64)
     }
 
-    /// How many frames were made of a lane.
+    /// Returns how many frames were made of a lane.
     pub fn count(&self, lane: Lane) -> usize
         ensures { result ≡ length (frames_in lane self.now) }
     {
@@ -102,7 +102,7 @@ impl LifeFrames {
         }
     }
 
-    /// Whether this number is behind that of the next frame of each lane.
+    /// Returns `true` if this number is after the number of the next frame of each lane.
     pub(crate) fn ends_before(&self, number: u32) -> bool
         ensures directives { result ≡ true → self.now.first + length self.now.directives < number }
         ensures file_data { result ≡ true → self.now.first + length self.now.file_data < number }
@@ -115,7 +115,8 @@ impl LifeFrames {
             && self.file_data.len() < number - first
     }
 
-    /// Takes the whole frame off a station that leaves next, and keeps it: whether there was one.
+    /// Takes the whole frame off a station that leaves next, and keeps it: returns whether there
+    /// was one.
     fn take_next<O: Outbox, I: Inbox>(
         &mut self,
         alloc: Global,
@@ -146,7 +147,7 @@ impl LifeFrames {
     ///
     /// # Errors
     ///
-    /// `AllocError` where there was no memory for one: that and those behind it wait on.
+    /// `AllocError` if there was no memory for one: that and those after it wait on.
     pub(crate) fn take_all<O: Outbox, I: Inbox>(
         &mut self,
         alloc: Global,

@@ -27,12 +27,12 @@ use valid_config::Valid;
 
 /// Two stations of CFDP, class 2, and all frames that each of them ever made, over a link that may
 /// deliver any of these, in any order, any number of times or never, and among them other octets;
-/// and either station may start anew.
+/// and either station may restart.
 ///
 /// Whatever calls are made, the promise holds: each inbox is the first one, overwritten by the
 /// files of the puts that its station indicated complete, over all its lives, in that order. In one
 /// life no transaction is indicated finished twice; a put that is completed was heard in full; a
-/// sender is told complete only of a put that the other station completed; and what a station says
+/// sender indicates a put complete only if the other station completed it; and what a station says
 /// of a file is true.
 ///
 /// Clauses see what is kept of both stations. The contract of a call says which calls of the
@@ -72,12 +72,12 @@ impl<O: SteadyOutbox, I: Inbox> UnorderedWorld<O, I> {
         drop(self);
     }
 
-    /// Two stations at which nothing was done yet, over these stores, those of the first station
-    /// first. The frames of both are numbered from 0 on.
+    /// Makes two stations at which nothing was done yet, over these stores, the first station's
+    /// stores first. The frames of both are numbered from 0 on.
     ///
     /// # Errors
     ///
-    /// `AllocError` only where the memory for a station was refused.
+    /// `AllocError` only if the memory for a station was refused.
     pub fn new(
         alloc: Global,
         config: Valid<WorldConfig>,
@@ -98,8 +98,8 @@ impl<O: SteadyOutbox, I: Inbox> UnorderedWorld<O, I> {
     ///
     /// # Errors
     ///
-    /// The station's, as `Station::put` tells them, and `NoMemory` too where there was no memory to
-    /// keep the names. No put was accepted then.
+    /// The errors of `Station::put`, and `NoMemory` also if there was no memory to keep the names.
+    /// No put was accepted then.
     pub fn put(
         &mut self,
         side: Side,
@@ -118,7 +118,7 @@ impl<O: SteadyOutbox, I: Inbox> UnorderedWorld<O, I> {
     ///
     /// # Errors
     ///
-    /// The station's, as `Station::request` tells them; nothing changed then.
+    /// The errors of `Station::request`; nothing changed then.
     pub fn request(
         &mut self,
         side: Side,
@@ -133,7 +133,7 @@ impl<O: SteadyOutbox, I: Inbox> UnorderedWorld<O, I> {
         self.ends.request(side, id, request)
     }
 
-    /// Tells a station the time.
+    /// Gives a station the time.
     ///
     /// # Errors
     ///
@@ -149,8 +149,8 @@ impl<O: SteadyOutbox, I: Inbox> UnorderedWorld<O, I> {
     ///
     /// # Errors
     ///
-    /// `AllocError` where a poll found no memory, and nothing changed; or where there was none for
-    /// a frame. Then that frame and those behind it wait on, until the next poll or flush.
+    /// `AllocError` if a poll found no memory, and nothing changed; or if there was none for a
+    /// frame. Then that frame and those after it wait on, until the next poll or flush.
     pub fn poll(&mut self, side: Side) -> Result<Polled, AllocError>
         ensures happened { (calls : List Call) × ArePollCalls result calls
             × Happened (side_of side) calls self.old self.new }
@@ -164,7 +164,7 @@ impl<O: SteadyOutbox, I: Inbox> UnorderedWorld<O, I> {
     ///
     /// # Errors
     ///
-    /// `AllocError` where there was no memory for a frame: that and those behind it wait on.
+    /// `AllocError` if there was no memory for a frame: that and those after it wait on.
     pub fn flush(&mut self, side: Side) -> Result<(), AllocError>
         ensures happened { (calls : List Call) × AreFlushCalls calls
             × Happened (side_of side) calls self.old self.new }
@@ -174,8 +174,8 @@ impl<O: SteadyOutbox, I: Inbox> UnorderedWorld<O, I> {
         self.ends.flush(side)
     }
 
-    /// A frame that this station made, in any of its lives, reaches the other one: whether it was
-    /// delivered before or not, and whatever was delivered before it. Where the answer isn't
+    /// Delivers a frame that this station made, in any of its lives, to the other one: whether it
+    /// was delivered before or not, and whatever was delivered before it. If the answer isn't
     /// `Taken`, nothing changed.
     pub fn deliver(&mut self, side: Side, which: SentFrame) -> Delivered
         ensures happened { Happened (other (side_of side)) (deliver_calls which result) self.old
@@ -186,9 +186,9 @@ impl<O: SteadyOutbox, I: Inbox> UnorderedWorld<O, I> {
         self.ends.deliver(side, which)
     }
 
-    /// Octets come to the other station over this one's link, as a damaged frame does: whether it
-    /// took them. It doesn't where they are a frame of the link that doesn't tell that it has idle
-    /// data only; nothing changed then.
+    /// Delivers octets to the other station over this one's link, such as a damaged frame: returns
+    /// whether it took them. It doesn't if they are a frame of the link whose pointer doesn't say
+    /// that it has idle data only; nothing changed then.
     pub fn deliver_octets(&mut self, side: Side, octets: &[u8]) -> bool
         ensures happened { Happened (other (side_of side)) (octets_calls octets.now result) self.old
             self.new }
@@ -199,13 +199,13 @@ impl<O: SteadyOutbox, I: Inbox> UnorderedWorld<O, I> {
         self.ends.deliver_octets(side, octets)
     }
 
-    /// A station starts anew, over these stores, which have the files of those before: its puts are
-    /// numbered from the first number on, and its frames from the second one. Nothing changes but
-    /// where it answers `Done`.
+    /// Restarts a station over these stores, which must have the files of those before: its puts
+    /// are numbered from the first number on, and its frames from the second one. Nothing changes
+    /// unless it answers `Done`.
     ///
     /// # Errors
     ///
-    /// `AllocError` where the memory for the station was refused.
+    /// `AllocError` if the memory for the station was refused.
     pub fn restart(
         &mut self,
         side: Side,
@@ -225,7 +225,7 @@ impl<O: SteadyOutbox, I: Inbox> UnorderedWorld<O, I> {
         self.ends.restart(side, stores, first_number, first_frame)
     }
 
-    /// The inbox of a station, lent. The promise holds of it, and of all else.
+    /// Returns the inbox of a station, borrowed. The promise holds of it, and of all else.
     pub fn inbox(&self, side: Side) -> &I
         ensures files { I.published result.now
             ≡ (kept_at (side_of side) self.now).station.entity.state.table.files }
@@ -235,14 +235,15 @@ impl<O: SteadyOutbox, I: Inbox> UnorderedWorld<O, I> {
         self.ends.end(side).station().inbox()
     }
 
-    /// A station, lent.
+    /// Returns a station, borrowed.
     pub fn station(&self, side: Side) -> &Station<O, I>
         ensures { result.now ≡ (kept_at (side_of side) self.now).station }
     {
         self.ends.end(side).station()
     }
 
-    /// The frames that a station made in one of its lives, from 0 on; `None` where there are fewer.
+    /// Returns the frames that a station made in one of its lives, from 0 on, or `None` if there
+    /// are fewer.
     pub fn life(&self, side: Side, life: usize) -> Option<&LifeFrames>
         ensures { MatchOption result (length (kept_at (side_of side) self.now).before < life)
             (λ l. slice_get (all_kept (kept_at (side_of side) self.now)) life ≡ Some l.now) }

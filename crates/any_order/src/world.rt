@@ -89,7 +89,7 @@ fn prepare<O: SteadyOutbox, I: Inbox>(
     })
 }
 
-/// A put at a station, which is kept where it was accepted.
+/// Makes a put at a station, and keeps it if it was accepted.
 fn put_at<O: SteadyOutbox, I: Inbox>(
     alloc: Global,
     end: &mut OneEnd<O, I>,
@@ -118,8 +118,8 @@ fn put_at<O: SteadyOutbox, I: Inbox>(
     }
 }
 
-/// Whether no packet can come of these octets in a lane: they are no frame of it, or one that tells
-/// that it has idle data only.
+/// Returns `true` if no packet can come of these octets in a lane: they are no frame of it, or one
+/// whose pointer says that it has idle data only.
 fn is_stray(octets: &[u8], channel: &ChannelConfig) -> bool
     ensures stray { result ≡ true → IsStray channel.now octets.now }
     ensures frame { result ≡ false → IsNoStray channel.now octets.now }
@@ -130,7 +130,7 @@ fn is_stray(octets: &[u8], channel: &ChannelConfig) -> bool
     }
 }
 
-/// Octets reach a station, unless they are a frame of a lane with more in it than idle data.
+/// Delivers octets to a station, unless they are a frame of a lane with more in it than idle data.
 fn octets_to<O: SteadyOutbox, I: Inbox>(
     end: &mut OneEnd<O, I>,
     link: LinkConfig,
@@ -149,7 +149,7 @@ fn octets_to<O: SteadyOutbox, I: Inbox>(
     true
 }
 
-/// A frame that one station made reaches the other one, where it is near enough.
+/// Delivers a frame that one station made to the other one, if it is near enough.
 fn hand_over<O: SteadyOutbox, I: Inbox>(
     from: &OneEnd<O, I>,
     to: &mut OneEnd<O, I>,
@@ -175,8 +175,8 @@ fn hand_over<O: SteadyOutbox, I: Inbox>(
     Delivered::Taken
 }
 
-/// A station starts anew over these stores, where no put of it had this number or a later one, and
-/// at least one number is left out in front of this one of its frames.
+/// Restarts a station over these stores, if no put of it had this number or a later one, and at
+/// least one number is left out before this one of its frames.
 fn restart_at<O: SteadyOutbox, I: Inbox>(
     alloc: Global,
     config: Valid<StationConfig>,
@@ -208,7 +208,7 @@ fn restart_at<O: SteadyOutbox, I: Inbox>(
     Ok(Restarted::Done)
 }
 
-/// The same configuration, of a station that numbers its puts from this one on.
+/// Returns the same configuration, of a station that numbers its puts from this one on.
 fn numbered_from(config: Valid<StationConfig>, number: u64) -> Valid<StationConfig>
     ensures is { result ≡ record config { entity = numbered_from number config.entity } }
     ensures valid { IsConfig (numbered_from number config.entity) }
@@ -224,7 +224,7 @@ fn numbered_from(config: Valid<StationConfig>, number: u64) -> Valid<StationConf
 }
 
 impl<O: SteadyOutbox, I: Inbox> TwoEnds<O, I> {
-    /// Two stations over these stores, at which nothing was done yet.
+    /// Makes two stations over these stores, at which nothing was done yet.
     pub(crate) fn new(
         alloc: Global,
         config: Valid<WorldConfig>,
@@ -263,7 +263,7 @@ impl<O: SteadyOutbox, I: Inbox> TwoEnds<O, I> {
         }
     }
 
-    /// One of both, lent.
+    /// Returns one of both, borrowed.
     pub(crate) fn end(&self, side: Side) -> &OneEnd<O, I>
         ensures { result.now ≡ kept_at (side_of side) self.now }
     {

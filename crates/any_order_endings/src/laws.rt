@@ -10,10 +10,10 @@ use cfdp_endings::{an_entity_alone_ends, an_entity_is_never_silent};
 use cfdp_entity::an_entity_goes_on;
 
 /// Two stations are new and set up to send to each other, and any calls are made at both, whatever
-/// their frames do on their way, and whenever either starts anew. Then at each of them every record
+/// their frames do on their way, and whenever either restarts. Then at each of them every record
 /// that is open has something to do, as `IsLively` says, by the policy that it was set up with. And
-/// whatever it had open then, of a peer that started anew and knows nothing of it or that answers
-/// no more, ends by its limits where it hears nothing from then on: after as many rounds as
+/// whatever it had open then, of a peer that restarted and knows nothing of it or that answers no
+/// more, ends by its limits if it receives nothing from then on: after as many rounds as
 /// `records_left` says nothing is open.
 pub fn what_is_open_ends_in_any_order()
     ensures lively { (c : Setup) (counts : Side → ℕ) (sources files : Side → FileMap)

@@ -1,5 +1,5 @@
-//! What is open ends also where either of two stations may start anew, and frames come in any
-//! order, any number of times, or not at all.
+//! What is open ends also if either of two stations may restart, and frames come in any order, any
+//! number of times, or not at all.
 //!
 //! Tested by nothing yet: what it promises is proved.
 #![tactic(auto)]

@@ -1,4 +1,4 @@
--- What losses keep is kept where a sender, or a receiver, comes back as it was committed.
+-- What losses keep is kept if a sender, or a receiver, comes back as it was committed.
 use Rattle.std.proofs.Common.{◌≡◌, inl, inr, Bool, true, false, ◌||◌, List, [], ◌∷◌, Option, refl, sym, ap, subst, ◌∙◌}
 use Rattle.cfdp_directives.specs.Pdu.Content.{Content}
 use Rattle.cfdp_directives.specs.User.Put.{Put}

@@ -1,4 +1,4 @@
--- What is kept of two stations, where one of them resumes.
+-- What is kept of two stations, if one of them resumes.
 use Rattle.std.proofs.Common.{◌≡◌, ℕ, ◌+◌, ◌<◌, ◌≤◌, Option, None, List, [], ◌∷◌, ◌++◌, length, map, refl, sym, ap, subst, ◌∙◌, arith, append-nil}
 use Rattle.std.specs.Prelude.{Contains}
 use Rattle.aos_frame.specs.declared.config.Lane.{Lane}

@@ -1,5 +1,5 @@
--- Two stations over a link that keeps no order. After a station was killed, it may start anew, or
--- it may resume.
+-- Two stations over a link that keeps no order. After a station was killed, it may restart, or it
+-- may resume.
 use Rattle.std.specs.Prelude.{◌≡◌, ◌+◌, ◌<◌, ℕ, List, [], ◌∷◌, ◌++◌, length}
 use Rattle.aos_frame.specs.declared.config.Lane.{Lane}
 use Rattle.link_stack.specs.Downward.{both_counted_from, first_down}
@@ -25,8 +25,8 @@ pub record Resumes (first : ℕ) (c : StationConfig) (old new : End) : Type 0 wh
   pub told_before : new.told_before ≡ old.told_before
   pub heard_before : new.heard_before ≡ old.heard_before ++ old.heard
 
--- An event at one of the stations, such as a call or a start anew; or one of them resumes, and
--- counts its frames from this number on.
+-- An event at one of the stations, such as a call or a restart; or one of them resumes, and counts
+-- its frames from this number on.
 pub data LifeEvent : Type 0 where
   Calls : Event → LifeEvent
   ResumesAt : Side → (first : ℕ) → LifeEvent

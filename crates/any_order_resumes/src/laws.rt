@@ -24,10 +24,10 @@ use link_stack::what_comes_up_was_put_in_once;
 /// The promise of delivery holds also if stations that were killed resume.
 ///
 /// All is as in [`the_promise_holds_in_any_order`](any_order::the_promise_holds_in_any_order), and
-/// besides starts anew, either station may resume, any number of times. After that its link is new
-/// and leaves out at least one number of frames. Its records are restored as `IsResumed` says. Then
-/// the five promises hold for each station. That no transaction is finished twice is said of all
-/// that a station indicated since its last start anew, through all times that it resumed.
+/// besides restarts, either station may resume, any number of times. After that its link is new and
+/// leaves out at least one number of frames. Its records are restored as `IsResumed` says. Then the
+/// five promises hold for each station. That no transaction is finished twice is said of all that a
+/// station indicated since its last restart, through all times that it resumed.
 pub fn the_promise_holds_where_stations_resume()
     ensures { (c : Setup) (counts : Side → ℕ) (sources files : Side → FileMap)
         (events : List LifeEvent) (start now : Pair) → AreJoined c →
@@ -58,7 +58,7 @@ pub fn resumes_keep_what_losses_keep()
 {}
 
 /// What is open ends also if stations resume. At any time each open record has something to do; and
-/// a station that hears nothing from then on ends all that it has open, by its limits.
+/// a station that receives nothing from then on ends all that it has open, by its limits.
 pub fn what_is_open_ends_where_stations_resume()
     ensures lively { (c : Setup) (counts : Side → ℕ) (sources files : Side → FileMap)
         (events : List LifeEvent) (start now : Pair) → AreJoined c →

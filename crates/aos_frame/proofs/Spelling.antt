@@ -1,4 +1,5 @@
--- Exported: the written octets of a frame spell it; `written_frame_is_read`, `length-sealed` and `length-header_octets` for callers.
+-- Exported: the written octets of a frame spell it; `written_frame_is_read`, `length-sealed` and
+-- `length-header_octets` for callers.
 use Rattle.std.proofs.Common.{◌≡◌, ℕ, Bool, true, false, ◌+◌, ◌-◌, ◌*◌, ◌/◌, ◌%◌, ◌^◌, ◌<◌, ◌≤◌, ◌==◌, ◌&&◌, nat_le, not, if◌then◌else◌, Some, None, List, [], ◌++◌, length, drop, refl, sym, ap, ◌∙◌, arith, append_assoc, length-append, length-take, length-drop}
 use Rattle.std.proofs.lemmas.List.{drop_at}
 use Rattle.cfd_bits.specs.Field.{field, octets}
@@ -13,7 +14,7 @@ use Rattle.aos_frame.specs.declared.config.ChannelConfig.{ChannelConfig}
 use Rattle.aos_frame.specs.Counts.{short_counts, counts_of}
 use Rattle.aos_frame.specs.Frame.{SpellsFrame, FitsHeader, count_in, cycle_in, signaling, header_octets, frame_octets}
 
--- What the written signaling field tells of a count that fits.
+-- What the written signaling field says of a count that fits.
 record Signals (cycle : Bool) (count : ℕ) : Type 0 where
   below : signaling cycle count < 128
   two_bits : signaling cycle count / 16 % 4 ≡ 0
@@ -46,7 +47,7 @@ length-header_octets h =
     let d = length-octets 1 s in
     omega (arith, length-append (octets 2 n) (octets 3 k), length-append (octets 2 n ++ octets 3 k) (octets 1 s))
 
--- the same channel, but that its frames are bare
+-- the same channel, except that its frames are bare
 abbrev bare_of : ChannelConfig → ChannelConfig
 bare_of c = record c { fields = no_fields }
 

@@ -1,4 +1,4 @@
--- What each field of a link, or of one of its channels, has to be.
+-- What each field of a link, or of one of its channels, must be.
 use Rattle.std.specs.Prelude.{◌≢◌, ◌<◌, ◌≤◌}
 use Rattle.frame_fields.specs.Fields.{AreFields}
 use Rattle.aos_frame.specs.Frame.{idle_channel}
@@ -16,7 +16,7 @@ FitsLink Zone link = (16 ≤ link.zone) × (link.zone ≤ 2040)
 FitsLink Apid link = link.apid ≤ 2046
 FitsLink InsertZone link = AreFields link.fields
 
--- A channel has no other one beside it, so nothing is asked of that.
+-- A channel has no other one beside it, so any value is accepted here.
 abbrev pub FitsChannel : LinkField → ChannelConfig → Type 0
 FitsChannel VirtualChannel c = c.virtual_channel < idle_channel
 FitsChannel DataVirtualChannel c = Unit {0}

@@ -22,7 +22,7 @@ idle_channel = 63
 abbrev pub frame_len : ChannelConfig → ℕ
 frame_len c = 6 + 2 + c.zone + extra c.fields
 
--- A channel that can be: its frames carry packets, none of which is idle.
+-- A channel that can be: its frames carry packets, and aren't idle.
 pub record IsChannel (c : ChannelConfig) : Type 0 where
   pub virtual_channel : c.virtual_channel < idle_channel
   pub least_zone : 16 ≤ c.zone
@@ -30,7 +30,7 @@ pub record IsChannel (c : ChannelConfig) : Type 0 where
   pub apid : c.apid ≤ 2046
   pub fields : AreFields c.fields
 
--- A link that can be: its two channels can, and are two.
+-- A link that can be: its two channels can be, and differ.
 pub record IsLink (link : LinkConfig) : Type 0 where
   pub virtual_channel : link.virtual_channel < idle_channel
   pub data_virtual_channel : link.data_virtual_channel < idle_channel
@@ -60,7 +60,8 @@ lane_channel lane link = record {
   fields = link.fields;
 }
 
--- Two channels are the lanes of one link: they differ, and in nothing else.
+-- Two channels are the lanes of one link: they differ in their virtual channel, and in nothing
+-- else.
 pub record AreLanes (one other : ChannelConfig) : Type 0 where
   pub spacecraft : other.spacecraft ≡ one.spacecraft
   pub virtual_channel : other.virtual_channel ≢ one.virtual_channel
@@ -69,12 +70,12 @@ pub record AreLanes (one other : ChannelConfig) : Type 0 where
   pub fields : other.fields ≡ one.fields
 
 -- ---- the header
--- whether the header of a frame has the usage flag of the count cycle (4.1.2.5)
+-- true if the header of a frame has the usage flag of the count cycle (4.1.2.5)
 abbrev pub cycle_in : List ℕ → Bool
 cycle_in text = field text 41 1 == 1
 
--- the virtual channel frame count in a header (4.1.2.4): 24 bits, and with the usage flag the count
--- cycle (4.1.2.5) as 4 more in front of them; without it these 4 are read as anything
+-- the virtual channel frame count in a header (4.1.2.4): 24 bits, and if the usage flag is set, the
+-- count cycle (4.1.2.5) as 4 more before them; otherwise any value of these 4 is accepted
 abbrev pub count_in : Bool → List ℕ → ℕ
 count_in true text = short_counts * field text 44 4 + field text 16 24
 count_in false text = field text 16 24
@@ -86,7 +87,7 @@ seen_in text = record { count = count_in (cycle_in text) text; cycle = cycle_in 
 -- The octets are a frame of the channel with this header.
 pub record SpellsFrame (c : ChannelConfig) (h : FrameHeader) (text : List ℕ) : Type 0 where
   pub size : length text ≡ frame_len c
-  -- 4.1.6, where the link has error control
+  -- 4.1.6, if the link has error control
   pub intact : c.fields.error_control ≡ true → is_intact text ≡ true
   -- 4.1.2.2, the transfer frame version number and the spacecraft identifier
   pub version : field text 0 2 ≡ 1
@@ -95,7 +96,7 @@ pub record SpellsFrame (c : ChannelConfig) (h : FrameHeader) (text : List ℕ) :
   pub virtual_channel : field text 10 6 ≡ h.virtual_channel
   -- 4.1.2.4, the virtual channel frame count
   pub count : count_in h.cycle text ≡ h.count
-  -- 4.1.2.5, the signaling field: no replay, the usage flag, and the two bits behind it
+  -- 4.1.2.5, the signaling field: no replay, the usage flag, and the two bits after it
   pub not_replayed : field text 40 1 ≡ 0
   pub cycle : cycle_in text ≡ h.cycle
   pub two_bits : field text 42 2 ≡ 0
@@ -118,7 +119,7 @@ frame_fault text c =
     else if not (field text 10 6 == c.virtual_channel) then Some OtherChannel
     else None
 
--- the channel that the header of a bare frame names, its packet zones of so many octets
+-- the channel that the header of a bare frame names, with packet zones of so many octets
 abbrev pub own_channel : List ℕ → ℕ → ChannelConfig
 own_channel text zone = record {
   spacecraft = field text 2 8;
@@ -128,13 +129,15 @@ own_channel text zone = record {
   fields = no_fields;
 }
 
--- the header can be written: each part fits its field, and its frame isn't for idle data only
+-- the header can be written: each part must fit its field, and its frame must not be for idle data
+-- only
 pub record FitsHeader (h : FrameHeader) : Type 0 where
   pub spacecraft : h.spacecraft < 256
   pub virtual_channel : h.virtual_channel < idle_channel
   pub count : h.count < counts_of h.cycle
 
--- the written signaling field: the usage flag with the upper 4 bits of the count, or neither
+-- the written signaling field: the usage flag with the upper 4 bits of the count, or zeros if it
+-- isn't set
 abbrev pub signaling : Bool → ℕ → ℕ
 signaling true count = 64 + count / short_counts
 signaling false count = 0
@@ -149,7 +152,7 @@ header_octets h =
 abbrev pub frame_octets : FrameHeader → List ℕ → List ℕ
 frame_octets h rest = header_octets h ++ rest
 
--- the number of a refusal, and its name; 7 to 11 are those of what is dropped behind a frame's
+-- the number of a refusal, and its name; 7 to 11 are the numbers of what is dropped after a frame's
 -- header
 abbrev pub refusal_number : FrameError → ℕ
 refusal_number Length = 1

@@ -9,19 +9,19 @@ use frame_fields::FrameFields;
 use thiserror::Error;
 use valid_config::{Config, Valid};
 
-/// The least and the most octets of a packet zone.
+/// The least octets of a packet zone.
 pub const LEAST_ZONE: u16 = 16;
-/// See [`LEAST_ZONE`].
+/// The most octets of a packet zone.
 pub const MOST_ZONE: u16 = 2040;
 
-/// The greatest application process identifier; the one behind it is that of idle packets.
+/// The greatest application process identifier; the next one is that of idle packets.
 pub const MOST_APID: u16 = 2046;
 
 /// One of the two virtual channels of a direction of a link. Directives overtake file data, since
 /// they go on a channel of their own.
 #[derive(Clone, Copy, Debug, PartialEq, Eq)]
 pub enum Lane {
-    /// The channel of directives: all PDUs but file data.
+    /// The channel of directives: all PDUs except file data.
     Directives,
     /// The channel of file data.
     Data,
@@ -31,7 +31,7 @@ impl Lane {
     /// Both lanes.
     pub const ALL: [Lane; 2] = [Lane::Directives, Lane::Data];
 
-    /// The other lane of a direction.
+    /// Returns the other lane of a direction.
     pub fn other(self) -> Lane
         ensures { result ≡ other_lane self }
     {
@@ -49,13 +49,13 @@ pub struct LinkConfig {
     pub spacecraft: u8,
     /// The virtual channel identifier of the frames that carry directives, 0 to 62.
     pub virtual_channel: u8,
-    /// The virtual channel identifier of the frames that carry file data, 0 to 62: another than
-    /// `virtual_channel`.
+    /// The virtual channel identifier of the frames that carry file data, 0 to 62. It must differ
+    /// from `virtual_channel`.
     pub data_virtual_channel: u8,
-    /// Octets of the packet zone, 16 to 2,040. A frame has 8 octets more, and those of its fields.
+    /// Octets of the packet zone, 16 to 2,040. A frame has 8 more, and its fields.
     pub zone: u16,
-    /// The application process identifier of the packets, 0 to 2,046; 2,047 is that of idle
-    /// packets.
+    /// The application process identifier of the packets, 0 to 2,046; 2,047 is the identifier of
+    /// idle packets.
     pub apid: u16,
     /// Which fields the frames have beside their header and their M_PDU: an insert zone of up to 64
     /// octets, an operational control field, a frame error control field.
@@ -69,7 +69,7 @@ pub struct ChannelConfig {
     pub spacecraft: u8,
     /// The virtual channel identifier, 0 to 62.
     pub virtual_channel: u8,
-    /// Octets of the packet zone, 16 to 2,040. A frame has 8 octets more, and those of its fields.
+    /// Octets of the packet zone, 16 to 2,040. A frame has 8 more, and its fields.
     pub zone: u16,
     /// The application process identifier of the packets, 0 to 2,046.
     pub apid: u16,
@@ -77,10 +77,10 @@ pub struct ChannelConfig {
     pub fields: FrameFields,
 }
 
-/// A field of a [`LinkConfig`] or of a [`ChannelConfig`] that isn't as it has to be.
+/// An invalid field of a [`LinkConfig`] or of a [`ChannelConfig`].
 #[derive(Clone, Copy, Debug, PartialEq, Eq, Error)]
 pub enum LinkField {
-    /// The virtual channel, in a link that of directives.
+    /// The virtual channel; in a link, the channel of directives.
     #[error("virtual channel must be 0 to 62")]
     VirtualChannel,
     /// The virtual channel of file data.
@@ -146,8 +146,8 @@ impl Config for ChannelConfig {
 }
 
 impl LinkConfig {
-    /// One lane of the link: its frames have the lane's virtual channel, and all else as the link
-    /// has it.
+    /// Returns one lane of the link: its frames have the lane's virtual channel, and all else as
+    /// the link has it.
     pub fn lane(&self, lane: Lane) -> ChannelConfig
         ensures is { result ≡ lane_channel lane self.now }
         ensures valid { IsLink self.now → IsChannel result }
@@ -166,14 +166,15 @@ impl LinkConfig {
 }
 
 impl ChannelConfig {
-    /// One lane of a valid link, as `lane` tells it.
+    /// Returns one lane of a valid link, as `lane` does. It is valid too.
     pub fn of(link: Valid<LinkConfig>, lane: Lane) -> Valid<ChannelConfig>
         ensures { result ≡ lane_channel lane link }
     {
         Valid::known(link.get().lane(lane))
     }
 
-    /// The octets of each frame: 8 more than those of a zone, and those of its fields.
+    /// Returns the number of octets of each frame: 8 more than a zone has, and the octets of its
+    /// fields.
     pub fn frame_len(&self) -> usize
         ensures { result ≡ frame_len self.now }
     {

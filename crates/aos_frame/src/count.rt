@@ -7,21 +7,22 @@ ghost use Rattle.aos_frame.specs.declared.count.Continuity.TheVariants.{Follows}
 
 use std::marker::Model;
 
-/// The numbers that a frame count of 28 bits can be, 0 to 268,435,455. Behind the last comes 0.
+/// The numbers that a frame count of 28 bits can be, 0 to 268,435,455. The count after the last is
+/// 0.
 pub const FRAME_COUNTS: u32 = 268_435_456;
 
 /// The numbers that a frame count can be without the count cycle, which is its upper 4 bits: 0 to
 /// 16,777,215.
 pub const SHORT_COUNTS: u32 = 16_777_216;
 
-/// How many numbers the count of a frame can be, by its usage flag of the count cycle.
+/// Returns how many numbers the count of a frame can be, by its usage flag of the count cycle.
 pub(crate) fn counts_of(cycle: bool) -> u32
     ensures { result ≡ counts_of cycle }
 {
     if cycle { FRAME_COUNTS } else { SHORT_COUNTS }
 }
 
-/// How many are missing between two counts, by all 28 bits of them or by the lower 24.
+/// Returns how many counts are missing between two counts, by all 28 bits or by the lower 24.
 fn missing_between(last: u32, count: u32, all: bool) -> u32
     ensures { AreMissing (counts_of all) last count result }
 {
@@ -47,16 +48,16 @@ impl Model for VcCounter {
 }
 
 impl VcCounter {
-    /// A counter that has given no count yet.
+    /// Returns a counter that has given no count yet.
     pub fn new() -> Self
         ensures { result ≡ 0 }
     {
         VcCounter { next: 0 }
     }
 
-    /// A counter whose first count is this one modulo [`FRAME_COUNTS`]: for a channel whose counts
-    /// before may still be known at the other end, so that its first frame isn't taken for the next
-    /// one of those.
+    /// Returns a counter whose first count is this one modulo [`FRAME_COUNTS`]. It serves a channel
+    /// whose earlier counts may still be known at the other end: so its first frame isn't taken for
+    /// the next one after them.
     pub fn from_count(count: u32) -> Self
         ensures { result ≡ count % frame_counts }
     {
@@ -65,7 +66,7 @@ impl VcCounter {
         }
     }
 
-    /// The count of the next frame, below [`FRAME_COUNTS`].
+    /// Returns the count of the next frame, below [`FRAME_COUNTS`].
     pub fn next(&mut self) -> u32
         ensures count { result ≡ self.old }
         ensures below { result < frame_counts }
@@ -79,28 +80,28 @@ impl VcCounter {
 
 /// How a frame goes on from the last one of its virtual channel that was seen.
 ///
-/// Counts are compared modulo [`FRAME_COUNTS`] where both frames have the usage flag of the count
-/// cycle, else modulo [`SHORT_COUNTS`].
+/// Counts are compared modulo [`FRAME_COUNTS`] if both frames have the usage flag of the count
+/// cycle, otherwise modulo [`SHORT_COUNTS`].
 #[derive(Clone, Copy, Debug, PartialEq, Eq)]
 pub enum Continuity {
-    /// No count is missing between them; or no frame was seen before.
+    /// No count is missing between the frames, or no frame was seen before.
     Follows,
-    /// So many counts are missing between them: at least 1.
+    /// So many counts are missing between the frames: at least 1.
     Gap(u32),
 }
 
 /// The count of a frame, and whether it has the usage flag of the count cycle.
 #[derive(Clone, Copy, Debug)]
 pub struct SeenCount {
-    /// The count, of 28 bits with the flag and of 24 without it.
+    /// The count: of 28 bits if it has the flag, otherwise of 24.
     pub count: u32,
     /// The usage flag of the count cycle.
     pub cycle: bool,
 }
 
-/// Tells how many frames of one virtual channel are missing between those that come.
+/// Counts the frames of one virtual channel that are missing between the frames that come.
 ///
-/// Where a multiple of the counts that are compared is lost in a row, they can't tell it.
+/// If a multiple of the counts that are compared is lost in a row, the loss can't be seen.
 #[derive(Clone, Debug, Default, Drop)]
 pub struct VcMonitor {
     last: Option<SeenCount>,
@@ -116,21 +117,21 @@ impl Model for VcMonitor {
 }
 
 impl VcMonitor {
-    /// A monitor that has seen no frame yet.
+    /// Returns a monitor that has seen no frame yet.
     pub fn new() -> Self
         ensures { result ≡ None }
     {
         VcMonitor { last: None }
     }
 
-    /// How a frame goes on from the last one seen, by its count and its usage flag of the count
-    /// cycle, as `decode` answers them.
+    /// Returns how a frame goes on from the last one seen, by its count and its usage flag of the
+    /// count cycle, as `decode` answers them.
     ///
-    /// They are compared by 28 bits where this frame and the last one have the flag, else by their
-    /// lower 24.
+    /// The counts are compared by 28 bits if this frame and the last one have the flag, otherwise
+    /// by their lower 24.
     pub fn see(&mut self, count: u32, cycle: bool) -> Continuity
         ensures first { self.old ≡ None → result ≡ Follows }
-        // The number that is missing, and no other is, decides the answer.
+        // The number that is missing, and no other number, decides the answer.
         ensures told { IfSome self.old (λ last. (n : ℕ) →
             AreMissing (compared last.cycle cycle) last.count count n → result ≡ continuity n) }
         ensures follows { (result ≡ Follows)
@@ -149,8 +150,8 @@ impl VcMonitor {
         }
     }
 
-    /// Whether a frame follows the last one seen: whether `see` answers [`Continuity::Follows`].
-    /// It is seen by it too.
+    /// Returns `true` if a frame follows the last one seen, so that `see` answers
+    /// [`Continuity::Follows`]. The frame is seen by this call too.
     pub fn follows(&mut self, count: u32, cycle: bool) -> bool
         ensures told { result ≡ follows self.old (record { count = count; cycle = cycle }) }
         ensures seen { self.new ≡ Some (record { count = count; cycle = cycle }) }

@@ -4,11 +4,10 @@ ghost use Rattle.aos_frame.specs.Frame.{refusal_number, refusal_name};
 
 use thiserror::Error;
 
-/// Why octets are no frame of a link: the first cause that holds, in the order in which they stand
-/// here.
+/// Why octets are no frame of a link: the first cause that holds, in the order of the variants.
 #[derive(Clone, Copy, Debug, PartialEq, Eq, Error)]
 pub enum FrameError {
-    /// The octets aren't as many as those of a frame of the link.
+    /// The octets aren't as many as a frame of the link has.
     #[error("wrong frame length")]
     Length,
     /// The link has error control, and the check of the frame differs from its frame error control
@@ -18,7 +17,7 @@ pub enum FrameError {
     /// The transfer frame version number isn't `01` (CCSDS 732.0-B-4, 4.1.2.2.2).
     #[error("transfer frame version number must be 01")]
     Version,
-    /// The replay flag is 1, or the two bits behind the usage flag of the count cycle aren't `00`
+    /// The replay flag is 1, or the two bits after the usage flag of the count cycle aren't `00`
     /// (CCSDS 732.0-B-4, 4.1.2.5).
     #[error("the replay flag or a reserved bit of the frame header is set")]
     OtherProfile,
@@ -34,7 +33,7 @@ pub enum FrameError {
 }
 
 impl FrameError {
-    /// The number that stands for this refusal in reports.
+    /// Returns the number of this refusal in reports.
     pub fn number(self) -> u8
         ensures { result ≡ refusal_number self }
     {
@@ -49,7 +48,7 @@ impl FrameError {
         }
     }
 
-    /// The name of this refusal in reports.
+    /// Returns the name of this refusal in reports.
     pub fn name(self) -> &'static str
         ensures { result.now ≡ refusal_name self }
     {

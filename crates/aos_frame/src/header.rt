@@ -27,23 +27,23 @@ pub struct FrameHeader {
     /// The virtual channel identifier, 0 to 62. Frames of [`IDLE_CHANNEL`] are neither written nor
     /// read.
     pub virtual_channel: u8,
-    /// The virtual channel frame count: below [`FRAME_COUNTS`](crate::FRAME_COUNTS) where `cycle`
-    /// is true, else below [`SHORT_COUNTS`](crate::SHORT_COUNTS).
+    /// The virtual channel frame count: it must be below [`FRAME_COUNTS`](crate::FRAME_COUNTS) if
+    /// `cycle` is true, otherwise below [`SHORT_COUNTS`](crate::SHORT_COUNTS).
     pub count: u32,
-    /// The usage flag of the count cycle: whether the count has 28 bits, whose upper 4 stand in the
-    /// count cycle (CCSDS 732.0-B-4, 4.1.2.5). Else it has 24.
+    /// The usage flag of the count cycle. If it is set, the count has 28 bits, whose upper 4 stand
+    /// in the count cycle (CCSDS 732.0-B-4, 4.1.2.5); otherwise it has 24.
     pub cycle: bool,
 }
 
 impl FrameHeader {
-    /// The header of a whole bare frame with a packet zone of `zone` octets, whatever its spacecraft
-    /// and channel are, and the octets behind it: the M_PDU header and the packet zone. It is what
-    /// [`decode`](crate::decode) answers for the channel that the frame itself names.
+    /// Returns the header of a whole bare frame with a packet zone of `zone` octets, whatever its
+    /// spacecraft and channel are, and the octets after it: the M_PDU header and the packet zone.
+    /// [`decode`](crate::decode) answers the same for the channel that the frame itself names.
     ///
     /// # Errors
     ///
     /// The first of these that holds, in this order: `Length`, `Version`, `OtherProfile`,
-    /// `OnlyIdle`.
+    /// `OnlyIdle`. [`FrameError`](crate::FrameError) says what each means.
     pub fn read(frame: &[u8], zone: u16) -> Result<(FrameHeader, &[u8]), FrameError>
         ensures found { IfOk result (λ x. SpellsFrame (own_channel frame.now zone) x.0 frame.now) }
         // The M_PDU header and the packet zone.
@@ -71,8 +71,8 @@ impl FrameHeader {
         crate::decode(frame, &own)
     }
 
-    /// Whether each part fits its field, and the channel carries packets, as `encode` asks: so it
-    /// is of each header that was read.
+    /// Returns `true` if each part fits its field, and the channel carries packets, as `encode`
+    /// requires. It holds of each header that was read.
     pub fn is_writable(&self) -> bool
         ensures { IsTrue result ↔ FitsHeader self.now }
     {

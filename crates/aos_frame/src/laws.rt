@@ -6,8 +6,8 @@ ghost use Rattle.aos_frame.specs.declared.config.ChannelConfig.{ChannelConfig};
 ghost use Rattle.aos_frame.specs.Counts.{counts_of, compared, AreMissing};
 ghost use Rattle.aos_frame.specs.Frame.{SpellsFrame, FitsHeader, frame_octets};
 
-/// What is written of a header of the channel, with an M_PDU behind it, and sealed with the fields
-/// of the link, spells that header, so `decode` answers it and that M_PDU.
+/// What is written of a header of the channel, with an M_PDU after it, and sealed with the fields
+/// of the link, spells that header: `decode` answers this header and this M_PDU.
 pub fn written_frame_is_read()
     ensures { (c : ChannelConfig) (h : FrameHeader) (rest : List ℕ) (control : ℕ) → FitsHeader h
         → h.spacecraft ≡ c.spacecraft → h.virtual_channel ≡ c.virtual_channel
@@ -22,8 +22,8 @@ pub fn a_frame_has_one_header()
         SpellsFrame c k text → h ≡ k }
 {}
 
-/// Between two counts one number of counts is missing, and no other is. Where some frames of a
-/// channel in a row are lost, fewer than the counts that are compared, it is how many they are.
+/// Between two counts exactly one number of counts is missing. If some frames of a channel in a row
+/// are lost, fewer than the counts that are compared, the number is how many frames they are.
 pub fn one_number_is_missing()
     ensures lost { (n lost : ℕ) (last this : Bool) → lost < compared last this →
         AreMissing (compared last this) (n % counts_of last)

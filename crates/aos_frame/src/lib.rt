@@ -1,11 +1,11 @@
 //! AOS transfer frames with packet zones (CCSDS 732.0-B-4): their headers, their counts, and the
 //! counts that are missing.
 //!
-//! None of these calls takes memory: what stands behind a frame's header is borrowed from the
-//! octets that it was read from.
+//! None of these calls takes memory: what stands after a frame's header is borrowed from the octets
+//! that it was read from.
 //!
-//! The two ends of a link agree on a [`LinkConfig`], each of whose lanes is a [`ChannelConfig`].
-//! One end writes a header in front of each M_PDU, and the other reads it:
+//! The two ends of a link must agree on a [`LinkConfig`], each of whose lanes is a
+//! [`ChannelConfig`]. One end writes a header before each M_PDU, and the other reads it:
 //!
 //! ```
 //! let mut counter = VcCounter::new();
@@ -50,10 +50,11 @@ pub use frame_fields::{FrameFields, MOST_INSERT_ZONE};
 pub use header::{FrameHeader, HEADER_LEN, IDLE_CHANNEL};
 pub use laws::{a_frame_has_one_header, one_number_is_missing, written_frame_is_read};
 
-/// Octets of the M_PDU header, in front of the packet zone (CCSDS 732.0-B-4, 4.1.4.2).
+/// Octets of the M_PDU header, which stands before the packet zone (CCSDS 732.0-B-4, 4.1.4.2).
 const MPDU_HEADER_LEN: usize = 2;
 
-/// The count in a frame's header, which has 28 bits where the usage flag of the count cycle is 1.
+/// Returns the count in a frame's header, which has 28 bits if the usage flag of the count cycle is
+/// 1.
 fn count_in(bytes: &[u8], cycle: bool) -> u32
     requires { 6 ≤ length bytes.now }
     ensures count { result ≡ count_in cycle bytes.now }
@@ -67,13 +68,15 @@ fn count_in(bytes: &[u8], cycle: bool) -> u32
     }
 }
 
-/// The header of a whole frame of the channel, and its M_PDU: the M_PDU header and the packet zone.
+/// Returns the header of a whole frame of the channel, and its M_PDU: the M_PDU header and the
+/// packet zone.
 ///
-/// Where the link has error control, the frame error control field is looked at before anything
-/// else of the frame. An insert zone and an operational control field are passed over.
+/// If the link has error control, the frame error control field is checked before anything else of
+/// the frame. An insert zone and an operational control field are passed over.
 ///
-/// Of the 2 octets of the M_PDU header the last 11 bits are the first header pointer. The count
-/// cycle is read as the upper 4 bits of the count where its usage flag is 1, else as anything.
+/// The last 11 bits of the 2 octets of the M_PDU header are the first header pointer. If the usage
+/// flag is 1, the count cycle is read as the upper 4 bits of the count; otherwise any value of it
+/// is accepted.
 ///
 /// # Errors
 ///
@@ -129,8 +132,8 @@ pub fn decode<'a>(
     Ok((header, opened.mpdu))
 }
 
-/// The signaling field of a header that isn't replayed: the usage flag of the count cycle with the
-/// upper 4 bits of the count, or neither.
+/// Returns the signaling field of a header that isn't replayed: the usage flag of the count cycle
+/// with the upper 4 bits of the count, or zeros if the flag isn't set.
 fn signaling(header: &FrameHeader) -> u64
     requires { FitsHeader header.now }
     ensures { result ≡ signaling header.now.cycle header.now.count }
@@ -142,8 +145,9 @@ fn signaling(header: &FrameHeader) -> u64
     }
 }
 
-/// Writes the header, which [`FrameHeader::is_writable`] tests, into the first 6 octets: its usage
-/// flag of the count cycle, and with it the upper 4 bits of its count. The octets behind stay.
+/// Writes the header into the first 6 octets: its usage flag of the count cycle, and with it the
+/// upper 4 bits of its count. [`FrameHeader::is_writable`] must hold. The octets after them stay as
+/// they were.
 pub fn encode(header: &FrameHeader, out: &mut [u8])
     requires fits { FitsHeader header.now }
     requires room { 6 ≤ length out.old }

@@ -45,11 +45,11 @@ check-read text rest =
     let behind : drop 8 (batch text ++ rest) ≡ check text ++ (text ++ rest) = ap (drop 8) (parts text rest) ∙ drop_at (octets 8 (length text)) (check text ++ (text ++ rest)) 8 (length-octets 8 (length text)) in
     ap (λ o. field o 0 32) behind ∙ field_between [] (text ++ rest) 4 (crc32_of Castagnoli text) 0 32 low refl refl
 
--- it is what stands behind the head
+-- it is what stands after the head
 pub text-there : (text rest : List ℕ) → drop 12 (batch text ++ rest) ≡ text ++ rest
 text-there text rest = ap (drop 12) (append_assoc (head text) text rest) ∙ drop_at (head text) (text ++ rest) 12 (length-head text)
 
--- what octets that begin with a batch have where it is read
+-- what octets that begin with a batch have when it is read
 pub record Stands (bytes text : List ℕ) : Type 0 where
   pub count : field bytes 0 64 ≡ length text
   pub check : field (drop 8 bytes) 0 32 ≡ crc32_of Castagnoli text
@@ -117,7 +117,7 @@ module _ (bytes : List ℕ) (k n : ℕ) (same : k ≡ n) (count : n ≡ field by
     pub sum_at : crc32_of Castagnoli read_text ≡ read_check
     sum_at = ap (crc32_of Castagnoli) only_at ∙ sym s.check ∙ sym (check-there (omega (arith, s.room)))
 
--- what stays behind a place stays behind a later one
+-- what stays after an offset stays after a later one
 pub later : (a b : ℕ) (x y : List ℕ) → a ≤ b → drop a x ≡ drop a y → drop b x ≡ drop b y
 later a b x y low same =
     let e : a + (b - a) ≡ b = omega (arith, low) in

@@ -34,8 +34,9 @@ pub fn first_batch(bytes: &[u8]) -> Option<&[u8]>
     }
 }
 
-/// Writes the batch of a text from octet `at` on, and returns where it ends. The octets before and
-/// after it stay. An empty text has no batch: [`first_batch`] finds none.
+/// Writes the batch of a text from octet `at` on, and returns the offset of its end. There must be
+/// room for it. The octets before and after it stay. An empty text has no batch: [`first_batch`]
+/// finds none.
 pub fn write_batch(out: &mut [u8], at: usize, text: &[u8]) -> usize
     requires room { at + 12 + length text.now ≤ length out.old }
     ensures end { result ≡ at + 12 + length text.now }

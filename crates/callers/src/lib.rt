@@ -3,7 +3,7 @@
 //!
 //! - `turn` drives a station over a link of the caller's own, and `default_station` makes one.
 //!   README.md shows the turn.
-//! - `LongFile` is a store of the caller's own, with the proof that it owes.
+//! - `LongFile` is a store of the caller's own, with the proof that it must have.
 //! - `three_fields`, `written_and_read` and `arm_two` need no lemma.
 //!
 //! Tested by `tests/transcripts/bits.txt`, `large.txt` and `timers.txt` there.

@@ -4,7 +4,7 @@ ghost use Rattle.std.specs.FinMap as map;
 
 use cfdp_store::{Outbox, StoreError};
 
-/// An outbox whose one file, `a.txt`, has so many octets, all of one value.
+/// An outbox whose one file, `a.txt`, has a given number of octets, all of one value.
 #[derive(Drop)]
 pub struct LongFile {
     pub octets: u64,

@@ -10,14 +10,14 @@ pub trait Link {
     /// Sends a frame to the other station.
     fn send(&mut self, frame: &[u8]);
 
-    /// The next frame that came from there, if there is one.
+    /// Returns the next frame that came from there, if there is one.
     fn receive(&mut self) -> Option<Vec<u8>>;
 }
 
 /// Why there is no station.
 #[derive(Drop)]
 pub enum NoStation {
-    /// A field of its configuration isn't as it has to be.
+    /// A field of its configuration isn't as it must be.
     Field(StationField),
     /// There is no memory for it.
     Memory(AllocError),
@@ -35,8 +35,8 @@ impl From<AllocError> for NoStation {
     }
 }
 
-/// Entity 1, whose peer is entity 2. The other station has the same with both ids exchanged, and
-/// what is `sends` here as its `receives`.
+/// Returns the station of entity 1, whose peer is entity 2. The other station must have the same
+/// with both ids exchanged, and what is `sends` here as its `receives`.
 pub fn default_station<O: Outbox, I: Inbox>(
     alloc: Global,
     outbox: O,
@@ -60,7 +60,8 @@ pub fn default_station<O: Outbox, I: Inbox>(
     Ok(station)
 }
 
-/// One turn of a station: it is told the time, hears a frame, and sends the next one that is due.
+/// Does one turn of a station: gives it the time, passes on a received frame, if there is one, and
+/// sends the next frame that is due, if one is.
 pub fn turn<O: Outbox, I: Inbox, L: Link>(
     station: &mut Station<O, I>,
     link: &mut L,

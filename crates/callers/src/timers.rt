@@ -3,7 +3,7 @@ use cfdp_header::TransactionId;
 use cfdp_timers::{Kind, Timers};
 use std::alloc::AllocError;
 
-/// Arms timers of two transactions at 5 and 6, tells the time 5, and arms the first one again.
+/// Arms timers of two transactions at 5 and 6, gives the time 5, and arms the first one again.
 ///
 /// # Errors
 ///

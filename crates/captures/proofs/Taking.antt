@@ -1,4 +1,4 @@
--- What stands in front of a text is taken off it in one way.
+-- What stands at the front of a text is taken off it in one way.
 use Rattle.std.proofs.Common.{◌≡◌, ◌⊎◌, ℕ, List, [], length, Option, Some, None, Result, Ok, Err, sym, ap, ◌∙◌, refl, subst, inl, inr, arith}
 use Rattle.std.specs.Result.{IfOk}
 use Rattle.captures.specs.declared.fault.CaptureFault.{CaptureFault}
@@ -30,7 +30,7 @@ some_is same = cc same
 one_fault : (f g : Fault) → f.cause ≡ g.cause → f.left ≡ g.left → f ≡ g
 one_fault f g cause left = grind (arith, cause, left)
 
--- ---- what stands in front of a text of blocks
+-- ---- what stands at the front of a text of blocks
 block_taken : (st : CaptureState) (text : List ℕ) (i : ItemText) (a : CaptureState) (r : List ℕ) → st.next ≡ Block → HasTaken st text i a r → TakesBlock st text i a r ⊎ TakesNone st text i a r
 block_taken st text i a r next (inl takes) = inl (let P : Next → Type 0 = λ n. TakesNext n st text i a r in subst P next takes)
 block_taken st text i a r next (inr none) = inr none

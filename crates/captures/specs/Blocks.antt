@@ -19,8 +19,8 @@ pub record BlockText : Type 0 where
 abbrev pub block_text : Block → BlockText
 block_text b = record { order = b.order; kind = b.kind; body = b.body.now }
 
--- The order of a block is that of its section. A section header (4.1), whose kind is the same in
--- either order, tells its own by its byte-order magic.
+-- The order of a block is the order of its section. A section header (4.1), whose kind is the same
+-- in either order, must give its own by its byte-order magic.
 abbrev pub block_order : ByteOrder → List ℕ → Option ByteOrder
 block_order order text =
     if not (number BigEndian text 0 == 0x0A0D0D0A) then Some order
@@ -28,8 +28,9 @@ block_order order text =
     else if number LittleEndian text 8 == 0x1A2B3C4D then Some LittleEndian
     else None
 
--- The text begins with this block, behind which stands the rest, in a section of this order: its
--- kind, its length in octets, its body, and its length again. The length is a multiple of four.
+-- The text begins with this block, in a section of this order, and the rest stands after it. The
+-- block is its kind, its length in octets, its body, and its length again. The length must be a
+-- multiple of four.
 pub record SpellsBlock (order : ByteOrder) (block : BlockText) (text rest : List ℕ) : Type 0 where
   pub whole : 12 ≤ length text
   pub ordered : block_order order text ≡ Some block.order
@@ -41,7 +42,7 @@ pub record SpellsBlock (order : ByteOrder) (block : BlockText) (text rest : List
   pub body : block.body ≡ take (number block.order text 4 - 12) (drop 8 text)
   pub behind : rest ≡ drop (number block.order text 4) text
 
--- what is wrong with a text that begins with none
+-- what is wrong with a text if it begins with none
 abbrev pub length_fault : ByteOrder → List ℕ → Option CaptureFault
 length_fault order text =
     if nat_lt (number order text 4) 12 || not (number order text 4 % 4 == 0) then Some BadLength
@@ -78,7 +79,7 @@ interface_fault body = if nat_lt (length body) 8 then Some BadLength else None
 abbrev pub no_interface : Interface
 no_interface = record { link_type = 0; snap_len = 0 }
 
--- the interface of this number, where there is one
+-- the interface of this number, if there is one
 abbrev pub interface_at : List Interface → ℕ → Interface
 interface_at interfaces place = slice_index_or interfaces place no_interface
 
@@ -99,7 +100,7 @@ enhanced_fault order interfaces body =
     else None
 
 -- ---- a simple packet block (4.4): the original packet length, and the packet, of which no more
--- was captured than the snap length of the first interface says, where that isn't 0
+-- was captured than the snap length of the first interface says, if that isn't 0
 abbrev pub captured_of : (original snap_len : ℕ) → ℕ
 captured_of original snap_len =
     if (snap_len == 0) || nat_le original snap_len then original else snap_len

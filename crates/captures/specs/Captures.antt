@@ -27,7 +27,7 @@ start_of file =
     else None
 
 -- ---- what is in a block, by its kind: a section header begins a section without interfaces, an
--- interface goes behind those before it, and a block of another kind is passed over
+-- interface goes after the interfaces before it, and a block of another kind is passed over
 abbrev pub body_fault : CaptureState → BlockText → Option CaptureFault
 body_fault st b =
     if b.kind == 0x0A0D0D0A then section_fault b.order b.body
@@ -49,7 +49,7 @@ state_after st b =
     then record st { interfaces = st.interfaces ++ interface_in b.order b.body ∷ [] }
     else st
 
--- ---- what stands in front of a text, behind which stands the rest
+-- ---- what stands at the front of a text, and the rest after it
 pub record TakesHeader (st : CaptureState) (text : List ℕ) (item : ItemText) (after : CaptureState)
     (rest : List ℕ) : Type 0 where
   pub interface : Interface
@@ -90,7 +90,7 @@ HasFault FileHeader st text cause = header_fault st.order text ≡ Some cause
 HasFault Record st text cause = record_fault st.order text ≡ Some cause
 HasFault Block st text cause = (block_fault st.order text ≡ Some cause) ⊎ HasBadBody st text cause
 
--- Then nothing behind it is read.
+-- Then nothing after it is read.
 pub record TakesNone (st : CaptureState) (text : List ℕ) (item : ItemText) (after : CaptureState)
     (rest : List ℕ) : Type 0 where
   pub fault : Fault
@@ -100,14 +100,14 @@ pub record TakesNone (st : CaptureState) (text : List ℕ) (item : ItemText) (af
   pub leaves : after ≡ st
   pub behind : rest ≡ []
 
--- ---- what was taken off the front of a text, what is known behind it, and the rest
+-- ---- what was taken off the front of a text, what is known after it, and the rest
 abbrev pub HasTaken : CaptureState → (text : List ℕ) → ItemText → CaptureState →
     (rest : List ℕ) → Type 0
 HasTaken st text item after rest =
     TakesNext st.next st text item after rest ⊎ TakesNone st text item after rest
 
--- ---- what a text spells from its front on, what is known behind that, and the rest; all of it,
--- where there is no rest
+-- ---- what a text spells from its front on, what is known after that, and the rest; all of it,
+-- if there is no rest
 abbrev pub SpellsTo : CaptureState → (items : List ItemText) → (text : List ℕ) → CaptureState →
     (rest : List ℕ) → Type 0
 SpellsTo st [] text last rest = (last ≡ st) × (rest ≡ text)

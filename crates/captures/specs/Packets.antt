@@ -21,8 +21,8 @@ packet_text p = record {
   octets = p.octets.now;
 }
 
--- what stands in front of a text: a packet, something that is passed over, or nothing that can be
--- read, for this fault
+-- what stands at the front of a text: a packet, something that is passed over, or nothing that can
+-- be read, for this fault
 pub data ItemText : Type 0 where
   Captured : (packet : PacketText) → ItemText
   PassedOver : ItemText

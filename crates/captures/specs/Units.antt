@@ -1,12 +1,13 @@
 -- What a captured packet carries: the payload of a UDP datagram over IP, or what is captured as it
 -- is. Bit 0 is the most significant bit of the first octet.
-use Rattle.std.specs.Prelude.{◌≡◌, ℕ, ◌+◌, ◌-◌, ◌*◌, ◌≤◌, ◌==◌, ◌&&◌, ◌||◌, nat_le, nat_lt, not, Bool, true, if◌then◌else◌, List, length, take, drop, Option, Some, None, unwrap_or}
+use Rattle.std.specs.Prelude.{ℕ, ◌+◌, ◌-◌, ◌*◌, ◌==◌, ◌&&◌, ◌||◌, nat_le, nat_lt, not, Bool, true, if◌then◌else◌, List, [], ◌∷◌, ◌++◌, codes, length, take, drop, Option, Some, None, unwrap_or}
+use Rattle.std.specs.Str.{bytes_eq}
 use Rattle.cfd_bits.specs.Field.{field}
 use Rattle.captures.specs.declared.unit.Passed.{Passed}
 use Rattle.captures.specs.declared.unit.Passed.TheVariants.{CutShort, OtherLink, NotIp, Fragment, NotUdp, Malformed}
 use Rattle.captures.specs.Packets.{PacketText}
 
--- the first fault of two, one behind the other
+-- the first fault of two, one after the other
 abbrev pub or_else : Option Passed → Option Passed → Option Passed
 or_else (Some fault) behind = Some fault
 or_else None behind = behind
@@ -32,7 +33,7 @@ link_header link_type =
 abbrev pub is_ip_type : ℕ → Bool
 is_ip_type ether_type = (ether_type == 0x0800) || (ether_type == 0x86DD)
 
--- whether IP is behind the header, where it says so: by its last two octets, or, of 276, its first
+-- true if IP is after the header, if it says so: by its last two octets, or, of 276, its first
 abbrev pub says_ip : ℕ → List ℕ → Bool
 says_ip link_type octets =
     if link_type == 1 then is_ip_type (field octets 96 16)
@@ -56,8 +57,8 @@ known_link_fault (Some header) link_type octets = header_fault link_type header 
 abbrev pub link_fault : ℕ → List ℕ → Option Passed
 link_fault link_type octets = known_link_fault (link_header link_type) link_type octets
 
--- ---- IPv4 (RFC 791, 3.1): the header's length is told in words of four octets, and the total
--- length in octets; behind them stand the flag that more fragments follow and the fragment offset,
+-- ---- IPv4 (RFC 791, 3.1): the header's length is given in words of four octets, and the total
+-- length in octets; after them stand the flag that more fragments follow and the fragment offset,
 -- and the protocol, of which 17 is UDP
 abbrev pub four_header : List ℕ → ℕ
 four_header text = 4 * field text 4 4
@@ -80,7 +81,7 @@ four_fault text =
     else None
 
 -- ---- IPv6 (RFC 8200, 3): 40 octets of the header, with the length of the payload and the next
--- header, of which 44 is that of a fragment (4.5)
+-- header, of which 44 is a fragment's (4.5)
 abbrev pub six_len : List ℕ → ℕ
 six_len text = field text 32 16
 
@@ -95,7 +96,7 @@ six_fault text =
     else if not (field text 48 8 == 17) then Some (NotUdp (field text 48 8))
     else None
 
--- ---- either, by the version in front
+-- ---- either, by the version at the front
 abbrev pub datagram_in : List ℕ → List ℕ
 datagram_in text = if field text 0 4 == 4 then datagram_in_four text else datagram_in_six text
 
@@ -120,6 +121,15 @@ datagram_fault text =
     else if nat_lt (length text) (udp_len text) then Some Malformed
     else None
 
+-- ---- Wireshark's upper PDUs (link type 252): tags stand before a PDU, each with the length of its
+-- value, both in two octets. Before a PDU of CFDP stand the tag 12, whose value is the name of the
+-- dissector, and the tag 0, which ends them.
+abbrev pub upper_header : List ℕ
+upper_header = 0 ∷ 12 ∷ 0 ∷ 4 ∷ codes "cfdp" ++ 0 ∷ 0 ∷ 0 ∷ 0 ∷ []
+
+abbrev pub is_upper : ℕ → List ℕ → Bool
+is_upper link_type octets = (link_type == 252) && bytes_eq (take 12 octets) upper_header
+
 -- ---- all of it
 unfoldable pub udp_payload : ℕ → List ℕ → List ℕ
 udp_payload link_type octets = payload_in (datagram_in (network_in link_type octets))
@@ -130,12 +140,16 @@ udp_fault link_type octets = or_else (link_fault link_type octets)
     (datagram_fault (datagram_in (network_in link_type octets))))
 
 -- what is captured of a packet as its unit, and why there is none: some of it was cut off, or what
--- isn't captured as it is has no UDP datagram
+-- isn't captured as it is, and is no upper PDU of CFDP, has no UDP datagram
 abbrev pub unit_in : PacketText → List ℕ
-unit_in p = if is_free p.link_type then p.octets else udp_payload p.link_type p.octets
+unit_in p =
+    if is_free p.link_type then p.octets
+    else if is_upper p.link_type p.octets then drop 12 p.octets
+    else udp_payload p.link_type p.octets
 
 abbrev pub unit_fault : PacketText → Option Passed
 unit_fault p =
     if nat_lt (length p.octets) p.original then Some (CutShort (length p.octets) p.original)
     else if is_free p.link_type then None
+    else if is_upper p.link_type p.octets then None
     else udp_fault p.link_type p.octets

@@ -13,7 +13,7 @@ use crate::packet::{Interface, Packet};
 /// The kind of a section header, the same in either order of octets.
 pub(crate) const SECTION: u32 = 0x0A0D_0D0A;
 
-/// The octets of a block beside its body: its kind, and its length in front and at its end.
+/// The octets of a block beside its body: its kind, and its length before and after the body.
 const AROUND: usize = 12;
 
 /// A block.
@@ -21,14 +21,14 @@ const AROUND: usize = 12;
 pub(crate) struct Block<'a> {
     /// The order of the octets of its numbers.
     pub(crate) order: ByteOrder,
-    /// What it is.
+    /// Its kind.
     pub(crate) kind: u32,
     /// What stands between its lengths.
     pub(crate) body: &'a [u8],
 }
 
-/// The order of the octets of the block in front of a text, in a section of this order: a section
-/// header tells its own. `None` where that is neither.
+/// Returns the order of the octets of the block at the front of a text, in a section of this order:
+/// a section header gives its own. `None` if it gives neither.
 fn block_order(order: ByteOrder, text: &[u8]) -> Option<ByteOrder>
     requires { 12 ≤ length text.now }
     ensures { result ≡ blocks.block_order order text.now }
@@ -44,11 +44,12 @@ fn block_order(order: ByteOrder, text: &[u8]) -> Option<ByteOrder>
     }
 }
 
-/// The block that stands in front of a text, in a section of this order, and what is behind it.
+/// Returns the block at the front of a text, in a section of this order, and what is after it.
 ///
 /// # Errors
 ///
-/// `CutOff`, `BadOrder` or `BadLength`.
+/// `CutOff` if the text ends in it, `BadOrder` if a section header has neither order, or
+/// `BadLength` if its lengths don't fit.
 pub(crate) fn take_block(order: ByteOrder, text: &[u8]) -> Result<(Block<'_>, &[u8]), CaptureFault>
     ensures found { IfOk result (λ x. SpellsBlock order (block_text x.0) text.now x.1.now) }
     ensures only { (b : BlockText) (rest : List ℕ) → SpellsBlock order b text.now rest →
@@ -82,7 +83,7 @@ pub(crate) fn take_block(order: ByteOrder, text: &[u8]) -> Result<(Block<'_>, &[
 ///
 /// # Errors
 ///
-/// `BadLength` or `BadVersion`.
+/// `BadLength` if it is too short, or `BadVersion` if its version isn't read.
 pub(crate) fn check_section(order: ByteOrder, body: &[u8]) -> Result<(), CaptureFault>
     ensures { result_err result ≡ blocks.section_fault order body.now }
 {
@@ -96,11 +97,11 @@ pub(crate) fn check_section(order: ByteOrder, body: &[u8]) -> Result<(), Capture
     }
 }
 
-/// The interface that the body of its block describes.
+/// Returns the interface that the body of its block describes.
 ///
 /// # Errors
 ///
-/// `BadLength`.
+/// `BadLength` if it is too short.
 pub(crate) fn read_interface(order: ByteOrder, body: &[u8]) -> Result<Interface, CaptureFault>
     ensures found { IfOk result (λ x. x ≡ blocks.interface_in order body.now) }
     ensures refused { result_err result ≡ blocks.interface_fault body.now }
@@ -114,11 +115,11 @@ pub(crate) fn read_interface(order: ByteOrder, body: &[u8]) -> Result<Interface,
     })
 }
 
-/// The packet of the body of an enhanced packet block.
+/// Returns the packet of the body of an enhanced packet block.
 ///
 /// # Errors
 ///
-/// `BadLength` or `BadInterface`.
+/// `BadLength` if a length doesn't fit, or `BadInterface` if its interface wasn't described.
 pub(crate) fn read_enhanced<'a>(
     order: ByteOrder,
     interfaces: &[Interface],
@@ -148,11 +149,11 @@ pub(crate) fn read_enhanced<'a>(
     })
 }
 
-/// The packet of the body of a simple packet block, which is of the first interface.
+/// Returns the packet of the body of a simple packet block, which is of the first interface.
 ///
 /// # Errors
 ///
-/// `BadLength` or `BadInterface`.
+/// `BadLength` if a length doesn't fit, or `BadInterface` if no interface was described.
 pub(crate) fn read_simple<'a>(
     order: ByteOrder,
     interfaces: &[Interface],
@@ -183,7 +184,7 @@ pub(crate) fn read_simple<'a>(
     })
 }
 
-/// How many octets of a packet are captured under a limit, where 0 is none.
+/// Returns how many octets of a packet are captured under a limit; there is no limit if it is 0.
 fn captured_of(original: u32, snap_len: u32) -> usize
     ensures { result ≡ blocks.captured_of original snap_len }
 {

@@ -4,7 +4,7 @@ ghost use Rattle.captures.specs.Texts.{fault_text};
 
 use std::fmt;
 
-/// Why the octets at some place of a file are no record and no block of a capture.
+/// Why the octets at some offset of a file are no record and no block of a capture.
 #[derive(Clone, Copy, Debug, PartialEq, Eq)]
 pub enum CaptureFault {
     /// The file ends in it.
@@ -14,7 +14,7 @@ pub enum CaptureFault {
     BadLength,
     /// The byte-order magic of a section header is of neither order of octets.
     BadOrder,
-    /// The version of the format is none that is read: pcap 2.4, and pcapng 1.
+    /// The version of the format isn't read: it must be pcap 2.4, or pcapng 1.
     BadVersion,
     /// A packet is of an interface that the section hasn't described before.
     BadInterface,

@@ -11,7 +11,7 @@ pub enum ByteOrder {
     LittleEndian,
 }
 
-/// The number of the four octets from octet `at` on.
+/// Returns the number in the four octets from octet `at` on, which must be there.
 #[tactic(auto, unfolding(crate::specs::Numbers::number))]
 pub(crate) fn number(order: ByteOrder, text: &[u8], at: usize) -> u32
     requires there { at + 4 ≤ length text.now }
@@ -24,7 +24,7 @@ pub(crate) fn number(order: ByteOrder, text: &[u8], at: usize) -> u32
     }
 }
 
-/// The number of the two octets from octet `at` on.
+/// Returns the number in the two octets from octet `at` on, which must be there.
 #[tactic(auto, unfolding(crate::specs::Numbers::short))]
 pub(crate) fn short(order: ByteOrder, text: &[u8], at: usize) -> u16
     requires there { at + 2 ≤ length text.now }

@@ -3,9 +3,9 @@
 /// An interface on which packets were captured.
 #[derive(Clone, Copy, Debug, PartialEq, Eq)]
 pub struct Interface {
-    /// The link type: which headers stand in front of a packet.
+    /// The link type: which headers stand before a packet.
     pub link_type: u16,
-    /// The most octets of a packet that were captured; 0 where there was no such limit.
+    /// The most octets of a packet that were captured; 0 if there was no such limit.
     pub snap_len: u32,
 }
 
@@ -16,6 +16,6 @@ pub struct Packet<'a> {
     pub link_type: u16,
     /// How many octets it had on the wire.
     pub original: u32,
-    /// Those that were captured.
+    /// The octets that were captured.
     pub octets: &'a [u8],
 }

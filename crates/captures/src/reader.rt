@@ -33,7 +33,7 @@ const ENHANCED: u32 = 6;
 pub enum Next {
     /// The header of a pcap file.
     FileHeader,
-    /// A packet record of one.
+    /// A packet record of a pcap file.
     Record,
     /// A block of a pcapng file.
     Block,
@@ -42,20 +42,20 @@ pub enum Next {
 /// What can't be read, and where.
 #[derive(Clone, Copy, Debug)]
 pub struct Fault {
-    /// Why it can't.
+    /// Why it can't be read.
     pub cause: CaptureFault,
     /// How many octets of the file there are from its first one on.
     pub left: usize,
 }
 
-/// What stands in front of the rest of a file.
+/// What stands at the front of the rest of a file.
 #[derive(Clone, Copy, Debug)]
 pub enum Item<'a> {
     /// A packet that was captured.
     Packet(Packet<'a>),
-    /// Something else, as the description of an interface.
+    /// Something else, such as the description of an interface.
     Passed,
-    /// What can't be read. Nothing behind it is to be.
+    /// What can't be read. Nothing after it is read.
     Faulty(Fault),
 }
 
@@ -80,9 +80,9 @@ impl Model for Capture {
 }
 
 impl Capture {
-    /// The capture that a file is, of which nothing was read. `None` where it begins neither with a
-    /// magic number of pcap, in either order of octets, nor with the kind of a section header of
-    /// pcapng.
+    /// Returns the capture that a file is; nothing of it was read. `None` if it begins neither
+    /// with a magic number of pcap, in either order of octets, nor with the kind of a section
+    /// header of pcapng.
     pub fn of(alloc: Global, file: &[u8]) -> Option<Capture>
         ensures { MatchOption result (start_of file.now ≡ None) (λ c. start_of file.now ≡ Some c) }
     {
@@ -94,12 +94,12 @@ impl Capture {
         })
     }
 
-    /// Takes what stands in front of the rest of the file, and answers what it is, and the rest
-    /// behind it.
+    /// Takes what stands at the front of the rest of the file, and returns what it is, and the rest
+    /// after it.
     ///
     /// # Errors
     ///
-    /// `AllocError` where there is no memory for an interface.
+    /// `AllocError` if there is no memory for an interface.
     pub fn take<'a>(&mut self, text: &'a [u8]) -> Result<(Item<'a>, &'a [u8]), AllocError>
         requires { 0 < length text.now }
         ensures taken { IfOk result (λ x. HasTaken self.old text.now (item_text x.0) self.new
@@ -120,7 +120,7 @@ impl Capture {
     ///
     /// # Errors
     ///
-    /// `AllocError` where there is no memory for its interface.
+    /// `AllocError` if there is no memory for its interface.
     fn pass_header<'a>(&mut self, text: &'a [u8]) -> Result<(Item<'a>, &'a [u8]), AllocError>
         requires some { 0 < length text.now }
         requires next { self.old.next ≡ Next.FileHeader }
@@ -160,7 +160,7 @@ impl Capture {
     ///
     /// # Errors
     ///
-    /// `AllocError` where there is no memory for an interface.
+    /// `AllocError` if there is no memory for an interface.
     fn read_block<'a>(&mut self, text: &'a [u8]) -> Result<(Item<'a>, &'a [u8]), AllocError>
         requires some { 0 < length text.now }
         requires next { self.old.next ≡ Next.Block }
@@ -181,7 +181,8 @@ impl Capture {
     ///
     /// # Errors
     ///
-    /// `AllocError` where there is no memory for an interface; within that the fault of the body.
+    /// `AllocError` if there is no memory for an interface; within that the fault of the body, if
+    /// it has one.
     fn read_body<'a>(
         &mut self,
         block: Block<'a>,
@@ -208,7 +209,7 @@ impl Capture {
     ///
     /// # Errors
     ///
-    /// That of the header.
+    /// The fault of the header, if it has one.
     fn begin_section<'a>(
         &mut self,
         order: ByteOrder,
@@ -230,7 +231,8 @@ impl Capture {
     ///
     /// # Errors
     ///
-    /// `AllocError` where there is no memory for it; within that the fault of the block.
+    /// `AllocError` if there is no memory for it; within that the fault of the block, if it has
+    /// one.
     fn add_interface<'a>(
         &mut self,
         order: ByteOrder,
@@ -253,7 +255,7 @@ impl Capture {
     }
 }
 
-/// The item of a packet that was read.
+/// Returns the item of a packet that was read.
 fn packet_item<'a>(read: Result<Packet<'a>, CaptureFault>) -> Result<Item<'a>, CaptureFault>
     ensures found { IfOk read.entry (λ packet. IfOk result (λ item. item_text item
         ≡ Captured (packet_text packet))) }
@@ -265,7 +267,7 @@ fn packet_item<'a>(read: Result<Packet<'a>, CaptureFault>) -> Result<Item<'a>, C
     }
 }
 
-/// That the front of a text can't be read, and no rest.
+/// Returns that the front of a text can't be read, and no rest.
 fn faulty<'a>(cause: CaptureFault, text: &'a [u8]) -> (Item<'a>, &'a [u8])
     ensures item { item_text result.0 ≡ Faulty (record { cause = cause; left = length text.now }) }
     ensures rest { result.1.now ≡ [] }
@@ -274,7 +276,7 @@ fn faulty<'a>(cause: CaptureFault, text: &'a [u8]) -> (Item<'a>, &'a [u8])
     (Item::Faulty(Fault { cause, left }), &text[left..])
 }
 
-/// How a file begins: what stands in front, and the order of the octets of its numbers.
+/// Returns how a file begins: what stands at its front, and the order of the octets of its numbers.
 fn beginning(file: &[u8]) -> Option<(Next, ByteOrder)>
     ensures { option_map (λ x. unread x.0 x.1) result ≡ start_of file.now }
 {

@@ -10,13 +10,13 @@ use crate::fault::CaptureFault;
 use crate::order::{ByteOrder, number, short};
 use crate::packet::{Interface, Packet};
 
-/// The octets of a record in front of those of its packet.
+/// The octets of a record before its packet.
 const RECORD_HEADER: usize = 16;
 
 /// The octets of the header of a file.
 const FILE_HEADER: usize = 24;
 
-/// Whether a file begins with a magic number in this order.
+/// Returns `true` if a file begins with a magic number in this order.
 pub(crate) fn has_magic(order: ByteOrder, text: &[u8]) -> bool
     requires { 4 ≤ length text.now }
     ensures { result ≡ records.has_magic order text.now }
@@ -25,11 +25,11 @@ pub(crate) fn has_magic(order: ByteOrder, text: &[u8]) -> bool
     magic == 0xA1B2_C3D4 || magic == 0xA1B2_3C4D
 }
 
-/// The interface that the header of a file describes, and what is behind the header.
+/// Returns the interface that the header of a file describes, and what is after the header.
 ///
 /// # Errors
 ///
-/// `CutOff` or `BadVersion`.
+/// `CutOff` if the text ends in it, or `BadVersion` if its version isn't read.
 pub(crate) fn take_header(order: ByteOrder, text: &[u8]) -> Result<(Interface, &[u8]), CaptureFault>
     ensures found { IfOk result (λ x. SpellsHeader order x.0 text.now x.1.now) }
     ensures only { (i : Interface) (rest : List ℕ) → SpellsHeader order i text.now rest →
@@ -50,11 +50,11 @@ pub(crate) fn take_header(order: ByteOrder, text: &[u8]) -> Result<(Interface, &
     Ok((interface, rest))
 }
 
-/// The record that stands in front of a text, of a packet of this link type, and what is behind it.
+/// Returns the record at the front of a text, of a packet of this link type, and what is after it.
 ///
 /// # Errors
 ///
-/// `CutOff`.
+/// `CutOff` if the text ends in it.
 pub(crate) fn take_record(
     order: ByteOrder,
     link_type: u16,

@@ -1,6 +1,7 @@
 //! What a UDP datagram carries in a captured packet, over Ethernet, loopback or neither, and IPv4
 //! or IPv6.
-ghost use Rattle.std.specs.Prelude.{◌≡◌, ◌≤◌, length, unwrap_or, IfOk};
+ghost use Rattle.std.specs.Option.{is_some};
+ghost use Rattle.std.specs.Prelude.{◌≡◌, ◌≤◌, drop, length, unwrap_or, IfOk, IfSome};
 ghost use Rattle.std.specs.Result.{result_err};
 ghost use Rattle.captures.specs.Packets.{packet_text};
 ghost use Rattle.captures.specs.Units as units;
@@ -10,19 +11,26 @@ use crate::packet::Packet;
 use cfd_bits::get;
 use std::fmt;
 
+/// The link type of Wireshark's upper PDUs.
+const UPPER: u16 = 252;
+
+/// What stands before an upper PDU that is one of CFDP: the tag of the dissector's name, and the
+/// tag that ends the tags.
+const UPPER_HEADER: [u8; 12] = [0, 12, 0, 4, b'c', b'f', b'd', b'p', 0, 0, 0, 0];
+
 /// Why nothing is read in a captured packet.
 #[derive(Clone, Copy, Debug, PartialEq, Eq)]
 pub enum Passed {
     /// Fewer octets of it were captured than it had: these, and all of these.
     CutShort(usize, u32),
-    /// Its link type is none that is read: this one.
+    /// Packets of its link type aren't read: this one.
     OtherLink(u16),
     /// It is no IP packet.
     NotIp,
     /// It is a fragment of an IP packet.
     Fragment,
-    /// What its IP packet carries is no UDP datagram: its protocol number, or of IPv6 the kind of
-    /// the next header.
+    /// Its IP packet carries no UDP datagram: its protocol number, or the kind of the next header
+    /// if it is IPv6.
     NotUdp(u8),
     /// A header says that there is more, or less, than there can be.
     Malformed,
@@ -48,11 +56,11 @@ impl fmt::Display for Passed {
     }
 }
 
-/// What is captured as it is: link types 147 to 162, which are free for any use. Else it is the
-/// payload of the UDP datagram in a packet.
+/// Returns what is captured as it is if the link type is 147 to 162, which are free for any use;
+/// the PDU in an upper PDU of CFDP (252); and otherwise the payload of a packet's UDP datagram.
 ///
-/// The link types that are read are those of Ethernet (1), loopback (0, 108), IP without a link
-/// header (101, 12, 14), and Linux's cooked ones (113, 276).
+/// The link types that are read are Ethernet (1), loopback (0, 108), IP without a link header (101,
+/// 12, 14), and Linux's cooked captures (113, 276).
 ///
 /// # Errors
 ///
@@ -66,17 +74,31 @@ pub fn unit_of(packet: Packet<'_>) -> Result<&[u8], Passed>
         return Err(Passed::CutShort(octets.len(), packet.original));
     }
     if is_free(packet.link_type) {
-        Ok(octets)
-    } else {
-        udp_payload(packet.link_type, octets)
+        return Ok(octets);
+    }
+    match upper_pdu(packet.link_type, octets) {
+        Some(pdu) => Ok(pdu),
+        None => udp_payload(packet.link_type, octets),
     }
 }
 
-/// The payload of the UDP datagram in the octets of a packet.
+/// Returns the PDU after its header if the packet is an upper PDU of CFDP.
+fn upper_pdu(link_type: u16, octets: &[u8]) -> Option<&[u8]>
+    ensures found { IfSome result (λ pdu. pdu.now ≡ drop 12 octets.now) }
+    ensures upper { is_some result ≡ units.is_upper link_type octets.now }
+{
+    if link_type == UPPER {
+        octets.strip_prefix(UPPER_HEADER.as_slice())
+    } else {
+        None
+    }
+}
+
+/// Returns the payload of the UDP datagram in the octets of a packet.
 ///
 /// # Errors
 ///
-/// The first of `Passed` that holds, but for `CutShort`.
+/// The first of `Passed` that holds, except `CutShort`.
 #[tactic(auto, unfolding(crate::specs::Units::udp_payload, crate::specs::Units::udp_fault))]
 fn udp_payload(link_type: u16, octets: &[u8]) -> Result<&[u8], Passed>
     ensures found { IfOk result (λ unit. unit.now ≡ units.udp_payload link_type octets.now) }
@@ -87,18 +109,18 @@ fn udp_payload(link_type: u16, octets: &[u8]) -> Result<&[u8], Passed>
     payload_of(datagram)
 }
 
-/// Whether a link type is one of those for any use.
+/// Returns `true` if a link type is free for any use.
 fn is_free(link_type: u16) -> bool
     ensures { result ≡ units.is_free link_type }
 {
     147 <= link_type && link_type <= 162
 }
 
-/// The IP packet behind the link header.
+/// Returns the IP packet after the link header.
 ///
 /// # Errors
 ///
-/// `OtherLink`, `Malformed` or `NotIp`.
+/// `OtherLink`, `Malformed` or `NotIp`: the first that holds, if one does.
 fn network_packet(link_type: u16, octets: &[u8]) -> Result<&[u8], Passed>
     ensures found { IfOk result (λ network. network.now
         ≡ units.network_in link_type octets.now) }
@@ -117,7 +139,7 @@ fn network_packet(link_type: u16, octets: &[u8]) -> Result<&[u8], Passed>
     Ok(network)
 }
 
-/// The octets of a link header, where the link type is one that is read.
+/// Returns the number of octets of a link header, if the link type is read.
 fn link_header(link_type: u16) -> Option<usize>
     ensures { result ≡ units.link_header link_type }
 {
@@ -134,7 +156,7 @@ fn link_header(link_type: u16) -> Option<usize>
     }
 }
 
-/// Whether a link header says that an IP packet is behind it.
+/// Returns `true` if a link header says that an IP packet is after it.
 fn says_ip(link_type: u16, octets: &[u8]) -> bool
     requires { unwrap_or (units.link_header link_type) 0 ≤ length octets.now }
     ensures { result ≡ units.says_ip link_type octets.now }
@@ -147,18 +169,18 @@ fn says_ip(link_type: u16, octets: &[u8]) -> bool
     }
 }
 
-/// Whether an EtherType is that of IPv4 or IPv6.
+/// Returns `true` if an EtherType is IPv4's or IPv6's.
 fn is_ip_type(ether_type: u64) -> bool
     ensures { result ≡ units.is_ip_type ether_type }
 {
     ether_type == 0x0800 || ether_type == 0x86DD
 }
 
-/// The UDP datagram in an IP packet.
+/// Returns the UDP datagram in an IP packet.
 ///
 /// # Errors
 ///
-/// `NotIp`, or that of the packet.
+/// `NotIp` if its version is neither 4 nor 6, or the fault of the packet.
 fn datagram_of(network: &[u8]) -> Result<&[u8], Passed>
     ensures found { IfOk result (λ datagram. datagram.now ≡ units.datagram_in network.now) }
     ensures refused { result_err result ≡ units.network_fault network.now }
@@ -173,11 +195,11 @@ fn datagram_of(network: &[u8]) -> Result<&[u8], Passed>
     }
 }
 
-/// The UDP datagram in an IPv4 packet (RFC 791, 3.1).
+/// Returns the UDP datagram in an IPv4 packet (RFC 791, 3.1).
 ///
 /// # Errors
 ///
-/// `Malformed`, `Fragment` or `NotUdp`.
+/// `Malformed`, `Fragment` or `NotUdp`: the first that holds, if one does.
 fn datagram_in_four(network: &[u8]) -> Result<&[u8], Passed>
     ensures found { IfOk result (λ datagram. datagram.now ≡ units.datagram_in_four network.now) }
     ensures refused { result_err result ≡ units.four_fault network.now }
@@ -200,11 +222,11 @@ fn datagram_in_four(network: &[u8]) -> Result<&[u8], Passed>
     Ok(&network[header..total])
 }
 
-/// The UDP datagram in an IPv6 packet without extension headers (RFC 8200, 3).
+/// Returns the UDP datagram in an IPv6 packet without extension headers (RFC 8200, 3).
 ///
 /// # Errors
 ///
-/// `Malformed`, `Fragment` or `NotUdp`.
+/// `Malformed`, `Fragment` or `NotUdp`: the first that holds, if one does.
 fn datagram_in_six(network: &[u8]) -> Result<&[u8], Passed>
     ensures found { IfOk result (λ datagram. datagram.now ≡ units.datagram_in_six network.now) }
     ensures refused { result_err result ≡ units.six_fault network.now }
@@ -228,11 +250,11 @@ fn datagram_in_six(network: &[u8]) -> Result<&[u8], Passed>
     Ok(datagram)
 }
 
-/// The payload of a UDP datagram (RFC 768).
+/// Returns the payload of a UDP datagram (RFC 768).
 ///
 /// # Errors
 ///
-/// `Malformed`.
+/// `Malformed` if its length doesn't fit.
 fn payload_of(datagram: &[u8]) -> Result<&[u8], Passed>
     ensures found { IfOk result (λ unit. unit.now ≡ units.payload_in datagram.now) }
     ensures refused { result_err result ≡ units.datagram_fault datagram.now }

@@ -38,7 +38,7 @@ pub field-one : (o : List ℕ) (at : ℕ) → field o at 1 ≡ bit o at
 unfolding field
 field-one o at = let e : at + 0 ≡ at = omega arith in rw e (omega arith)
 
--- two fields, the second behind the first, are one field
+-- two fields, the second after the first, are one field
 pub field-split : (o : List ℕ) (at v w : ℕ) → field o at (v + w) ≡ field o at v * 2 ^ w + field o (at + v) w
 unfolding field
 field-split o at v zero = let e : v + 0 ≡ v = omega arith in rw e (omega arith)
@@ -113,6 +113,6 @@ field_of_octets a b count n at i w h e room =
 pub has_bits : (o : List ℕ) (at w : ℕ) → HasBits (field o at w) o at w
 has_bits o at w = record { below = field-below o at w; digits = λ i h. field-bit o at w i h }
 
--- a number's octets in front
+-- a number's octets at the front
 pub field_written : (count n : ℕ) (rest : List ℕ) → n < 256 ^ count → field (octets count n ++ rest) 0 (8 * count) ≡ n
 field_written count n rest h = field_between [] rest count n 0 (8 * count) h refl refl

@@ -15,7 +15,7 @@ unfolding octets
 length-octets zero n = refl
 length-octets (suc count) n = length_push (octets count (n / 256)) (n % 256) ∙ rw (length-octets count (n / 256)) (omega arith)
 
--- a field of a front is that of the whole
+-- a field of a front is the same field of the whole
 pub field-append_left : (a b : List ℕ) (at w : ℕ) → at + w ≤ 8 * length a → field (a ++ b) at w ≡ field a at w
 unfolding field bit
 field-append_left a b at zero h = refl
@@ -23,7 +23,7 @@ field-append_left a b at (suc w) h =
     let one : get_or (a ++ b) ((at + w) / 8) 0 ≡ get_or a ((at + w) / 8) 0 = get_or_append_left a b 0 ((at + w) / 8) (omega arith) in
     rw (field-append_left a b at w (omega arith), one) refl
 
--- a field behind a front
+-- a field after a front
 pub field-append_right : (a b : List ℕ) (at w : ℕ) → field (a ++ b) (8 * length a + at) w ≡ field b at w
 unfolding field bit
 field-append_right a b at zero = refl
@@ -32,7 +32,7 @@ field-append_right a b at (suc w) =
     let low : (8 * length a + at + w) % 8 ≡ (at + w) % 8 = omega arith in
     rw (field-append_right a b at w, place, low, get_or-append-add a b ((at + w) / 8) 0) refl
 
--- a field behind the first octets
+-- a field after the first octets
 pub field-drop : (n : ℕ) (a : List ℕ) (at w : ℕ) → field (drop n a) at w ≡ field a (8 * n + at) w
 unfolding field bit
 field-drop n a at zero = refl

@@ -66,7 +66,7 @@ changed-code b j w v small h room =
     let three : 1 * 2 ^ k % 2 ^ 32 ≡ 2 ^ k = one_shl k 32 (omega arith) in
     ap (λ n. (n + v) * 2 ^ k % 2 ^ 32 + b % (1 * 2 ^ k % 2 ^ 32)) one ∙ ap (λ n. n + b % (1 * 2 ^ k % 2 ^ 32)) two ∙ ap (λ n. x * 2 ^ k + b % n) three
 
--- the bits of the octet at place p are changed, and no others
+-- the bits of the octet at index p are changed, and no others
 pub set-outside : (o : List ℕ) (p j w v : ℕ) → v < 2 ^ w → j + w ≤ 8 → p < length o → SameOutside (8 * p + j) w o (set o p (changed (get_or o p 0) j w v))
 unfolding bit
 set-outside o p j w v h room inside i away =

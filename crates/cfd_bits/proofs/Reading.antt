@@ -34,7 +34,7 @@ octet_more o at n p b m a e small eq =
     let whole : field o at m ≡ field o at (n + 8) = ap (λ k. field o at k) eq in
     omega (arith, it, same, split, whole)
 
--- and the first bits of the octet behind
+-- and the first bits of the octet after it
 pub bits_more : (o : List ℕ) (at n p r b m : ℕ) → at + n ≡ 8 * p → b ≡ get_or o p 0 → b < 256 → r ≤ 8 → m ≡ n + r → field o at m ≡ field o at n * 2 ^ r + b / 2 ^ (8 - r)
 bits_more o at n p r b m a e small few eq =
     let it : field o (at + n) r ≡ b / 2 ^ (8 - 0 - r) % 2 ^ r = field_in_octet o (at + n) r p 0 b (omega arith) (omega arith) (sym e) in
@@ -44,7 +44,7 @@ bits_more o at n p r b m a e small few eq =
     let gone : 8 - 0 - r ≡ 8 - r = omega arith in
     ap (λ k. field o at k) eq ∙ field-split o at n r ∙ ap (λ k. field o at n * 2 ^ r + k) (it ∙ ap (λ k. b / 2 ^ k % 2 ^ r) gone ∙ same)
 
--- the bits of the octet behind, as they are shifted in
+-- the bits of the octet after it, as they are shifted in
 pub shifted_in : (o : List ℕ) (at n p r b m v : ℕ) → v ≡ field o at n → at + n ≡ 8 * p → b ≡ get_or o p 0 → b < 256 → r ≤ 8 → m ≡ n + r → m ≤ 64 → v * 2 ^ r % 2 ^ 64 + b / 2 ^ (8 - r) ≡ field o at m
 shifted_in o at n p r b m v is a e small few eq narrow =
     let whole : field o at m ≡ field o at n * 2 ^ r + b / 2 ^ (8 - r) = bits_more o at n p r b m a e small few eq in

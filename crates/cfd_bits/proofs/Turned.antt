@@ -1,4 +1,4 @@
--- Octets that were loaded as a number the other way round, and turned back.
+-- Octets that were loaded as a number in reverse order, and reversed again.
 use Rattle.std.proofs.Common.{◌≡◌, ℕ, zero, suc, ◌+◌, ◌*◌, ◌^◌, ◌<◌, List, [], ◌∷◌, get_or, refl, sym, ap, ◌∙◌, arith}
 use Rattle.std.specs.Int.{w32, w64, from_le_bytes, from_be_bytes, to_le_bytes, to_be_bytes, swap_bytes}
 use Rattle.std.proofs.lemmas.Nat.{le_bytes_4, le_bytes_8, be_bytes_4, be_bytes_8}

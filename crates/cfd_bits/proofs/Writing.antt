@@ -5,7 +5,8 @@ use Rattle.cfd_bits.specs.Field.{field, SameOutside}
 use Rattle.cfd_bits.proofs.BitFields.{field-split, field-same}
 use Rattle.cfd_bits.proofs.Octet.{changed, set-outside, set-field}
 
--- The bits from `end` on are those of the value, what is left of it goes before them, and all else is as it was.
+-- The bits from `end` on are the value's, what is left of it goes before them, and all else is as
+-- it was.
 pub record IsWritten (at width value : ℕ) (old : List ℕ) (end left : ℕ) (new : List ℕ) : Type 0 where
   pub low : at ≤ end
   pub high : end ≤ at + width

@@ -1,6 +1,6 @@
--- Counters that stay at their greatest value.
+-- Counters that stay at their greatest value if they reach it.
 use Rattle.std.specs.Prelude.{ℕ, ◌+◌, ◌-◌, ◌^◌, max, min}
 
--- one more, save at the greatest value
+-- one more, or the same if the counter has its greatest value
 abbrev pub raised : ℕ → ℕ
 raised n = max n (min (n + 1) (2 ^ 64 - 1))

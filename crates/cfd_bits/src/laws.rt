@@ -3,8 +3,7 @@ ghost use Rattle.std.specs.Prelude.{◌≡◌, ℕ, ◌+◌, ◌*◌, ◌^◌, �
 ghost use Rattle.std.specs.Prelude.{drop, slice_index};
 ghost use Rattle.cfd_bits.specs.Field.{field, octets, HasBits};
 
-/// A field is the number whose binary digits are its bits, the first the most significant, and no
-/// other number is.
+/// A field is the one number whose binary digits are its bits, the first the most significant.
 pub fn a_field_is_its_bits()
     ensures { (text : List ℕ) (at width n : ℕ) → HasBits n text at width
         ↔ (n ≡ field text at width) }

@@ -3,7 +3,7 @@
 //! Every codec of the stack reads and writes by these calls. Bits are numbered as the CCSDS books
 //! number them: bit 0 is the most significant bit of the first octet, and the first bit of a field
 //! is its most significant (CCSDS 133.0-B-2, 1.6.3). None of the calls takes memory or can fail:
-//! that a range lies in the octets, and that a value fits its field, are conditions of the caller.
+//! the range must lie in the octets, and a value must fit its field.
 //!
 //! Tested by `tests/transcripts/bits.txt`.
 #![tactic(auto)]
@@ -18,8 +18,8 @@ mod words;
 pub use laws::{a_field_is_its_bits, octets_read_are_written, what_is_written_is_read};
 pub use words::{put_eight, put_four, read_eight, read_four};
 
-/// The number that `width` bits (0 to 64) from bit `at_bit` on spell, the first of them the most
-/// significant.
+/// Returns the number in the `width` bits (0 to 64) from bit `at_bit` on. The first of them is the
+/// most significant. All of them must lie in the octets.
 #[inline]
 #[tactic(auto, using(crate::proofs::Steps::field_none))]
 pub fn get(bytes: &[u8], at_bit: usize, width: usize) -> u64
@@ -51,7 +51,7 @@ pub fn get(bytes: &[u8], at_bit: usize, width: usize) -> u64
     (value << in_last) + u64::from(bytes[last] >> (8 - in_last))
 }
 
-/// The number that the first `count` octets (0 to 8) spell, the first of them the most significant.
+/// Returns the number in the first `count` octets (0 to 8), the most significant first.
 #[inline]
 pub fn read_uint(bytes: &[u8], count: usize) -> u64
     requires room { count ≤ length bytes.now }
@@ -66,7 +66,8 @@ pub fn read_uint(bytes: &[u8], count: usize) -> u64
     value
 }
 
-/// Changes the `width` bits (0 to 64) from bit `at_bit` on to the value, and no others.
+/// Sets the `width` bits (0 to 64) from bit `at_bit` on to the value, which must fit them. Other
+/// bits stay as they were.
 pub fn put_bits(bytes: &mut [u8], at_bit: usize, width: usize, value: u64)
     requires room { at_bit + width ≤ 8 * length bytes.old }
     requires reach { at_bit + width < 2 ^ 64 }
@@ -94,7 +95,7 @@ pub fn put_bits(bytes: &mut [u8], at_bit: usize, width: usize, value: u64)
     }
 }
 
-/// The octet with the `width` bits from its bit `from` on changed to the value.
+/// Returns the octet with the `width` bits from its bit `from` on set to the value.
 fn with_bits(octet: u8, from: usize, width: usize, value: u8) -> u8
     requires room { from + width ≤ 8 }
     requires fits { value < 2 ^ width }
@@ -108,7 +109,7 @@ fn with_bits(octet: u8, from: usize, width: usize, value: u8) -> u8
 }
 
 /// Writes the number into the first `count` octets (0 to 8), the most significant first. The octets
-/// behind stay.
+/// after them stay as they were.
 #[tactic(auto, using(crate::proofs::Steps::octets_more, crate::proofs::Steps::octets_none))]
 pub fn write_uint(out: &mut [u8], count: usize, value: u64)
     requires room { count ≤ length out.old }
@@ -124,8 +125,8 @@ pub fn write_uint(out: &mut [u8], count: usize, value: u64)
 }
 
 /// Writes the number into `count` octets (0 to 8) from octet `at` on, the most significant first,
-/// and says where they end: so a codec writes one part behind another. The octets before and behind
-/// stay.
+/// and returns the offset of their end, so that a codec writes one part after another. The octets
+/// before and after them stay as they were.
 pub fn put_uint(out: &mut [u8], at: usize, count: usize, value: u64) -> usize
     requires room { at + count ≤ length out.old }
     requires narrow { count ≤ 8 }
@@ -139,8 +140,8 @@ pub fn put_uint(out: &mut [u8], at: usize, count: usize, value: u64) -> usize
     end
 }
 
-/// Writes the octets from octet `at` on, and says where they end. The octets before and behind
-/// stay.
+/// Writes the octets from octet `at` on, and returns the offset of their end. The octets before and
+/// after them stay as they were.
 pub fn put_bytes(out: &mut [u8], at: usize, bytes: &[u8]) -> usize
     requires room { at + length bytes.now ≤ length out.old }
     ensures end { result ≡ at + length bytes.now }

@@ -1,12 +1,12 @@
 // Numbers of four and of eight octets, read and written at once. The octets are loaded as one
-// number, which turns them round, and then turned back: LLVM makes one load of it, and none of a
-// loop that multiplies.
+// number, which reverses their order, and the order is then reversed again: if it is written so,
+// LLVM makes one load of it; a loop that multiplies gets none.
 ghost use Rattle.std.specs.Prelude.{◌≡◌, ◌+◌, ◌≤◌, ◌++◌, length, take, drop};
 ghost use Rattle.cfd_bits.specs.Field.{field, octets};
 
 use crate::put_bytes;
 
-/// The number that the first four octets spell, the first of them the most significant.
+/// Returns the number in the first four octets, the most significant first.
 #[inline(always)]
 pub fn read_four(bytes: &[u8]) -> u32
     requires { 4 ≤ length bytes.now }
@@ -16,7 +16,7 @@ pub fn read_four(bytes: &[u8]) -> u32
     turned.swap_bytes()
 }
 
-/// The number that the first eight octets spell, the first of them the most significant.
+/// Returns the number in the first eight octets, the most significant first.
 #[inline(always)]
 pub fn read_eight(bytes: &[u8]) -> u64
     requires { 8 ≤ length bytes.now }
@@ -28,8 +28,8 @@ pub fn read_eight(bytes: &[u8]) -> u64
     turned.swap_bytes()
 }
 
-/// Writes the number into four octets from octet `at` on, the most significant first, and says
-/// where they end. The octets before and behind stay.
+/// Writes the number into four octets from octet `at` on, the most significant first, and returns
+/// the offset of their end. The octets before and after them stay as they were.
 #[inline(always)]
 #[tactic(auto, using(crate::proofs::Turned::four_written))]
 pub fn put_four(out: &mut [u8], at: usize, value: u32) -> usize
@@ -41,8 +41,8 @@ pub fn put_four(out: &mut [u8], at: usize, value: u32) -> usize
     put_bytes(out, at, &value.to_be_bytes())
 }
 
-/// Writes the number into eight octets from octet `at` on, the most significant first, and says
-/// where they end. The octets before and behind stay.
+/// Writes the number into eight octets from octet `at` on, the most significant first, and returns
+/// the offset of their end. The octets before and after them stay as they were.
 #[inline(always)]
 #[tactic(auto, using(crate::proofs::Turned::eight_written))]
 pub fn put_eight(out: &mut [u8], at: usize, value: u64) -> usize

@@ -13,7 +13,7 @@ use Rattle.cfdp_any_order_script.specs.Performing.{Bursts, Flushes, HappensOnce,
 pub times_more : (Step : PlayState → PlayState → Type 0) (count : ℕ) (old mid new : PlayState) → Times Step count old mid → Step mid new → Times Step (count + 1) old new
 times_more Step count old mid new all one = subst (λ n. Times Step n old new) (sym (add-one count)) (mid, all, one)
 
--- the event of each turn behind the seventh
+-- the event of each turn after the seventh
 pub last_turn : (turn : ℕ) → 7 ≤ turn → turn_event turn ≡ event.Deliver Two Data
 last_turn zero h = absurd (omega arith)
 last_turn (suc zero) h = absurd (omega arith)
@@ -51,7 +51,7 @@ pub spreading_ended : {X : Type 0} (s : Side) (r : Result X Answer) (y why : Ans
     SendingEnds s why mid new → Spreads s (result_err r) old new
 spreading_ended s r y why count old mid new is same all ends = at_err (λ a. Spreads s a old new) r y why is same (count, mid, all, inr ends)
 
--- a flush behind all polls that did
+-- a flush after all polls that did
 pub burst_ended : {X : Type 0} (s : Side) (r : Result X Answer) (y why : Answer) (old mid new : PlayState) → r ≡ Err y → y ≡ why → PollsAll s None old mid → IsOther why →
     HappensOnce (event.Flush s) (Some why) mid new → Bursts s (result_err r) old new
 burst_ended s r y why old mid new is same all other one = at_err (λ a. Bursts s a old new) r y why is same (inr (mid, all, (other, one)))
@@ -60,7 +60,7 @@ burst_ended s r y why old mid new is same all other one = at_err (λ a. Bursts s
 pub performs_as : (c d : Command) (a b : Option Answer) (old new : PlayState) → c ≡ d → a ≡ b → Performs d b old new → Performs c a old new
 performs_as c d a b old new is same done = subst (λ (x : Command). Performs x a old new) (sym is) (subst (λ (x : Option Answer). Performs d x old new) (sym same) done)
 
--- ---- rounds of a recovery, behind the first settling
+-- ---- rounds of a recovery, after the first settling
 pub record HasRecovered (count : ℕ) (old new : PlayState) : Type 0 where
   pub first : PlayState
   pub settles : Settles None old first

@@ -83,7 +83,7 @@ AllNoted files a b c d e f w = IsNoted 1 a b c w.one × IsNoted 2 d e f w.two ×
 pub all_on : (files : List FileLine) (a : ℕ) (b : List ℕ) (c : ℕ) (d : ℕ) (e : List ℕ) (f : ℕ) (v w : WorldKept) → GoesOnward v w → AllNoted files a b c d e f v → AllNoted files a b c d e f w
 all_on files a b c d e f v w g n = (noted_on 1 a b c v.one w.one (g.0 One) n.0, noted_on 2 d e f v.two w.two (g.0 Two) n.1, sources_on files v w g.1 n.2)
 
--- a station that starts anew
+-- a station that restarts
 pub noted_anew : (station lives : ℕ) (told now : List ℕ) (completed count : ℕ) (k l : EndKept) → BeginsAnew k l → IsNoted station lives told completed k →
     now ≡ flat_map (indication_line station) k.station.entity.state.table.told → count ≡ completed + count_by (is_own_completion station) k.station.entity.state.table.told →
     IsNoted station (lives + 1) (told ++ now) count l
@@ -146,7 +146,7 @@ not_started first number restarted.Done k unchanged is not = absurd (not refl)
 not_started first number restarted.NumberUsed k unchanged is not = is.1
 not_started first number restarted.FrameUsed k unchanged is not = is.2
 
--- ---- what is told of all lives
+-- ---- what is indicated of all lives
 pub all_lines : (station lives : ℕ) (told : List ℕ) (completed : ℕ) (k : EndKept) → IsNoted station lives told completed k → flat_map (indication_line station) (k.told_before ++ k.station.entity.state.table.told)
     ≡ told ++ flat_map (indication_line station) (drop k.station.entity.state.table.gone k.station.entity.state.table.told)
 all_lines station lives told completed k n =
@@ -161,7 +161,7 @@ all_complete station lives told completed k n =
     let now = k.station.entity.state.table.told in
     sum_by-append _ k.told_before now ∙ (ap (λ (x : ℕ). x + count_by own now) (sym n.completed) ∙ ap (λ (x : ℕ). completed + count_by own (drop x now)) (sym n.none_gone))
 
--- ---- where nothing was called
+-- ---- when nothing was called
 pub happened_none : (s : Side) (w : WorldKept) → Happened s [] w w
 happened_none s w = record { same = refl; follow = λ before is. (before, refl, is) }
 

@@ -55,14 +55,14 @@ pub sends_none : (s : Side) (calls : List Call) (usually answer : Option Answer)
     waiting ≡ f.waiting → arrived ≡ f.arrived → Sends s calls usually answer (parted v f) (parted w (frames waiting arrived))
 sends_none s calls usually answer v w f waiting arrived same happened waits stay = inr (same, record { happened = happened; frames = ap₂ frames waits stay })
 
--- ---- a frame that was to arrive
+-- ---- a frame that must arrive
 pub comes : (none : Answer) (s : Side) (lane : Option Lane) (before place : ℕ) (frame : SentFrame) (by : Delivered) (answer : Option Answer) (v w : WorldKept) (f g : Frames) →
     IsBehind lane before f.waiting place frame → answer ≡ arrival_answer by → Happened (other (side_of s)) (deliver_calls frame by) v w → g ≡ behind_delivery by frame place f →
     ComesFrom none s lane before answer (parted v f) (parted w g)
 comes none s lane before place frame by answer v w f g there same happened are =
     inr (inr (place, frame, by, there, same, others_calls s (deliver_calls frame by) (behind_delivery by frame place f) (parted v f) (parted w g) happened are))
 
--- ---- a frame that was to come damaged
+-- ---- a frame that must come damaged
 pub comes_damaged : (changed : List ℕ → List ℕ) (s : Side) (lane : Option Lane) (place : ℕ) (frame : SentFrame) (octets : List ℕ) (taken : Bool) (answer : Option Answer) (v w : WorldKept) (f g : Frames) →
     IsBehind lane 0 f.waiting place frame → IsFrame frame octets (kept_of s v) → answer ≡ damage_answer taken → Happened (other (side_of s)) (octets_calls (changed octets) taken) v w → g ≡ behind_damage taken place f →
     ComesDamaged changed s lane answer (parted v f) (parted w g)

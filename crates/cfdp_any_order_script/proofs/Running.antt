@@ -34,7 +34,7 @@ ends_picked true all c files steps old new ran = ran (Device NoMemory) refl
 ends_picked false true c files steps old new ran = ran Complete refl
 ends_picked false false c files steps old new ran = ran Incomplete refl
 
--- what a run did, of which the promise holds
+-- what a run did, if the promise holds of it
 pub run_all : (c : WorldConfig) (files : List FileLine) (steps : List Step) (first last : PlayState) (answered given : List Answered)
     → IsFirst c files first → Runs steps answered first last → given ≡ answered → KeepsPromise last.world → RunsAll c files steps
 run_all c files steps first last answered given starts runs same promised = record {

@@ -1,4 +1,4 @@
--- Entries of which each is a copy.
+-- Entries that are all copies.
 use Rattle.std.proofs.Common.{◌≡◌, ℕ, List, [], ◌∷◌, map, refl, ap, ap₂}
 use Rattle.std.specs.List.{AllZip}
 use Rattle.std.specs.FinMap.{from_entries}

@@ -5,7 +5,7 @@ use Rattle.cfdp_any_order_script.specs.declared.answer.Answer.{Answer}
 use Rattle.std.proofs.Common.{Result, Err, ◌≡◌, ◌≤◌, ◌<◌, ◌+◌, ℕ, zero, suc, None, Some, refl, sym, ap, subst, ◌∙◌, inl, inr, arith, add-one}
 use Rattle.cfdp_any_order_script.specs.Performing.{HappensOnce, IsOther, IsSettledBy, PlayState, Rests, Settles, SettlesOnce, Times, next_turn, nothing, turn_event, turns_on}
 
--- So many events, of which the last ones had nothing to do.
+-- A number of events; the last ones had nothing to do.
 pub record HasSettled (done turn idle : ℕ) (old new : PlayState) : Type 0 where
   pub all : Times SettlesOnce done old new
   pub count : ℕ

@@ -14,7 +14,7 @@ answer_name TooLong = codes "TooLong"
 answer_name NumbersSpent = codes "NumbersSpent"
 answer_name FramesSpent = codes "FramesSpent"
 
--- the answer of an event, of a command of which so many events happened before: only Nothing tells
+-- the answer of an event, after a number of events of the command that happened: only Nothing says
 -- how many
 abbrev pub after_so_many : ℕ → Answer → Answer
 after_so_many before (Usual answer) = Usual (usual.answer_after before answer)
@@ -24,12 +24,12 @@ after_so_many before TooLong = TooLong
 after_so_many before NumbersSpent = NumbersSpent
 after_so_many before FramesSpent = FramesSpent
 
--- whether memory was wanting, or a store failed
+-- whether memory ran out, or a store failed
 abbrev pub is_device_fault : Option Answer → Bool
 is_device_fault (Some (Usual answer)) = usual.is_device_fault (Some answer)
 is_device_fault _ = false
 
--- the line of a command, where it has an answer
+-- the line of a command, if it has an answer
 abbrev pub answer_text : ℕ → Option Answer → List ℕ
 answer_text line None = []
 answer_text line (Some answer) =

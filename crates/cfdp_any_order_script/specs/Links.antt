@@ -24,7 +24,7 @@ same_lane Directives Directives = true
 same_lane Data Data = true
 same_lane _ _ = false
 
--- whether a frame is of a lane, or of either where none is said
+-- whether a frame is of a lane, or of either if none is said
 abbrev pub is_of : Option Lane → SentFrame → Bool
 is_of None frame = true
 is_of (Some lane) frame = same_lane lane frame.lane
@@ -37,14 +37,14 @@ abbrev pub is_any : List SentFrame → Bool
 is_any [] = false
 is_any (frame ∷ frames) = true
 
--- It is at this place of a list, of the lane, and so many of the lane stand in front of it.
+-- It is at this index of a list, of the lane, and `before` frames of the lane stand before it.
 pub record IsBehind (lane : Option Lane) (before : ℕ) (frames : List SentFrame) (place : ℕ)
     (frame : SentFrame) : Type 0 where
   pub there : slice_get frames place ≡ Some frame
   pub of : is_of lane frame ≡ true
   pub passed : count_of lane (take place frames) ≡ before
 
--- It arrived so many frames of the lane ago, 1 being the last one.
+-- It arrived as the `back`th frame of the lane, counted from the last one as 1.
 pub record IsBack (lane : Option Lane) (back : ℕ) (frames : List SentFrame) (frame : SentFrame)
     : Type 0 where
   pub place : ℕ
@@ -53,7 +53,7 @@ pub record IsBack (lane : Option Lane) (back : ℕ) (frames : List SentFrame) (f
   pub passed : count_of lane (drop (place + 1) frames) + 1 ≡ back
 
 -- ---- frames that are made
--- so many frames of a lane and a life, from a place on
+-- `count` frames of a lane and a life, from the index `first` on
 abbrev pub made_of : (life : ℕ) → Lane → (first count : ℕ) → List SentFrame
 made_of life lane first zero = []
 made_of life lane first (suc count) = made_of life lane first count

@@ -136,7 +136,7 @@ abbrev pub IsNotDone : (why : Answer) → Option Answer → (old new : PartState
 IsNotDone why answer old new = (answer ≡ Some why) × (new ≡ old)
 
 -- ---- sending
--- The frames that a station made in these calls wait behind the others; or there was no memory to
+-- The frames that a station made in these calls wait after the others; or there was no memory to
 -- note them, and they are lost.
 abbrev pub Sends : Side → List Call → (usually answer : Option Answer) → (old new : PartState)
     → Type 0
@@ -159,20 +159,20 @@ FlushesOnce s answer old new = (result : Result (Unit {0}) AllocError) × (calls
     answer old new
 
 -- ---- what becomes of a waiting frame
--- the frames of a station without the one that waits at a place, and these that arrived
+-- the frames of a station without the one that waits at an index, and these that arrived
 abbrev pub without : ℕ → List SentFrame → Frames → Frames
 without place arrived f = record { waiting = remove f.waiting place; arrived = arrived }
 
--- what a station's frames are behind such an answer of a delivery: the frame waits no more, and is
+-- what a station's frames are after such an answer of a delivery: the frame waits no more, and is
 -- the last one that arrived; or nothing changed
 abbrev pub behind_delivery : Delivered → SentFrame → ℕ → Frames → Frames
 behind_delivery delivered.Taken frame place f = without place (f.arrived ++ frame ∷ []) f
 behind_delivery delivered.NoSuchFrame frame place f = f
 behind_delivery delivered.TooFar frame place f = f
 
--- The waiting frame of a station that has so many of its lane, or of both, in front of it arrives
--- at the other station. Where not so many wait, the answer is this one; where there is no memory to
--- note it, nothing happens.
+-- The waiting frame of a station that has `before` frames of its lane, or of both, before it
+-- arrives at the other station. If fewer wait, the answer is `none`; if there is no memory to note
+-- it, nothing happens.
 abbrev pub ComesFrom : (none : Answer) → Side → Option Lane → ℕ → Option Answer →
     (old new : PartState) → Type 0
 ComesFrom none s lane before answer old new =
@@ -191,7 +191,7 @@ Loses lane answer old new =
     × (answer ≡ None) × (new.world ≡ old.world)
     × (new.frames ≡ without place old.frames.arrived old.frames))
 
--- what a station's frames are behind a damage: the frame waits no more, or nothing changed
+-- what a station's frames are after a damage: the frame waits no more, or nothing changed
 abbrev pub behind_damage : (taken : Bool) → ℕ → Frames → Frames
 behind_damage true place f = without place f.arrived f
 behind_damage false place f = f
@@ -202,7 +202,7 @@ made_by (instead.Damaged damage) frame = damaged damage frame
 made_by (instead.Octets octets) frame = octets.now
 
 -- Octets come in the place of the oldest waiting frame of a lane, or of both: these, made of it.
--- They aren't taken where a packet may come of them.
+-- They are taken only if no packet may come of them.
 abbrev pub ComesDamaged : (made : List ℕ → List ℕ) → Side → Option Lane → Option Answer →
     (old new : PartState) → Type 0
 ComesDamaged made s lane answer old new =
@@ -216,8 +216,8 @@ ComesDamaged made s lane answer old new =
     old new)))
 
 -- ---- a frame that arrived
--- The frame that arrived so many ago, of a lane or of both, arrives again: 1 is the last one, and
--- none arrived 0 ago.
+-- The frame that arrived `back` frames ago, of a lane or of both, arrives again: 1 is the last one,
+-- and none arrived 0 ago.
 abbrev pub ComesAgain : Side → Option Lane → ℕ → Option Answer → (old new : PartState) → Type 0
 ComesAgain s lane back answer old new =
     (((count_of lane old.frames.arrived < back) ⊎ (back ≡ 0))
@@ -226,7 +226,7 @@ ComesAgain s lane back answer old new =
     × (answer ≡ arrival_answer by)
     × Calls (opposite s) (deliver_calls frame by) old.frames old new)
 
--- ---- a station that starts anew
+-- ---- a station that restarts
 -- Its frames on the link stay as they are.
 abbrev pub StartsAnew : Side → Option Answer → (old new : PlayState) → Type 0
 StartsAnew s answer old new = (result : Result Restarted AllocError) × (first : ℕ) × (number : ℕ)
@@ -258,13 +258,13 @@ HappensOnce (event.Damage s lane octets) answer old new =
     At s (ComesDamaged (λ _. octets) s (Some lane) answer) old new
 
 -- ---- commands that repeat
--- The same so many times, one after another.
+-- The same done a number of times, one after another.
 abbrev pub Times : (PlayState → PlayState → Type 0) → ℕ → (old new : PlayState) → Type 0
 Times Step zero old new = new ≡ old
 Times Step (suc count) old new = (mid : PlayState) × Times Step count old mid × Step mid new
 
--- It was done so many times; or less often, and then it had another answer. That is the command's,
--- and tells, where there was nothing more to do, how often it was done.
+-- It was done `count` times; or less often, and then it had another answer. The command has that
+-- answer, which says, if there was nothing more to do, how often it was done.
 abbrev pub Often : (Option Answer → PlayState → PlayState → Type 0) → ℕ → Option Answer →
     (old new : PlayState) → Type 0
 Often Step count None old new = Times (Step None) count old new
@@ -272,7 +272,7 @@ Often Step count (Some answer) old new = (before : ℕ) × (before < count)
     × (last : PlayState) × Times (Step None) before old last
     × (why : Answer) × (answer ≡ after_so_many before why) × Step (Some why) last new
 
--- what befalls the oldest waiting frame of both lanes
+-- what happens to the oldest waiting frame of both lanes
 abbrev pub BefallsFirst : Fate → Side → Option Answer → (old new : PlayState) → Type 0
 BefallsFirst Arrives s answer old new = At s (ComesFrom nothing s None 0 answer) old new
 BefallsFirst IsLost s answer old new = At s (Loses None answer) old new
@@ -282,11 +282,11 @@ BefallsFirst IsLost s answer old new = At s (Loses None answer) old new
 abbrev pub most_events : ℕ
 most_events = 1000000
 
--- It is another answer than that there was nothing to do.
+-- It is an answer other than that there was nothing to do.
 abbrev pub IsOther : Answer → Type 0
 IsOther why = why ≢ nothing
 
--- There were so many, and no more are tried.
+-- There were as many events as there may be, and no more are tried.
 abbrev pub IsTooLong : Answer → ℕ → (last new : PlayState) → Type 0
 IsTooLong why count last new = (why ≡ TooLong) × (count ≡ most_events) × (new ≡ last)
 
@@ -302,16 +302,16 @@ abbrev pub SettlesOnce : (old new : PlayState) → Type 0
 SettlesOnce old new = (turn : ℕ) × (HappensOnce (turn_event turn) None old new
     ⊎ HappensOnce (turn_event turn) (Some nothing) old new)
 
--- behind the eighth turn comes the first
+-- the first turn comes after the eighth
 abbrev pub next_turn : ℕ → ℕ
 next_turn turn = if nat_lt turn 7 then turn + 1 else 0
 
--- the turn so many turns behind one
+-- the turn a number of turns after one
 abbrev pub turns_on : ℕ → ℕ → ℕ
 turns_on turn zero = turn
 turns_on turn (suc count) = next_turn (turns_on turn count)
 
--- From a turn on, so many had nothing to do, one after another.
+-- From a turn on, a number of turns had nothing to do, one after another.
 abbrev pub Rests : (turn : ℕ) → ℕ → (old new : PlayState) → Type 0
 Rests turn zero old new = new ≡ old
 Rests turn (suc count) old new = (mid : PlayState) × Rests turn count old mid
@@ -332,7 +332,7 @@ abbrev pub Settles : Option Answer → (old new : PlayState) → Type 0
 Settles answer old new = (count : ℕ) × (last : PlayState) × Times SettlesOnce count old last
     × EndsSettling answer count last new
 
--- ---- with a flush behind each poll that did something
+-- ---- with a flush after each poll that did something
 -- The flush had this answer; there may have been nothing to flush.
 abbrev pub Flushes : Side → Option Answer → (old new : PlayState) → Type 0
 Flushes s None old new = HappensOnce (event.Flush s) None old new
@@ -358,7 +358,7 @@ abbrev pub Spreads : Side → Option Answer → (old new : PlayState) → Type 0
 Spreads s answer old new = (count : ℕ) × (last : PlayState)
     × Times (PollsAndFlushes s) count old last × EndsSpreading s answer count last new
 
--- ---- with one flush behind all polls
+-- ---- with one flush after all polls
 abbrev pub PollsOn : Side → (old new : PlayState) → Type 0
 PollsOn s old new = HappensOnce (event.Poll s) None old new
 
@@ -382,19 +382,19 @@ Bursts s answer old new =
 abbrev pub most_rounds : ℕ
 most_rounds = 24576
 
--- The station that is told the time next, and which: the earliest deadline of its timers, those of
--- Inactivity apart. The second station is told only where the first one has no such timer.
+-- The station that is given the time next, and which: the earliest deadline of its timers, except
+-- Inactivity. The second station is given it only if the first one has no such timer.
 abbrev pub IsNext : Side → ℕ → PlayState → Type 0
 IsNext One now p = IsLeastOther (kept_of One p.world).station.entity.state.table.armed now
 IsNext Two now p = OnlyInactivity (kept_of One p.world).station.entity.state.table.armed
     × IsLeastOther (kept_of Two p.world).station.entity.state.table.armed now
 
--- It was told so, and all was settled.
+-- It was given that, and all was settled.
 abbrev pub RecoversOnce : (old new : PlayState) → Type 0
 RecoversOnce old new = (s : Side) × (now : ℕ) × (mid : PlayState) × IsNext s now old
     × HappensOnce (event.Tick s now) None old mid × Settles None mid new
 
--- At neither station a timer is armed but those of Inactivity.
+-- At neither station a timer is armed, except those of Inactivity.
 abbrev pub IsRecovered : PlayState → Type 0
 IsRecovered p = (s : Side) →
     OnlyInactivity (kept_of s p.world).station.entity.state.table.armed
@@ -409,7 +409,8 @@ RoundEnds why old new = (s : Side) × (now : ℕ) × IsNext s now old
 abbrev pub still_armed : Answer
 still_armed = Usual (usual.Ended errors.StillArmed)
 
--- There were so many rounds, and no more are tried, though a timer is left to fire.
+-- There were as many rounds as there may be, and no more are tried, even if a timer is left to
+-- fire.
 abbrev pub IsStillArmed : Answer → ℕ → (last new : PlayState) → Type 0
 IsStillArmed why count last new = (why ≡ still_armed) × (count ≡ most_rounds) × (new ≡ last)
     × (s : Side) × (now : ℕ) × IsNext s now last
@@ -437,7 +438,7 @@ PerformsDisorder (Again p) answer old new =
     At p.from (ComesAgain p.from p.lane p.number answer) old new
 PerformsDisorder (Restart s) answer old new = StartsAnew s answer old new
 
--- A command had this answer, none where all was done.
+-- A command had this answer, none if all was done.
 abbrev pub Performs : Command → Option Answer → (old new : PlayState) → Type 0
 Performs (command.Once e) answer old new = HappensOnce e answer old new
 Performs (command.Repeat e count) answer old new = Often (HappensOnce e) count answer old new

@@ -13,14 +13,14 @@ use Rattle.cfdp_any_order_script.specs.declared.answer.Answered.{Answered}
 use Rattle.cfdp_any_order_script.specs.Answers.{answer_line, is_device_fault}
 use Rattle.cfdp_any_order_script.specs.Told.{received, told_ever}
 
--- how many puts their senders were told complete, in all their lives
+-- how many puts were indicated as complete to their senders, in all their lives
 abbrev pub puts_completed : WorldKept → ℕ
 puts_completed w =
     count_by (is_own_completion 1) (told_ever One w)
     + count_by (is_own_completion 2) (told_ever Two w)
 
--- the whole report, of so many puts asked for, of commands that answered so, and of the world that
--- they left: as that of another script, of all lives
+-- the whole report, of so many puts asked for, of commands with these answers, and of the world
+-- that they left: as the report of another script, of all lives
 abbrev pub report_text : ℕ → List Answered → WorldKept → List ℕ
 report_text all answered w =
     flat_map answer_line answered

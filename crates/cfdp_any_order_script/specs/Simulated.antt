@@ -25,8 +25,8 @@ use Rattle.cfdp_any_order_script.specs.Links.{no_frames}
 use Rattle.cfdp_any_order_script.specs.Performing.{PlayState, Runs}
 use Rattle.cfdp_any_order_script.specs.Report.{exit_of, puts_completed, report_text}
 
--- whether a command is one that no link does that keeps the order of its frames: `overtake`,
--- `repeat` or `restart`
+-- if a command is one that no link does that keeps the order of its frames: `overtake`, `repeat` or
+-- `restart`
 abbrev pub is_disorder : Command → Bool
 is_disorder (Disorder what) = true
 is_disorder _ = false
@@ -44,8 +44,8 @@ pub record IsFirst (config : WorldConfig) (files : List FileLine) (first : PlayS
   pub one : first.one ≡ no_frames
   pub two : first.two ≡ no_frames
 
--- From two such stations all commands ran, had these answers, and left the last world; of that the
--- promise holds.
+-- All commands ran from two such stations, had these answers, and left the last world; the promise
+-- holds of all that.
 pub record RunsAll (config : WorldConfig) (files : List FileLine) (steps : List Step) : Type 0
   where
     pub first : PlayState
@@ -62,9 +62,9 @@ RunsTold config files steps exit old new = (ran : RunsAll config files steps)
     × (exit ≡ exit_of ran.answered (puts_completed ran.last.world) (puts_asked steps))
     × Appends old new (report_text (puts_asked steps) ran.answered ran.last.world)
 
--- These commands ended so. Where there was no memory at the start, or none to make the report,
--- nothing is written. Where the report couldn't be written to its end, they ran all the same; of
--- what was written nothing is said.
+-- These commands ended so. If there was no memory at the start, or none to make the report, nothing
+-- is written. If the report couldn't be written to its end, they ran all the same; of what was
+-- written nothing is said.
 abbrev pub EndsRun : Exit → WorldConfig → List FileLine → List Step → (old new : Option (List ℕ))
     → Type 0
 EndsRun Complete c files steps old new = RunsTold c files steps Complete old new
@@ -77,7 +77,7 @@ EndsRun (Device (Unreadable kind)) c files steps old new = ⊥
 EndsRun (Device TooLong) c files steps old new = ⊥
 
 -- A script with such a command was bad at this line: it is the first bad one; or none is bad, but
--- something was to be shown of the run, and this is the line of the first such command.
+-- something must be shown of the run, and this is the line of the first such command.
 abbrev pub IsRefused : (disorder line : ℕ) → List ℕ → Type 0
 IsRefused disorder line text = IsFirstBad text (Some line)
     ⊎ (IsFirstBad text None × (line ≡ disorder))
@@ -87,7 +87,7 @@ abbrev pub IsFirstNoted : Script → Option ℕ → Type 0
 IsFirstNoted script first = scripts.IsFirst (option_map (λ bad. bad.line) script.first_bad)
     script.last_set script.settings first
 
--- The program ended so at a script whose first such command stands in this line.
+-- The program ended so at a script, if its first such command stands in this line.
 abbrev pub EndsDisorder : ℕ → Exit → List ℕ → (old new : Option (List ℕ)) → Type 0
 EndsDisorder line (BadScript bad) text old new = IsRefused line bad.line text × Keeps old new
 EndsDisorder line exit text old new = IsFirstBad text None
@@ -100,7 +100,7 @@ EndsAt line (BadScript bad) script old new = (IsFirstNoted script (Some bad.line
 EndsAt line exit script old new = IsFirstNoted script None
     × EndsRun exit (world_of script.settings) script.files.items script.steps.items old new
 
--- It ended so at a script that was read: at one without such a command as `cfdp_script` says.
+-- It ended so at a script that was read: if it has no such command, as `cfdp_script` says.
 abbrev pub EndsAny : Option ℕ → Exit → List ℕ → (old new : Option (List ℕ)) → Type 0
 EndsAny None exit text old new = EndsScript exit text old new
 EndsAny (Some line) exit text old new = EndsDisorder line exit text old new

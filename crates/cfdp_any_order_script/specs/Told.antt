@@ -1,4 +1,4 @@
--- What two stations told their users, in all their lives, and what is kept of that.
+-- What two stations indicated to their users, in all their lives, and what is kept of that.
 use Rattle.std.specs.Prelude.{◌≡◌, ℕ, List, [], ◌++◌, Some, length, count_by, slice_get, slice_index_or}
 use Rattle.std.specs.List.{flat_map}
 use Rattle.cfdp_header.specs.Files.{FileMap}
@@ -27,7 +27,7 @@ station_of Two = 2
 abbrev pub kept_of : Side → WorldKept → EndKept
 kept_of s w = kept_at (side_of s) w
 
--- all that a station told its user, in all its lives, in order
+-- all that a station indicated to its user, in all its lives, in order
 abbrev pub told_ever : Side → WorldKept → List Indication
 told_ever s w = (kept_of s w).told_before ++ (kept_of s w).station.entity.state.table.told
 
@@ -40,9 +40,9 @@ abbrev pub IsFrame : SentFrame → List ℕ → EndKept → Type 0
 IsFrame f octets k = (l : LifeKept) × (slice_get (all_kept k) f.life ≡ Some l)
     × (octets ≡ slice_index_or (frames_in f.lane l) f.place [])
 
--- Of the lives that a station had before, their number, the lines of all that it told in them, and
--- how many of its puts were complete by these are kept; and all that it told in this life is there.
--- (Only proofs need it.)
+-- Three things are kept of the lives that a station had before: their number, the lines of all that
+-- it indicated in them, and how many of its puts were complete by these. All that it indicated in
+-- this life is there. (Only proofs need it.)
 pub record IsNoted (station number : ℕ) (lines : List ℕ) (complete : ℕ) (k : EndKept) : Type 0 where
   pub lives : number ≡ length k.before
   pub told : lines ≡ flat_map (indication_line station) k.told_before
@@ -59,7 +59,7 @@ abbrev pub GoesOnward : (old new : WorldKept) → Type 0
 GoesOnward old new = ((s : sides.Side) → GoesOn (kept_at s old) (kept_at s new))
     × ((s : sides.Side) → sources_at s new ≡ sources_at s old)
 
--- A station started anew, and the other one went on.
+-- A station restarted, and the other one went on.
 abbrev pub Starts : sides.Side → (old new : WorldKept) → Type 0
 Starts side old new = BeginsAnew (kept_at side old) (kept_at side new)
     × GoesOn (kept_at (sides.other side) old) (kept_at (sides.other side) new)

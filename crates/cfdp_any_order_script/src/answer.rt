@@ -6,7 +6,7 @@ ghost use Rattle.cfdp_any_order_script.specs.Answers.{answer_name, after_so_many
 use link_sim::RecoverError;
 use std::fmt;
 
-/// Why a command didn't do its work, or not all of it. The report tells it.
+/// Why a command didn't do its work, or not all of it, as the report says.
 #[derive(Clone, Copy)]
 pub enum Answer {
     /// As in every script.
@@ -17,9 +17,9 @@ pub enum Answer {
     TooFar,
     /// It isn't done after 1,000,000 events.
     TooLong,
-    /// The station that is to start anew has no number left for a transaction.
+    /// The station can't restart: it has no number left for a transaction.
     NumbersSpent,
-    /// The station that is to start anew has no number left for a frame.
+    /// The station can't restart: it has no number left for a frame.
     FramesSpent,
 }
 
@@ -28,12 +28,12 @@ pub enum Answer {
 pub struct Answered {
     /// The number of its line, from 1 on.
     pub line: usize,
-    /// What it answered, where it wasn't done, or not to its end.
+    /// What it answered, if it wasn't done, or not to its end.
     pub answer: Option<Answer>,
 }
 
 impl Answered {
-    /// Whether memory or a store failed in it.
+    /// Returns `true` if memory or a store failed in it.
     pub fn is_device_fault(self) -> bool
         ensures { result ≡ Rattle.cfdp_any_order_script.specs.Answers.is_device_fault self.answer }
     {
@@ -60,7 +60,7 @@ impl Answer {
         RecoverError::StillArmed,
     ));
 
-    /// Whether it says that there was nothing to do.
+    /// Returns `true` if it says that there was nothing to do.
     pub fn is_nothing(self) -> bool
         ensures yes { result ≡ true → self ≡ nothing }
         ensures no { result ≡ false → self ≢ nothing }
@@ -71,8 +71,8 @@ impl Answer {
         }
     }
 
-    /// This answer of an event, told of a command of which so many events happened before: only
-    /// Nothing tells how many.
+    /// Returns this answer of an event, if `before` events of the command happened before: only
+    /// Nothing says how many.
     pub fn told_after(self, before: u64) -> Answer
         ensures { result ≡ after_so_many before self }
     {

@@ -4,11 +4,11 @@ ghost use Rattle.std.specs.Prelude.{◌≡◌, IfOk};
 use cfdp_store::Files;
 use std::alloc::AllocError;
 
-/// The same files once more.
+/// Returns the same files once more.
 ///
 /// # Errors
 ///
-/// `AllocError` where there is no memory for them.
+/// `AllocError` if there is no memory for them.
 pub fn copied(files: &Files) -> Result<Files, AllocError>
     ensures { IfOk result (λ copy. copy ≡ files.now) }
 {

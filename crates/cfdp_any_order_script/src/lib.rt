@@ -1,6 +1,6 @@
-//! Scripts over a link that keeps no order, and stations that start anew: their run and report.
+//! Scripts over a link that keeps no order, and stations that restart: their run and report.
 //!
-//! A script with none of the commands for that runs as `cfdp_script` says.
+//! If a script has none of the commands for that, it runs as `cfdp_script` says.
 //!
 //! Tested by `tests/rows/any_order.rows` and `tests/any_order.py`, through the program above.
 #![tactic(auto)]

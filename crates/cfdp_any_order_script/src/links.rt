@@ -26,7 +26,7 @@ pub struct Made {
     pub file_data: usize,
 }
 
-/// Whether a frame is of a lane, or of either where none is said.
+/// Returns `true` if a frame is of a lane, or of either if none is said.
 fn is_of(lane: Option<Lane>, frame: &SentFrame) -> bool
     ensures { result ≡ is_of lane frame.now }
 {
@@ -37,11 +37,11 @@ fn is_of(lane: Option<Lane>, frame: &SentFrame) -> bool
     }
 }
 
-/// So many frames of a lane and a life, from a place on.
+/// Returns `count` frames of a lane and a life, from the index `first` on.
 ///
 /// # Errors
 ///
-/// `AllocError` where there is no memory for them.
+/// `AllocError` if there is no memory for them.
 #[tactic(auto, using(crate::proofs::Counts::made_more))]
 fn made_of(
     alloc: Global,
@@ -64,8 +64,8 @@ fn made_of(
     Ok(made)
 }
 
-/// The waiting frame of a lane, or of either, that has so many of these in front of it, and its
-/// place; `None` where not so many wait.
+/// Returns the waiting frame of a lane, or of either, that has `before` of these before it, and its
+/// index; `None` if fewer wait.
 #[tactic(auto, using(crate::proofs::Counts::front_yes, crate::proofs::Counts::front_no))]
 pub fn waiting_behind(
     waiting: &VecDeque<SentFrame>,
@@ -88,8 +88,8 @@ pub fn waiting_behind(
     None
 }
 
-/// The frame of a lane, or of either, that arrived so many of these ago, 1 being the last one;
-/// `None` where not so many arrived.
+/// Returns the frame of a lane, or of either, that arrived `back` of these ago, 1 being the last
+/// one; `None` if fewer arrived.
 #[tactic(auto, using(crate::proofs::Counts::back_yes, crate::proofs::Counts::back_no))]
 pub fn arrived_back(arrived: &[SentFrame], lane: Option<Lane>, back: u64) -> Option<SentFrame>
     requires { 1 ≤ back }
@@ -110,7 +110,7 @@ pub fn arrived_back(arrived: &[SentFrame], lane: Option<Lane>, back: u64) -> Opt
 }
 
 impl Frames {
-    /// None.
+    /// Returns no frames.
     pub fn new(alloc: Global) -> Frames
         ensures waiting { result.waiting.items ≡ [] }
         ensures arrived { result.arrived.items ≡ [] }
@@ -121,12 +121,12 @@ impl Frames {
         }
     }
 
-    /// Lets the frames wait that a station made in a life, behind those that it had made before.
-    /// Answers whether there are any.
+    /// Lets the frames wait that a station made in a life, after those that it had made before.
+    /// Returns whether there are any.
     ///
     /// # Errors
     ///
-    /// `AllocError` where there is no memory to note them: none of them waits.
+    /// `AllocError` if there is no memory to note them: none of them waits.
     pub fn note(&mut self, alloc: Global, before: Made, now: Made) -> Result<bool, AllocError>
         ensures waiting { IfOk result (λ any. self.new.waiting.items ≡ self.old.waiting.items
             ++ (made_of now.life lanes.Directives before.directives

@@ -21,8 +21,8 @@ const MOST_EVENTS: u64 = 1_000_000;
 /// The most rounds of a recovery: three for each record that two full tables hold.
 const MOST_ROUNDS: u64 = 24_576;
 
-/// Does what a command says. Answers why it was not done, or not to its end: the first answer of an
-/// event that isn't that it happened ends the command.
+/// Does what a command says. Returns why it wasn't done, or not to its end, if so: the first answer
+/// of an event that isn't that it happened ends the command.
 pub fn perform(play: &mut Play<'_>, command: &Command) -> Option<Answer>
     ensures { Performs command.now result play.old play.new }
 {
@@ -41,7 +41,7 @@ pub fn perform(play: &mut Play<'_>, command: &Command) -> Option<Answer>
     }
 }
 
-/// A frame comes in front of others or once more, or a station starts anew.
+/// Lets a frame arrive before others or once more, or restarts a station.
 fn disorder(play: &mut Play<'_>, what: Disorder) -> Option<Answer>
     ensures { PerformsDisorder what result play.old play.new }
 {
@@ -54,7 +54,7 @@ fn disorder(play: &mut Play<'_>, what: Disorder) -> Option<Answer>
     }
 }
 
-/// Lets an event happen so many times. Answers why it didn't, and after how many.
+/// Lets an event happen `count` times. Returns why it didn't, if so, and after how many.
 fn repeat(play: &mut Play<'_>, event: &Event, count: u64) -> Option<Answer>
     ensures { Often (HappensOnce event.now) count result play.old play.new }
 {
@@ -66,7 +66,7 @@ fn repeat(play: &mut Play<'_>, event: &Event, count: u64) -> Option<Answer>
     None
 }
 
-/// What befalls the oldest waiting frame of both lanes. Answers why it didn't.
+/// Lets that happen to the oldest waiting frame of both lanes. Returns why it didn't, if so.
 fn once_first(play: &mut Play<'_>, fate: Fate, from: Side) -> Option<Answer>
     ensures { BefallsFirst fate from result play.old play.new }
 {
@@ -76,7 +76,8 @@ fn once_first(play: &mut Play<'_>, fate: Fate, from: Side) -> Option<Answer>
     }
 }
 
-/// Lets that befall so many frames, one by one. Answers why it didn't, and after how many.
+/// Lets that happen to `count` frames, one by one. Returns why it didn't, if so, and how often it
+/// did.
 fn repeat_first(play: &mut Play<'_>, fate: Fate, from: Side, count: u64) -> Option<Answer>
     ensures { Often (BefallsFirst fate from) count result play.old play.new }
 {
@@ -88,7 +89,7 @@ fn repeat_first(play: &mut Play<'_>, fate: Fate, from: Side, count: u64) -> Opti
     None
 }
 
-/// The event of a turn of a settling.
+/// Returns the event of a turn of a settling.
 #[tactic(auto, using(crate::proofs::Ending::last_turn))]
 fn turn_event(turn: u8) -> Event
     ensures { result ≡ turn_event turn }
@@ -105,11 +106,11 @@ fn turn_event(turn: u8) -> Event
     }
 }
 
-/// Lets an event happen, if there is anything to do for it: whether there was.
+/// Lets an event happen, if there is anything to do for it. Returns whether there was.
 ///
 /// # Errors
 ///
-/// Any other answer of it.
+/// Any other answer of the event.
 fn attempt(play: &mut Play<'_>, event: &Event) -> Result<bool, Answer>
     ensures done { IfOk result (λ moved. moved ≡ true
         → HappensOnce event.now None play.old play.new) }
@@ -150,7 +151,7 @@ fn settle(play: &mut Play<'_>) -> Result<(), Answer>
     Err(Answer::TooLong)
 }
 
-/// The turn behind one.
+/// Returns the turn after one.
 fn next_turn(turn: u8) -> u8
     requires { turn ≤ 7 }
     ensures is { result ≡ next_turn turn }
@@ -159,7 +160,7 @@ fn next_turn(turn: u8) -> u8
     if turn < 7 { turn + 1 } else { 0 }
 }
 
-/// Polls a station, and flushes it if that did something: whether it did.
+/// Polls a station, and flushes it if that did something. Returns whether it did.
 ///
 /// # Errors
 ///
@@ -222,8 +223,8 @@ fn burst(play: &mut Play<'_>, side: Side) -> Result<(), Answer>
     Ok(())
 }
 
-/// The station that is told the time next, and which; `None` where no timer is armed but those of
-/// Inactivity.
+/// Returns the station that is given the time next, and which; `None` if no timer is armed except
+/// those of Inactivity.
 fn next_tick(play: &Play<'_>) -> Option<(Side, u64)>
     ensures { MatchOption result (IsRecovered play.now) (λ next. IsNext next.0 next.1 play.now) }
 {
@@ -234,7 +235,7 @@ fn next_tick(play: &Play<'_>) -> Option<(Side, u64)>
     Some((Side::Two, now))
 }
 
-/// Tells a station the time that is next, and settles: whether a timer was armed other than
+/// Gives a station the time that is next, and settles. Returns whether a timer was armed other than
 /// Inactivity.
 ///
 /// # Errors
@@ -258,7 +259,7 @@ fn recover_once(play: &mut Play<'_>) -> Result<bool, Answer>
     }
 }
 
-/// Settles, and tells stations the time and settles again, until no timer is armed but those of
+/// Settles, and gives stations the time and settles again, until no timer is armed except those of
 /// Inactivity.
 ///
 /// # Errors

@@ -60,7 +60,7 @@ pub enum Instead<'a> {
     Octets(&'a [u8]),
 }
 
-/// What is answered where a frame was to arrive.
+/// Returns the answer of a delivery.
 fn arrival_answer(by: Delivered) -> Option<Answer>
     ensures { result ≡ answers.arrival_answer by }
 {
@@ -71,7 +71,7 @@ fn arrival_answer(by: Delivered) -> Option<Answer>
     }
 }
 
-/// What is answered where a file was to be put.
+/// Returns the answer of a put.
 fn put_answer(put: Result<TransactionId, PutError>) -> Option<Answer>
     ensures { result ≡ answers.put_answer put }
 {
@@ -81,7 +81,7 @@ fn put_answer(put: Result<TransactionId, PutError>) -> Option<Answer>
     }
 }
 
-/// What is answered where a transaction was to be changed.
+/// Returns the answer of a request about a transaction.
 fn request_answer(called: Result<(), RequestError>) -> Option<Answer>
     ensures { result ≡ answers.request_answer called }
 {
@@ -91,7 +91,7 @@ fn request_answer(called: Result<(), RequestError>) -> Option<Answer>
     }
 }
 
-/// What is answered where a station was told the time.
+/// Returns the answer of a tick.
 fn tick_answer(told: Result<(), AllocError>) -> Option<Answer>
     ensures { result ≡ answers.tick_answer told }
 {
@@ -101,7 +101,7 @@ fn tick_answer(told: Result<(), AllocError>) -> Option<Answer>
     }
 }
 
-/// What is answered where a station was polled.
+/// Returns the answer of a poll.
 fn poll_answer(polled: Result<Polled, AllocError>) -> Option<Answer>
     ensures { result ≡ answers.poll_answer polled }
 {
@@ -112,7 +112,7 @@ fn poll_answer(polled: Result<Polled, AllocError>) -> Option<Answer>
     }
 }
 
-/// What is answered where a station was flushed, by whether it made a frame.
+/// Returns the answer of a flush, by whether it made a frame.
 fn flush_answer(flushed: Result<(), AllocError>, any: bool) -> Option<Answer>
     ensures { result ≡ answers.flush_answer flushed any }
 {
@@ -123,7 +123,7 @@ fn flush_answer(flushed: Result<(), AllocError>, any: bool) -> Option<Answer>
     }
 }
 
-/// What is answered where a station was to start anew.
+/// Returns the answer of a restart.
 fn start_answer(started: Result<Restarted, AllocError>) -> Option<Answer>
     ensures { result ≡ answers.start_answer started }
 {
@@ -135,8 +135,8 @@ fn start_answer(started: Result<Restarted, AllocError>) -> Option<Answer>
     }
 }
 
-/// What becomes of a waiting frame that was to arrive: if it was taken, it waits no more, and is
-/// the last one that arrived.
+/// Notes what becomes of a waiting frame after its delivery: if it was taken, it waits no more, and
+/// is the last one that arrived.
 fn move_on(frames: &mut Frames, place: usize, frame: SentFrame, by: Delivered)
     requires there { slice_get frames.old.waiting.items place ≡ Some frame }
     requires room { vec_len frames.old.arrived < vec_capacity frames.old.arrived }
@@ -151,8 +151,8 @@ fn move_on(frames: &mut Frames, place: usize, frame: SentFrame, by: Delivered)
     }
 }
 
-/// A waiting frame of a station arrives at the other one, if there is one with so many of its lane,
-/// or of both, in front of it; else this is answered.
+/// Lets the waiting frame of a station arrive at the other one that has `before` frames of its
+/// lane, or of both, before it; if there is none, `none` is answered.
 fn arrive(
     world: &mut ToldWorld<'_>,
     frames: &mut Frames,
@@ -175,7 +175,7 @@ fn arrive(
     arrival_answer(by)
 }
 
-/// The oldest waiting frame of a lane, or of both, is lost.
+/// Loses the oldest waiting frame of a lane, or of both.
 fn lose(frames: &mut Frames, lane: Option<Lane>) -> Option<Answer>
     ensures { (w : WorldKept) → Loses lane result (part_of w frames.old) (part_of w frames.new) }
 {
@@ -186,7 +186,7 @@ fn lose(frames: &mut Frames, lane: Option<Lane>) -> Option<Answer>
     None
 }
 
-/// Octets come in the place of the oldest waiting frame of a lane, or of both.
+/// Lets octets come in the place of the oldest waiting frame of a lane, or of both.
 fn damage(
     alloc: Global,
     world: &mut ToldWorld<'_>,
@@ -215,7 +215,7 @@ fn damage(
     None
 }
 
-/// A frame that arrived so many ago arrives again.
+/// Lets the frame that arrived `back` frames ago arrive again.
 fn again(
     world: &mut ToldWorld<'_>,
     frames: &Frames,
@@ -235,7 +235,7 @@ fn again(
     }
 }
 
-/// A station is polled, and its frames wait.
+/// Polls a station, and lets its frames wait.
 fn poll(alloc: Global, world: &mut ToldWorld<'_>, frames: &mut Frames, side: Side) -> Option<Answer>
     ensures { PollsOnce side result (part_of world.old frames.old)
         (part_of world.new frames.new) }
@@ -248,7 +248,7 @@ fn poll(alloc: Global, world: &mut ToldWorld<'_>, frames: &mut Frames, side: Sid
     poll_answer(polled)
 }
 
-/// A station is flushed, and its frames wait.
+/// Flushes a station, and lets its frames wait.
 fn flush(
     alloc: Global,
     world: &mut ToldWorld<'_>,
@@ -267,7 +267,7 @@ fn flush(
 }
 
 impl Instead<'_> {
-    /// What comes in the place of this frame.
+    /// Returns what comes in the place of this frame.
     fn of(self, alloc: Global, frame: &[u8]) -> Result<Octets, AllocError>
         ensures { IfOk result (λ octets. octets ≡ made_by self.entry frame.now) }
     {
@@ -279,11 +279,11 @@ impl Instead<'_> {
 }
 
 impl<'a> Play<'a> {
-    /// Two stations at which nothing was done yet, with these files to send.
+    /// Returns two stations at which nothing was done yet, with these files to send.
     ///
     /// # Errors
     ///
-    /// `AllocError` where there is no memory for them.
+    /// `AllocError` if there is no memory for them.
     pub fn new(
         alloc: Global,
         config: Valid<WorldConfig>,
@@ -303,13 +303,13 @@ impl<'a> Play<'a> {
         })
     }
 
-    /// Lets go of both stations and of their frames.
+    /// Drops both stations and their frames.
     pub fn close(self) {
         let Play { world, .. } = self;
         world.close();
     }
 
-    /// Lets an event happen, of a lane the oldest waiting frame. Answers why it didn't.
+    /// Lets an event happen, of a lane the oldest waiting frame. Returns why it didn't, if so.
     pub fn once(&mut self, event: &Event) -> Option<Answer>
         ensures { HappensOnce event.now result self.old self.new }
     {
@@ -376,8 +376,8 @@ impl<'a> Play<'a> {
         }
     }
 
-    /// The waiting frame that has so many of its lane, or of both, in front of it, arrives. Answers
-    /// why it didn't, and this where not so many wait.
+    /// Lets the waiting frame arrive that has `before` frames of its lane, or of both, before it.
+    /// Returns why it didn't, if so, and `none` if fewer wait.
     pub fn arrive(
         &mut self,
         from: Side,
@@ -394,7 +394,7 @@ impl<'a> Play<'a> {
         }
     }
 
-    /// The oldest waiting frame of a lane, or of both, is lost. Answers why it wasn't.
+    /// Loses the oldest waiting frame of a lane, or of both. Returns why it wasn't lost, if so.
     pub fn lose(&mut self, from: Side, lane: Option<Lane>) -> Option<Answer>
         ensures { At from (Loses lane result) self.old self.new }
     {
@@ -404,8 +404,8 @@ impl<'a> Play<'a> {
         }
     }
 
-    /// Octets come in the place of the oldest waiting frame of a lane, or of both. Answers why they
-    /// didn't.
+    /// Lets octets come in the place of the oldest waiting frame of a lane, or of both. Returns why
+    /// they didn't, if so.
     pub fn damage(&mut self, from: Side, lane: Option<Lane>, instead: Instead<'_>) -> Option<Answer>
         ensures { At from (ComesDamaged (made_by instead.entry) from lane result) self.old self.new }
     {
@@ -416,8 +416,8 @@ impl<'a> Play<'a> {
         }
     }
 
-    /// The frame of a lane, or of both, that arrived so many ago, arrives again. Answers why it
-    /// didn't.
+    /// Lets the frame of a lane, or of both, that arrived `back` frames ago, arrive again. Returns
+    /// why it didn't, if so.
     pub fn again(&mut self, from: Side, lane: Option<Lane>, back: u64) -> Option<Answer>
         ensures { At from (ComesAgain from lane back result) self.old self.new }
     {
@@ -427,7 +427,7 @@ impl<'a> Play<'a> {
         }
     }
 
-    /// A station starts anew. Answers why it didn't.
+    /// Restarts a station. Returns why it didn't, if so.
     pub fn restart(&mut self, side: Side) -> Option<Answer>
         ensures { StartsAnew side result self.old self.new }
     {

@@ -26,7 +26,7 @@ fn write_answers<W: Write>(out: &mut W, answered: &[Answered]) -> io::Result<()>
     Ok(())
 }
 
-/// Writes the line of a command, where it has an answer.
+/// Writes the line of a command, if it has an answer.
 fn write_answer<W: Write>(out: &mut W, done: Answered) -> io::Result<()>
     ensures { OnOk result (Appends (W.contents out.old) (W.contents out.new) (answer_line done)) }
 {
@@ -36,8 +36,8 @@ fn write_answer<W: Write>(out: &mut W, done: Answered) -> io::Result<()>
     }
 }
 
-/// Writes all that is to be said of the world: what each station told, the files that it published,
-/// and how many puts were completed of so many. Takes no memory.
+/// Writes the whole report of the world: what each station indicated, the files that it published,
+/// and how many of the `asked` puts were completed. Takes no memory.
 fn write_world<W: Write>(
     out: &mut W,
     answered: &[Answered],
@@ -57,11 +57,11 @@ fn write_world<W: Write>(
     writeln!(out, "complete {complete} of {asked}")
 }
 
-/// Writes the report to its end, and tells how the run ended.
+/// Writes the report to its end, and returns how the run ended.
 ///
 /// # Errors
 ///
-/// That of the writer.
+/// The error of the writer, if it fails.
 pub fn report<W: Write>(
     out: &mut W,
     answered: &[Answered],
@@ -79,7 +79,7 @@ pub fn report<W: Write>(
     Ok(exit(answered, complete, asked))
 }
 
-/// How a run ended whose commands answered so.
+/// Returns how a run ended whose commands had these answers.
 fn exit(answered: &[Answered], complete: u128, asked: usize) -> Exit
     ensures { result ≡ exit_of answered.now complete asked }
 {
@@ -92,7 +92,7 @@ fn exit(answered: &[Answered], complete: u128, asked: usize) -> Exit
     }
 }
 
-/// Whether a command failed for want of memory, or a store failed.
+/// Returns `true` if a command ran out of memory, or a store failed.
 fn has_device_fault(answered: &[Answered]) -> bool
     ensures { result ≡ list_any (λ done. answers.is_device_fault done.answer) answered.now }
 {

@@ -25,9 +25,9 @@ struct Reported {
     text: Vec<u8>,
 }
 
-/// Does all commands at two stations with these files, and writes the report. There is memory for
-/// the stations, for what the commands answer and for the report, or nothing is written. The writer
-/// isn't flushed.
+/// Does all commands at two stations with these files, and writes the report. There must be memory
+/// for the stations, for what the commands answer and for the report, or nothing is written. The
+/// writer isn't flushed.
 pub fn run_steps<W: Write>(
     alloc: Global,
     config: Valid<WorldConfig>,
@@ -46,8 +46,8 @@ pub fn run_steps<W: Write>(
     }
 }
 
-/// Does all commands at two stations with these files, and makes the report. `None` where there is
-/// no memory for all of that.
+/// Does all commands at two stations with these files, and makes the report. Returns `None` if
+/// there is no memory for all of that.
 fn make_report(
     alloc: Global,
     config: Valid<WorldConfig>,
@@ -68,7 +68,7 @@ fn make_report(
     }
 }
 
-/// Does all commands at two stations, makes the report, and lets go of the stations.
+/// Does all commands at two stations, makes the report, and drops the stations.
 fn make_report_of(
     alloc: Global,
     mut play: Play<'_>,
@@ -88,7 +88,7 @@ fn make_report_of(
     made
 }
 
-/// Does all commands at two stations, and makes the report. `None` where there is no memory for it.
+/// Does all commands at two stations, and makes the report. Returns `None` if there is no memory.
 fn make_report_at(
     alloc: Global,
     play: &mut Play<'_>,

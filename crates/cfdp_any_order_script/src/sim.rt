@@ -11,10 +11,9 @@ use cfdp_script::{Command, Disorder, Script, Step, read_script, run_text};
 use cfdp_watch::{Ran, Shown};
 use std::io::{BufWriter, Read, Write};
 
-/// Reads a script, runs it and writes its report, which has left the buffer then. It runs over a
-/// link that keeps the order of its frames, as `cfdp_script` says; but over one that keeps none
-/// where it has a command for that, `overtake`, `repeat` or `restart`. Only over the former one may
-/// look on.
+/// Reads a script, runs it, writes its report and flushes it. It runs over a link that keeps the
+/// order of its frames, as `cfdp_script` says; but over one that keeps none if it has a command for
+/// that, `overtake`, `repeat` or `restart`. Only the former may have an onlooker.
 ///
 /// Nothing is written unless the whole script was read, is good, and there is memory for all that
 /// stands before its first command; over a link that keeps no order, also for the whole report.
@@ -53,8 +52,8 @@ fn run_any<R: Read + Drop, W: Write>(rt: &HostRuntime, shown: &Shown, reader: R,
     }
 }
 
-/// The first of these commands that is none of a link that keeps the order of its frames, and its
-/// line.
+/// Returns the first of these commands that is none of a link that keeps the order of its frames,
+/// and its line.
 fn first_disorder(steps: &[Step]) -> Option<(usize, Disorder)>
     ensures { option_map (λ found. found.0) result ≡ first_disorder steps.now }
 {
@@ -67,7 +66,7 @@ fn first_disorder(steps: &[Step]) -> Option<(usize, Disorder)>
 }
 
 /// Runs a script over a link that keeps no order, and writes its report. Its first command that
-/// such a link is for stands in this line.
+/// needs such a link stands in this line.
 fn run_disorder<W: Write>(
     rt: &HostRuntime,
     shown: &Shown,
@@ -89,7 +88,7 @@ fn run_disorder<W: Write>(
     }
 }
 
-/// The line of such a command, as one that can't be shown.
+/// Returns the line of such a command, as one that can't be shown.
 fn unshown(first: (usize, Disorder)) -> BadLine
     ensures { result.line ≡ first.0 }
 {

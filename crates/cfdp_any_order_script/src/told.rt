@@ -1,5 +1,5 @@
-//! Two stations over any link, with what they told in their lives before: a station that starts
-//! anew keeps nothing of that.
+//! Two stations over any link, with what they indicated in their lives before: a station that
+//! restarts keeps nothing of that.
 ghost use Rattle.std.specs.FinMap as map;
 ghost use Rattle.std.specs.Io.KnownBytes.{Appends};
 ghost use Rattle.std.specs.List.{flat_map};
@@ -44,9 +44,9 @@ use valid_config::Valid;
 /// Two stations with their files in memory.
 type Stations = UnorderedWorld<MemoryOutbox, MemoryInbox>;
 
-/// Of the lives that a station had before: how many there were, all that it told in them, as lines
-/// of the report, and how many of its puts were complete by that. And the number of its next put,
-/// `None` once the last one is used.
+/// Of the lives that a station had before: how many there were, all that it indicated in them, as
+/// lines of the report, and how many of its puts were complete by that. And the number of its next
+/// put, `None` if the last one is used.
 #[derive(Drop)]
 struct Before {
     lives: usize,
@@ -55,7 +55,7 @@ struct Before {
     next: Option<u64>,
 }
 
-/// Two stations over any link, and what they told in all their lives. Clauses see the world.
+/// Two stations over any link, and what they indicated in all their lives. Clauses see the world.
 #[derive(Drop)]
 pub struct ToldWorld<'a> {
     alloc: Global,
@@ -82,7 +82,7 @@ impl<'a> Model for ToldWorld<'a> {
         × HasSources w.files.now w.world };
 }
 
-/// The number of a station in reports.
+/// Returns the number of a station in reports.
 fn number_of(side: Side) -> u64
     ensures { result ≡ station_of side }
 {
@@ -92,11 +92,11 @@ fn number_of(side: Side) -> u64
     }
 }
 
-/// The lines of what a station told in this life, of which nothing was let go.
+/// Returns the lines of what a station indicated in this life, if it dropped nothing of that.
 ///
 /// # Errors
 ///
-/// Where there is no memory for them.
+/// An error if there is no memory for them.
 fn told_now(alloc: Global, world: &Stations, side: Side) -> io::Result<Vec<u8>>
     requires { (kept_of side world.now).station.entity.state.table.gone ≡ 0 }
     ensures { IfOk result (λ told. told.items ≡ flat_map (indication_line (station_of side))
@@ -111,12 +111,12 @@ fn told_now(alloc: Global, world: &Stations, side: Side) -> io::Result<Vec<u8>>
     Ok(told)
 }
 
-/// The stores of a station that starts anew: with the files that it can send, and those that it
-/// published.
+/// Returns the stores of a station that restarts: with the files that it can send, and those that
+/// it published.
 ///
 /// # Errors
 ///
-/// `AllocError` where there is no memory for them.
+/// `AllocError` if there is no memory for them.
 fn stores_of(
     world: &Stations,
     alloc: Global,
@@ -137,8 +137,8 @@ fn stores_of(
     Ok((outbox, MemoryInbox::with_files(alloc, published)))
 }
 
-/// The number of the first frame of a station that starts anew: as small as it may be. `None` where
-/// there is none.
+/// Returns the number of the first frame of a station that restarts: as small as it may be. `None`
+/// if there is none.
 fn first_of(world: &Stations, side: Side, life: usize) -> Option<u32> {
     let life = world.life(side, life)?;
     let directives = life.count(Lane::Directives);
@@ -146,7 +146,7 @@ fn first_of(world: &Stations, side: Side, life: usize) -> Option<u32> {
     u32::try_from(next.checked_add(1)?).ok()
 }
 
-/// Puts octets behind others, for which there is room.
+/// Puts octets after others, for which there is room.
 fn append_reserved(text: &mut Vec<u8>, more: &[u8])
     requires { vec_len text.old + length more.now ≤ vec_capacity text.old }
     ensures { text.new.items ≡ text.old.items ++ more.now }
@@ -154,7 +154,7 @@ fn append_reserved(text: &mut Vec<u8>, more: &[u8])
     let _ = text.extend_from_slice(more);
 }
 
-/// Shows what stays of a world in which no station starts anew.
+/// Shows what stays of a world in which no station restarts.
 fn show_onward(world: &Stations)
     ensures { (side : calls.Side) (all : List Call) (new : WorldKept) →
         Happened side all world.now new → AreNoStarts all → GoesOnward world.now new }
@@ -164,7 +164,7 @@ fn show_onward(world: &Stations)
     let _ = world.inbox(Side::One);
 }
 
-/// Shows what a start makes of a world.
+/// Shows what a restart makes of a world.
 fn show_start(world: &Stations)
     ensures { (side : calls.Side) (first number : ℕ) (new : WorldKept) →
         Happened side (Restarts first number ∷ []) world.now new → Starts side world.now new }
@@ -174,7 +174,7 @@ fn show_start(world: &Stations)
     let _ = world.inbox(Side::One);
 }
 
-/// What has to be there before a station starts anew: what is noted then, and its stores.
+/// What must be there before a station restarts: what is noted then, and its stores.
 #[derive(Drop)]
 struct Prepared {
     lives: usize,
@@ -183,11 +183,11 @@ struct Prepared {
     stores: (MemoryOutbox, MemoryInbox),
 }
 
-/// Makes what has to be there before a station starts anew.
+/// Makes what must be there before a station restarts.
 ///
 /// # Errors
 ///
-/// `AllocError` where there is no memory for it.
+/// `AllocError` if there is no memory for it.
 fn prepare(
     alloc: Global,
     world: &Stations,
@@ -222,7 +222,8 @@ fn prepare(
     })
 }
 
-/// How many of its puts a station was told complete in this life, of which nothing was let go.
+/// Returns how many puts of a station were indicated as complete in this life, if it dropped none
+/// of its indications.
 fn completed_now(world: &Stations, side: Side) -> u64
     requires { (kept_of side world.now).station.entity.state.table.gone ≡ 0 }
     ensures { result ≡ count_by (is_own_completion (station_of side))
@@ -231,7 +232,7 @@ fn completed_now(world: &Stations, side: Side) -> u64
     own_completions(number_of(side), world.station(side).indications()) as u64
 }
 
-/// A station starts anew, and what it told is noted. Where no number is left, it tries one that was
+/// Restarts a station, and notes what it indicated. If no number is left, it tries one that was
 /// used.
 fn restart_at(
     alloc: Global,
@@ -267,11 +268,11 @@ fn restart_at(
 }
 
 impl<'a> ToldWorld<'a> {
-    /// Two stations at which nothing was done yet, with these files to send.
+    /// Returns two stations at which nothing was done yet, with these files to send.
     ///
     /// # Errors
     ///
-    /// `AllocError` where there is no memory for them.
+    /// `AllocError` if there is no memory for them.
     pub fn new(
         alloc: Global,
         config: Valid<WorldConfig>,
@@ -295,17 +296,17 @@ impl<'a> ToldWorld<'a> {
         })
     }
 
-    /// Lets go of both stations.
+    /// Drops both stations.
     pub fn close(self) {
         let ToldWorld { world, .. } = self;
         world.close();
     }
 
-    /// As `UnorderedWorld::put`.
+    /// Does as `UnorderedWorld::put`.
     ///
     /// # Errors
     ///
-    /// Those of that call.
+    /// The errors of that call.
     pub fn put(
         &mut self,
         side: Side,
@@ -325,11 +326,11 @@ impl<'a> ToldWorld<'a> {
         Ok(id)
     }
 
-    /// As `UnorderedWorld::request`.
+    /// Does as `UnorderedWorld::request`.
     ///
     /// # Errors
     ///
-    /// Those of that call.
+    /// The errors of that call.
     pub fn request(
         &mut self,
         side: Side,
@@ -342,11 +343,11 @@ impl<'a> ToldWorld<'a> {
         self.world.request(side, id, request)
     }
 
-    /// As `UnorderedWorld::tick`.
+    /// Does as `UnorderedWorld::tick`.
     ///
     /// # Errors
     ///
-    /// Those of that call.
+    /// The errors of that call.
     pub fn tick(&mut self, side: Side, now: u64) -> Result<(), AllocError>
         ensures { Happened (side_of side) (tick_calls now result) self.old self.new }
     {
@@ -354,11 +355,11 @@ impl<'a> ToldWorld<'a> {
         self.world.tick(side, now)
     }
 
-    /// As `UnorderedWorld::poll`.
+    /// Does as `UnorderedWorld::poll`.
     ///
     /// # Errors
     ///
-    /// Those of that call.
+    /// The errors of that call.
     pub fn poll(&mut self, side: Side) -> Result<Polled, AllocError>
         ensures { (calls : List Call) × ArePollCalls result calls
             × Happened (side_of side) calls self.old self.new }
@@ -367,11 +368,11 @@ impl<'a> ToldWorld<'a> {
         self.world.poll(side)
     }
 
-    /// As `UnorderedWorld::flush`.
+    /// Does as `UnorderedWorld::flush`.
     ///
     /// # Errors
     ///
-    /// Those of that call.
+    /// The errors of that call.
     pub fn flush(&mut self, side: Side) -> Result<(), AllocError>
         ensures { (calls : List Call) × AreFlushCalls calls
             × Happened (side_of side) calls self.old self.new }
@@ -380,7 +381,7 @@ impl<'a> ToldWorld<'a> {
         self.world.flush(side)
     }
 
-    /// As `UnorderedWorld::deliver`.
+    /// Does as `UnorderedWorld::deliver`.
     pub fn deliver(&mut self, side: Side, which: SentFrame) -> Delivered
         ensures happened { Happened (other (side_of side)) (deliver_calls which result) self.old
             self.new }
@@ -391,7 +392,7 @@ impl<'a> ToldWorld<'a> {
         self.world.deliver(side, which)
     }
 
-    /// As `UnorderedWorld::deliver_octets`.
+    /// Does as `UnorderedWorld::deliver_octets`.
     pub fn deliver_octets(&mut self, side: Side, octets: &[u8]) -> bool
         ensures happened { Happened (other (side_of side)) (octets_calls octets.now result) self.old
             self.new }
@@ -403,14 +404,14 @@ impl<'a> ToldWorld<'a> {
         self.world.deliver_octets(side, octets)
     }
 
-    /// A station starts anew, with the files that it can send and those that it published. Its puts
+    /// Restarts a station, with the files that it can send and those that it published. Its puts
     /// are numbered from the next number on, and one number of its frames is left out. Nothing
-    /// changes but where it answers `Done`: `NumberUsed` where no number of a put is left,
-    /// `FrameUsed` where none of a frame is.
+    /// changes unless it returns `Done`: `NumberUsed` if no number of a put is left, `FrameUsed` if
+    /// none of a frame is.
     ///
     /// # Errors
     ///
-    /// `AllocError` where there is no memory for the station, or for what is to be kept.
+    /// `AllocError` if there is no memory for the station, or for what must be kept.
     pub fn restart(&mut self, side: Side) -> Result<Restarted, AllocError>
         ensures happened { (first number : ℕ) × Happened (side_of side)
             (restart_calls first number result) self.old self.new }
@@ -424,14 +425,14 @@ impl<'a> ToldWorld<'a> {
         }
     }
 
-    /// A station, lent.
+    /// Returns a station, borrowed.
     fn station(&self, side: Side) -> &Station<MemoryOutbox, MemoryInbox>
         ensures { result.now ≡ (kept_of side self.now).station }
     {
         self.world.station(side)
     }
 
-    /// What was noted of its lives before, lent.
+    /// Returns what was noted of its lives before, borrowed.
     fn before(&self, side: Side) -> &Before
         ensures { IsNoted (station_of side) result.now.lives result.now.told.items
             result.now.completed (kept_of side self.now) }
@@ -442,7 +443,7 @@ impl<'a> ToldWorld<'a> {
         }
     }
 
-    /// How many frames a station made in this life.
+    /// Returns how many frames a station made in this life.
     pub fn made(&self, side: Side) -> Made
         ensures life { result.life ≡ length (kept_of side self.now).before }
         ensures directives { result.directives
@@ -464,7 +465,7 @@ impl<'a> ToldWorld<'a> {
         }
     }
 
-    /// The octets of a frame that a station made; `None` where it made no such frame.
+    /// Returns the octets of a frame that a station made; `None` if it made no such frame.
     pub fn frame(&self, side: Side, which: SentFrame) -> Option<&[u8]>
         ensures { IfSome result (λ octets. IsFrame which octets.now (kept_of side self.now)) }
     {
@@ -473,8 +474,8 @@ impl<'a> ToldWorld<'a> {
             .frame(which.lane, which.place)
     }
 
-    /// The earliest deadline of a station's timers, those of Inactivity apart; `None` where none
-    /// but these is armed.
+    /// Returns the earliest deadline of a station's timers, those of Inactivity apart; `None` if
+    /// none but these is armed.
     pub fn next_deadline(&self, side: Side) -> Option<u64>
         ensures { MatchOption result
             (OnlyInactivity (kept_of side self.now).station.entity.state.table.armed)
@@ -484,7 +485,7 @@ impl<'a> ToldWorld<'a> {
         self.station(side).next_deadline()
     }
 
-    /// The files that a station published. The promise holds of the world.
+    /// Returns the files that a station published. The promise holds of the world.
     pub fn received(&self, side: Side) -> &Files
         ensures files { result.now ≡ received side self.now }
         ensures promised { KeepsPromise self.now }
@@ -492,11 +493,11 @@ impl<'a> ToldWorld<'a> {
         self.world.inbox(side).published()
     }
 
-    /// Writes a line for all that a station told, in all its lives.
+    /// Writes a line for all that a station indicated, in all its lives.
     ///
     /// # Errors
     ///
-    /// That of the writer.
+    /// The error of the writer, if it fails.
     pub fn write_told<W: Write>(&self, out: &mut W, side: Side) -> io::Result<()>
         ensures { OnOk result (Appends (W.contents out.old) (W.contents out.new)
             (flat_map (indication_line (station_of side)) (told_ever side self.now))) }
@@ -505,7 +506,7 @@ impl<'a> ToldWorld<'a> {
         write_indications(out, number_of(side), self.station(side).indications())
     }
 
-    /// How many of its puts a station was told complete, in all its lives.
+    /// Returns how many puts of a station were indicated as complete, in all its lives.
     pub fn completed(&self, side: Side) -> u128
         ensures bound { result < 2 ^ 65 }
         ensures is { result
@@ -517,7 +518,7 @@ impl<'a> ToldWorld<'a> {
 }
 
 impl Before {
-    /// No life; the first put has this number.
+    /// Returns what is noted before the first life; the first put has this number.
     fn none(alloc: Global, first_number: u64) -> Before
         ensures lives { result.lives ≡ 0 }
         ensures told { result.told.items ≡ [] }

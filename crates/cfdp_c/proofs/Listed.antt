@@ -46,7 +46,7 @@ module _ {Y Z : Type 0} where
       (λ q. get-from_entries nat_list_cmp_total (map show es) q ∙ sym (get-from_sorted R (map show es) q sorted)) in
       ap entries same ∙ entries-from_sorted R (map show es) sorted
 
-  -- the file at a place
+  -- the file at an index
   pub file_listed : (es : List (Vec ℕ Y × Vec ℕ Z)) (n : ℕ) → IsStrictlySortedBy by_items (map (λ e. e.0) es) → option_map show (slice_get es n)
       ≡ slice_get (entries (from_entries {R = R} (map show es))) n
   file_listed es n h = sym (slice_get-map show es n) ∙ ap (λ l. slice_get l n) (sym (entries_listed es h))

@@ -1,4 +1,4 @@
--- A transaction at a place is one of 4,096 at the most.
+-- A transaction at an index is one of 4,096 at the most.
 use Rattle.std.proofs.Common.{◌≡◌, ℕ, ◌+◌, length, Option, Some, None, sym, arith}
 use Rattle.std.specs.Prelude.{◌<◌, slice_get, IfSome}
 use Rattle.std.proofs.lemmas.List.{length-map}

@@ -12,14 +12,16 @@ use Rattle.cfdp_entity.specs.declared.error.AddError.{AddError}
 use Rattle.cfdp_entity.specs.declared.error.RequestError.{RequestError}
 use Rattle.cfdp_entity.specs.declared.error.ForgetError.{ForgetError}
 use Rattle.cfdp_entity.specs.declared.error.PutError.{PutError}
+use Rattle.cfdp_entity.specs.declared.error.RemoveError.{RemoveError}
 use Rattle.cfdp_entity.specs.Entity.{first_entity, with_table}
 use Rattle.cfdp_entity.specs.Forgetting.{Forgets, ForgetsSome, HasNoneOver, IsForgetRefusal, forget_refusal}
+use Rattle.cfdp_entity.specs.RemovingSources.{RefusesToRemove, RemovesItsSource}
 use Rattle.cfdp_entity.specs.Putting.{Accepts, put_refusal, IsPutRefusal, stored_by_error}
 use Rattle.cfdp_entity.specs.Table.{Ticks}
 use Rattle.cfdp_station.specs.Requests.{StationAnswers}
 use Rattle.cfdp_station.specs.Station.{StationState, KeepsLink}
 use Rattle.cfdp_station.specs.declared.config.StationConfig.{StationConfig}
-use Rattle.cfdp_c.specs.Codes.{add_answer, put_answer, look_code, request_answer, forget_answer, memory_answer}
+use Rattle.cfdp_c.specs.Codes.{add_answer, remove_answer, put_answer, look_code, request_answer, forget_answer, memory_answer}
 use Rattle.cfdp_c.specs.declared.calls.CfdpId.{CfdpId}
 use Rattle.cfdp_c.specs.declared.held.AnyStation.{AnyStation}
 use Rattle.cfdp_c.specs.declared.held.AnyStation.TheVariants.{Memory, Folders}
@@ -42,6 +44,15 @@ pub record Adds (name octets : List ℕ) (answer : ℕ) (old new : StationState)
   pub code : answer ≡ add_answer told
   pub added : OnOk told (AddsFile name octets old.entity.state new.entity.state)
   pub refused : IfErr told (RefusesToAdd name old.entity.state.table.sources)
+  pub err : OnErr told (new ≡ old)
+  pub link : KeepsLink old new
+
+-- A file was removed from the outbox, or this is why not.
+pub record RemovesOne (name : List ℕ) (answer : ℕ) (old new : StationState) : Type 0 where
+  pub told : Result (Unit {0}) RemoveError
+  pub code : answer ≡ remove_answer told
+  pub removed : OnOk told (RemovesItsSource name old.entity.state new.entity.state)
+  pub refused : IfErr told (RefusesToRemove name old.entity.state.table)
   pub err : OnErr told (new ≡ old)
   pub link : KeepsLink old new
 
@@ -81,7 +92,7 @@ pub record Requests (c : Request) (id : TransactionId) (answer : ℕ) (old new :
   pub code : answer ≡ request_answer told
   pub answers : StationAnswers c id told old new
 
--- The record of a transaction was let go, or this is why not.
+-- The record of a transaction was dropped, or this is why not.
 pub record ForgetsOne (id : TransactionId) (answer : ℕ) (old new : StationState) : Type 0 where
   pub told : Result (Unit {0}) ForgetError
   pub code : answer ≡ forget_answer told
@@ -90,7 +101,7 @@ pub record ForgetsOne (id : TransactionId) (answer : ℕ) (old new : StationStat
   pub err : OnErr told (new ≡ old)
   pub link : KeepsLink old new
 
--- The records that may go were let go, or only some of them where there was no memory for more.
+-- The records that may be dropped were, or only some of them if there was no memory for more.
 pub record ForgetsClosed (answer : ℕ) (old new : StationState) : Type 0 where
   pub told : Result (Unit {0}) AllocError
   pub code : answer ≡ memory_answer told
@@ -98,7 +109,7 @@ pub record ForgetsClosed (answer : ℕ) (old new : StationState) : Type 0 where
   pub all : OnOk told (HasNoneOver new.entity.state.table)
   pub link : KeepsLink old new
 
--- The time was told, or there was no memory for what is due.
+-- The time was given, or there was no memory for what is due.
 pub record TellsTime (now answer : ℕ) (old new : StationState) : Type 0 where
   pub told : Result (Unit {0}) AllocError
   pub code : answer ≡ memory_answer told

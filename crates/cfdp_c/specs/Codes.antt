@@ -12,6 +12,8 @@ use Rattle.cfdp_entity.specs.declared.error.ForgetError.{ForgetError}
 use Rattle.cfdp_entity.specs.declared.error.ForgetError.TheVariants as forgets
 use Rattle.cfdp_entity.specs.declared.error.PutError.{PutError}
 use Rattle.cfdp_entity.specs.declared.error.PutError.TheVariants as puts
+use Rattle.cfdp_entity.specs.declared.error.RemoveError.{RemoveError}
+use Rattle.cfdp_entity.specs.declared.error.RemoveError.TheVariants as removes
 use Rattle.aos_frame.specs.declared.config.LinkField.{LinkField}
 use Rattle.aos_frame.specs.declared.config.LinkField.TheVariants as links
 use Rattle.cfdp_station.specs.declared.amiss.StationField.{StationField}
@@ -57,13 +59,17 @@ abbrev pub add_code : AddError → ℕ
 add_code adds.Taken = 11
 add_code adds.NoMemory = no_memory
 
+abbrev pub remove_code : RemoveError → ℕ
+remove_code removes.NoSuchFile = 21
+remove_code removes.InUse = 15
+
 abbrev pub folders_code : FoldersError → ℕ
 folders_code folders.NoOutbox = 12
 folders_code folders.NoInbox = 13
 folders_code folders.InboxInUse = 14
 folders_code folders.NoMemory = no_memory
 
--- where the outbox failed to look for a file
+-- if the outbox failed to look for a file
 abbrev pub look_code : StoreError → ℕ
 look_code stores.Name = 22
 look_code stores.Device = 26
@@ -102,6 +108,10 @@ abbrev pub add_answer : {T : Type 0} → Result T AddError → ℕ
 add_answer (Ok value) = ok
 add_answer (Err by) = add_code by
 
+abbrev pub remove_answer : {T : Type 0} → Result T RemoveError → ℕ
+remove_answer (Ok value) = ok
+remove_answer (Err by) = remove_code by
+
 abbrev pub put_answer : {T : Type 0} → Result T PutError → ℕ
 put_answer (Ok value) = ok
 put_answer (Err by) = put_code by
@@ -133,7 +143,7 @@ abbrev pub pdu_answer : Option PduError → ℕ
 pdu_answer None = ok
 pdu_answer (Some by) = 50 + pdu_refusal_number by
 
--- ---- a field of a configuration that isn't as it has to be
+-- ---- a field of a configuration that isn't as it must be
 abbrev pub entity_number : EntityField → ℕ
 entity_number entity.IdWidth = 71
 entity_number entity.Entity = 72
@@ -172,7 +182,7 @@ field_number fields.PduCrc = 96
 field_number fields.ReceivesControlField = 98
 field_number fields.ReceivesErrorControl = 99
 
--- These numbers name one.
+-- These numbers name a field.
 abbrev pub NamesField : ℕ → Type 0
 NamesField number = (70 ≤ number) × (number ≤ 99)
 

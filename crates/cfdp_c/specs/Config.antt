@@ -1,5 +1,5 @@
 -- How a caller says what a station is set up as.
-use Rattle.std.specs.Prelude.{ℕ, ◌≡◌, ◌<◌, ◌==◌, Bool, if◌then◌else◌}
+use Rattle.std.specs.Prelude.{ℕ, ◌≡◌, ◌<◌, ◌==◌, Bool, Option, None, Some, if◌then◌else◌}
 use Rattle.frame_fields.specs.declared.config.FrameFields.{FrameFields}
 use Rattle.aos_frame.specs.declared.config.LinkConfig.{LinkConfig}
 use Rattle.cfdp_directives.specs.declared.user.handler.Handler.{Handler}
@@ -26,6 +26,10 @@ handler_of number =
 abbrev pub flag_of : ℕ → Bool
 flag_of number = number == 1
 
+-- a limit, if the number is one: 0 stands for none
+abbrev pub limit_of : ℕ → Option ℕ
+limit_of number = if number == 0 then None else Some number
+
 abbrev pub policy_of : CfdpConfig → Policy
 policy_of c = record {
   limits = record { eof = c.eof_limit; nak = c.nak_limit; finished = c.finished_limit };
@@ -40,6 +44,7 @@ policy_of c = record {
     nak = handler_of c.on_nak_limit;
     inactivity = handler_of c.on_inactivity;
   };
+  most_gaps = limit_of c.most_gaps;
 }
 
 abbrev pub entity_of : CfdpConfig → EntityConfig
@@ -72,7 +77,7 @@ link_of l = record {
   fields = fields_of l;
 }
 
--- the same as the station's own configuration
+-- the station's own configuration for these fields
 abbrev pub config_of : CfdpConfig → StationConfig
 config_of c = record {
   entity = entity_of c;
@@ -81,16 +86,16 @@ config_of c = record {
   capacity = c.capacity;
 }
 
--- octets of a configuration: a program that was compiled with another header has others
+-- octets of a configuration: if a program was compiled with another header, it has others
 abbrev pub config_len : ℕ
-config_len = 96
+config_len = 104
 
--- The numbers of a link that stand for something do.
+-- Each number of a link must stand for something.
 pub record HasFlags (l : CfdpLink) : Type 0 where
   pub control_field : l.control_field < 2
   pub error_control : l.error_control < 2
 
--- Those of the entity do.
+-- Each number of the entity must stand for something.
 pub record NamesEntity (c : CfdpConfig) : Type 0 where
   pub checksum : c.checksum < 16
   pub pdu_crc : c.pdu_crc < 2
@@ -98,7 +103,7 @@ pub record NamesEntity (c : CfdpConfig) : Type 0 where
   pub nak : c.on_nak_limit < 4
   pub inactivity : c.on_inactivity < 4
 
--- All of them do.
+-- All numbers must stand for something.
 pub record HasNames (c : CfdpConfig) : Type 0 where
   pub entity : NamesEntity c
   pub sends : HasFlags c.sends
@@ -110,8 +115,8 @@ pub record IsUsable (c : CfdpConfig) : Type 0 where
   pub names : HasNames c
   pub station : IsStationConfig (config_of c)
 
--- ---- a field that isn't so
--- What each field has to be.
+-- ---- a field that isn't as it must be
+-- What each field must be.
 abbrev pub Suits : BadField → CfdpConfig → Type 0
 Suits (fields.Station field) c = Fits field (config_of c)
 Suits fields.Size c = c.size ≡ config_len
@@ -168,4 +173,5 @@ default_config = record {
   on_ack_limit = 0;
   on_nak_limit = 0;
   on_inactivity = 0;
+  most_gaps = 0;
 }

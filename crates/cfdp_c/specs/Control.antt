@@ -6,7 +6,7 @@ use Rattle.link_stack.specs.Downward.{both_controlled}
 use Rattle.cfdp_station.specs.Station.{StationState, KeepsRest}
 use Rattle.cfdp_c.specs.Codes.{ok, nothing}
 
--- the lane of file data, or that of directives
+-- the lane of file data, or the lane of directives
 abbrev pub lane_of : (file_data : Bool) → Lane
 lane_of true = Data
 lane_of false = Directives
@@ -16,7 +16,7 @@ pub record ControlsFrames (control : ℕ) (old new : StationState) : Type 0 wher
   pub down : new.down ≡ both_controlled control old.down
   pub rest : KeepsRest old new
 
--- What came in such a field was told, if one came.
+-- What was received in such a field was reported, if one was received.
 abbrev pub TellsControl : Option ℕ → (answer control_before control_now : ℕ) → Type 0
 TellsControl None answer control_before control_now =
     (answer ≡ nothing) × (control_now ≡ control_before)

@@ -1,4 +1,4 @@
--- What a station counts, as a caller is told it.
+-- What a station counts, as a caller reads it.
 use Rattle.cfdp_entity.specs.declared.sent.SentPdus.{SentPdus}
 use Rattle.cfdp_station.specs.Counters.{counters}
 use Rattle.cfdp_station.specs.declared.counters.Counters.{Counters}

@@ -1,4 +1,4 @@
--- What a caller reads of the published files, and which of them it lets go.
+-- What a caller reads of the published files, and which of them it drops.
 use Rattle.std.specs.Prelude.{◌≡◌, ◌+◌, ℕ, Bool, true, false, List, length, take, drop, nat_le, Option, Some, None}
 use Rattle.std.specs.FinMap.{entries}
 use Rattle.cfdp_entity.specs.Entity.{with_table}
@@ -23,7 +23,7 @@ NamesIf true name octets answer out_before out_now room_before room_now =
 NamesIf false name octets answer out_before out_now room_before room_now =
     (answer ≡ no_room) × (out_now ≡ out_before) × (room_now ≡ room_before)
 
--- The name and the size of this file were told, if there is one, and room for its name.
+-- The name and the size of this file were reported, if there is one, and room for its name.
 abbrev pub NamesFile : Option (List ℕ × List ℕ) → ℕ → (out_before out_now : CfdpFile)
     → (room_before room_now : List ℕ) → Type 0
 NamesFile None answer out_before out_now room_before room_now =

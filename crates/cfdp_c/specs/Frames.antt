@@ -20,7 +20,7 @@ KeepsAhead old new =
     (lane : Lane) (frames : ℕ) → HoldsAtMost frames (lane_down lane old) →
     WaitAtMost frames (lane_down lane new)
 
--- A poll moved the PDU whose turn it was, read from what is lent, or this is why not.
+-- A poll moved the PDU whose turn it was, read from what is borrowed, or this is why not.
 pub record PollsOne (answer : ℕ) (lent old new : StationState) : Type 0 where
   pub told : Result Polled AllocError
   pub code : answer ≡ poll_answer told
@@ -39,13 +39,13 @@ pub record FillsFrames (old new : StationState) : Type 0 where
   pub rest : KeepsRest old new
   pub ahead : KeepsAhead old.down new.down
 
--- At most so many whole frames of a lane can wait: as many as its capacity and a flush can fill.
+-- At most `frames` whole frames of a lane can wait: as many as its capacity and a flush can fill.
 abbrev pub IsAhead : ℕ → LinkSenderState → Type 0
 IsAhead frames lane =
     HoldsAtMost frames lane × (frames * lane.link.zone ≤ lane.capacity + 2047)
 
--- At most so many whole frames can wait, whatever is sent and flushed: those of both lanes. No
--- number says more than the greatest of 64 bits.
+-- At most `frames` whole frames can wait in both lanes, whatever is sent and flushed. No number
+-- says more than the greatest of 64 bits.
 pub record AreAhead (frames : ℕ) (down : DownState) : Type 0 where
   pub directives : ℕ
   pub file_data : ℕ
@@ -78,7 +78,7 @@ pub record Sends (answer : ℕ) (frame : List ℕ) (old new : StationState) : Ty
   pub sent : IfOk told (λ lane. Transmits lane frame old new)
   pub err : OnErr told (PullsInPart old new)
 
--- That frame was written to room of its length; where the room has another nothing changed.
+-- That frame was written to room of its length; if the room has another, nothing changed.
 pub record TransmitsTo (answer : ℕ) (room_before room_now : List ℕ) (old new : StationState)
     : Type 0 where
   pub short : (answer ≡ no_room) ↔ (length room_before ≢ frame_len old.down.directives.link)

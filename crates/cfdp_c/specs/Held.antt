@@ -14,7 +14,7 @@ abbrev pub has_folders : AnyStation → Bool
 has_folders (Memory s) = false
 has_folders (Folders s) = true
 
--- A call that is of files in memory did this; where the files are in folders, it says so, and
+-- A call that is of files in memory did this; if the files are in folders, it says so, and
 -- leaves all as it was.
 abbrev pub OfMemory : AnyStation → (answer : ℕ) → (told kept : Type 0) → Type 0
 OfMemory (Memory s) answer told kept = told

@@ -17,7 +17,7 @@ phase_number phases.Closed = 5
 abbrev pub transaction_told : TransactionId × Phase → CfdpTransaction
 transaction_told t = record { id = written_id t.0; phase = phase_number t.1 }
 
--- The transaction at a cursor was told, if there is one, and the cursor went on to the next.
+-- The transaction at a cursor was reported, if there is one, and the cursor went on to the next.
 abbrev pub TellsNext : Option (TransactionId × Phase) → (answer : ℕ) → (at_before at_now : ℕ)
     → (out_before out_now : CfdpTransaction) → Type 0
 TellsNext None answer at_before at_now out_before out_now =

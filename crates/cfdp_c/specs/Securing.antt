@@ -10,7 +10,7 @@ use Rattle.cfdp_c.specs.Config.{flag_of}
 use Rattle.cfdp_c.specs.Told.{over}
 use Rattle.cfdp_c.specs.declared.securing.CfdpSecurity.{CfdpSecurity}
 
--- A struct that says what can be.
+-- Each field of a struct must be in its range.
 pub record IsUsable (s : CfdpSecurity) : Type 0 where
   pub insert_zone : s.insert_zone ≤ 64
   pub control_field : s.control_field < 2
@@ -28,7 +28,7 @@ security_of s = record {
   mac_len = s.mac_len;
 }
 
--- both ends by this struct: its number is that of the next frame, or of the last one
+-- both ends by this struct: its number is the number of the next frame, or of the last one
 abbrev pub sealer_of : CfdpSecurity → SealerState
 sealer_of s = record { security = security_of s; spi = s.spi; key = s.key; next = s.number }
 

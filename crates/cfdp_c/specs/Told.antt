@@ -47,7 +47,7 @@ told_of (told.Fault id condition) = record (of_kind 8 id) { condition = conditio
 told_of (told.Abandoned id condition) = record (of_kind 9 id) { condition = condition }
 told_of (told.Progress id octets) = record (of_kind 10 id) { size = octets }
 
--- the names in it: that at the sender, and behind it that at the receiver
+-- the names in it: the name at the sender, and after it the name at the receiver
 abbrev pub names_of : Indication → List ℕ
 names_of (told.MetadataRecv id source destination size) = source ++ destination
 names_of _ = []
@@ -63,7 +63,7 @@ TellsIf true i answer out_before out_now names_before names_now =
 TellsIf false i answer out_before out_now names_before names_now =
     (answer ≡ no_room) × (out_now ≡ out_before) × (names_now ≡ names_before)
 
--- This indication was told, if there is one, and its names were copied, if there is room for them.
+-- This indication was reported, if there is one, and its names were copied, if there is room.
 abbrev pub Tells : Option Indication → ℕ → (out_before out_now : CfdpIndication)
     → (names_before names_now : List ℕ) → Type 0
 Tells None answer out_before out_now names_before names_now =
@@ -72,7 +72,7 @@ Tells (Some i) answer out_before out_now names_before names_now =
     TellsIf (nat_le (length (names_of i)) (length names_before)) i answer out_before out_now
     names_before names_now
 
--- The first indication that is left was let go, and nothing else changed.
+-- The first indication that is left was dropped, and nothing else changed.
 pub record LetsOneGo (old new : StationState) : Type 0 where
   pub entity : new.entity ≡ record old.entity {
     state = with_table old.entity.state (without_told 1 old.entity.state.table);

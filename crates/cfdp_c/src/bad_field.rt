@@ -1,19 +1,19 @@
-//! Which field of a caller's configuration isn't as it has to be.
+//! Which field of a caller's configuration isn't as it must be.
 ghost use Rattle.std.specs.Prelude.{◌≡◌, ◌≤◌};
 ghost use Rattle.cfdp_c.specs.Codes as codes;
 
 use cfdp_station::{EntityField, LinkField, StationField};
 
-/// A field of a [`CfdpConfig`](crate::CfdpConfig) that isn't as it has to be.
+/// A field of a [`CfdpConfig`](crate::CfdpConfig) that isn't as it must be.
 #[derive(Clone, Copy)]
 pub enum BadField {
     /// One that the station's own configuration has.
     Station(StationField),
-    /// Its size: it is that of another header.
+    /// Its size: it must be the size of this library's struct.
     Size,
     /// A number that no checksum has.
     Checksum,
-    /// Neither 0 nor 1.
+    /// It must be 0 or 1.
     PduCrc,
     /// A number that no handler has.
     OnAckLimit,
@@ -21,18 +21,18 @@ pub enum BadField {
     OnNakLimit,
     /// See `OnAckLimit`.
     OnInactivity,
-    /// Neither 0 nor 1, of the frames that it sends.
+    /// It must be 0 or 1, of the frames that it sends.
     SendsControlField,
     /// See `SendsControlField`.
     SendsErrorControl,
-    /// Neither 0 nor 1, of the frames that it receives.
+    /// It must be 0 or 1, of the frames that it receives.
     ReceivesControlField,
     /// See `ReceivesControlField`.
     ReceivesErrorControl,
 }
 
 impl BadField {
-    /// The number that names it: 70 to 99.
+    /// Returns the number that names it: 70 to 99.
     pub(crate) fn number(self) -> u32
         ensures number { result ≡ codes.field_number self }
         ensures names { codes.NamesField result }

@@ -1,11 +1,14 @@
 //! Files that the user of a station gives it and has sent, and the time.
 ghost use Rattle.std.specs.Prelude.{◌≡◌, ◌≢◌, false, Some, None, MatchOption};
 ghost use Rattle.cfdp_c.specs.Calls.{id_of, Adds, Puts, PutsFrom, Seeks, TellsTime, IsTimeout};
+ghost use Rattle.cfdp_c.specs.Calls.{RemovesOne};
 ghost use Rattle.cfdp_c.specs.Held.{has_folders, state_of, OfMemory};
 ghost use Rattle.cfdp_c.specs.Codes as codes;
 ghost use Rattle.cfdp_c.specs.Handles.{Becomes};
 
-use crate::codes::{CLOSED, IN_FOLDERS, NOTHING, OK, of_add, of_look, of_memory, of_put};
+use crate::codes::{
+    CLOSED, IN_FOLDERS, NOTHING, OK, of_add, of_look, of_memory, of_put, of_remove,
+};
 use crate::handle::CfdpStation;
 use crate::held::{AnyStation, Held};
 use cfdp_header::TransactionId;
@@ -74,14 +77,14 @@ fn seek<O: SeekingOutbox, I: Inbox>(
     }
 }
 
-/// Tells a station the time.
+/// Gives a station the time.
 fn tick<O: Outbox, I: Inbox>(station: &mut Station<O, I>, now: u64) -> u32
     ensures tells { TellsTime now result station.old station.new }
 {
     of_memory(station.tick(now))
 }
 
-/// Tells a deadline, if there is one.
+/// Writes a deadline, if there is one.
 fn tell_deadline(next: Option<u64>, deadline: &mut u64) -> u32
     ensures { MatchOption next ((result ≡ codes.nothing) × (deadline.new ≡ deadline.old))
         (λ at. (result ≡ codes.ok) × (deadline.new ≡ at)) }
@@ -105,6 +108,18 @@ impl Held {
     {
         match &mut self.station {
             AnyStation::Memory(station) => of_add(station.add_source(name, octets)),
+            AnyStation::Folders(_) => IN_FOLDERS,
+        }
+    }
+
+    fn remove_source(&mut self, name: &[u8]) -> u32
+        ensures removes { OfMemory self.old.station result
+            (RemovesOne name.now result (state_of self.old.station) (state_of self.new.station))
+            (state_of self.new.station ≡ state_of self.old.station) }
+        ensures place { has_folders self.new.station ≡ has_folders self.old.station }
+    {
+        match &mut self.station {
+            AnyStation::Memory(station) => of_remove(station.remove_source(name)),
             AnyStation::Folders(_) => IN_FOLDERS,
         }
     }
@@ -145,8 +160,8 @@ impl Held {
     }
 }
 
-/// Adds a file to the outbox; both are copied. The first cause that holds: 0, `CLOSED`,
-/// `IN_FOLDERS` where the outbox is a folder, `NAME_TAKEN` where there is a file of that name, or
+/// Adds a file to the outbox; both are copied. Returns the first that holds: 0, `CLOSED`,
+/// `IN_FOLDERS` if the outbox is a folder, `NAME_TAKEN` if there is a file of that name, or
 /// `NO_MEMORY`.
 #[unsafe(no_mangle)]
 pub extern "C" fn cfdp_add(
@@ -169,8 +184,28 @@ pub extern "C" fn cfdp_add(
     answer
 }
 
+/// Removes a file that no transaction is sending from the outbox, and gives its memory back. It
+/// takes no memory. Returns 0, or the first of these that holds: `CLOSED`, `IN_FOLDERS`, 21 if
+/// there is no file of that name, 15 if a transaction is sending it. Unless it returns 0, nothing
+/// changed.
+#[unsafe(no_mangle)]
+pub extern "C" fn cfdp_remove_source(alloc: Global, station: &mut CfdpStation, name: &[u8]) -> u32
+    ensures open { station.new.is_open ≡ station.old.is_open }
+    ensures closed { station.old.is_open ≡ false → result ≡ codes.closed }
+    ensures removes { Becomes station.old station.new (λ x y. OfMemory x.station result
+        (RemovesOne name.now result (state_of x.station) (state_of y.station))
+        (state_of y.station ≡ state_of x.station)) }
+{
+    let Some(mut held) = station.lift(alloc) else {
+        return CLOSED;
+    };
+    let answer = held.remove_source(name);
+    *station = CfdpStation::holding(held);
+    answer
+}
+
 /// Sends a file of the outbox, to be published by the peer under the second name; `id` is the
-/// transaction. In a folder the file is looked for first. Answers 0, `CLOSED`, `NO_MEMORY`, or why
+/// transaction. In a folder the file is looked for first. Returns 0, `CLOSED`, `NO_MEMORY`, or why
 /// the put is refused.
 #[unsafe(no_mangle)]
 pub extern "C" fn cfdp_put(
@@ -194,8 +229,9 @@ pub extern "C" fn cfdp_put(
     answer
 }
 
-/// Tells the time: each timer that is due expires once. A time earlier than the last one told
-/// counts as that. Answers 0, `CLOSED`, or `NO_MEMORY`: then nothing changed, the time neither.
+/// Gives the time: each timer that is due expires once. If a time is earlier than the last one
+/// given, it counts as that. Returns 0, `CLOSED`, or `NO_MEMORY`: then nothing changed, the time
+/// neither.
 #[unsafe(no_mangle)]
 pub extern "C" fn cfdp_tick(alloc: Global, station: &mut CfdpStation, now: u64) -> u32
     ensures open { station.new.is_open ≡ station.old.is_open }
@@ -211,8 +247,8 @@ pub extern "C" fn cfdp_tick(alloc: Global, station: &mut CfdpStation, now: u64) 
     answer
 }
 
-/// When `cfdp_tick` has to be called at the latest: the earliest deadline of all armed timers.
-/// Answers 0, `CLOSED`, or `NOTHING` where none is armed.
+/// Writes when `cfdp_tick` must be called at the latest: the earliest deadline of all armed timers.
+/// Returns 0, `CLOSED`, or `NOTHING` if none is armed.
 #[unsafe(no_mangle)]
 pub extern "C" fn cfdp_next_timeout(
     alloc: Global,

@@ -1,13 +1,14 @@
-// What a call answers to C: a number, of which 0 is that all went well.
+// What a call answers to C: a number; 0 is that all went well.
 ghost use Rattle.std.specs.Prelude.{◌≡◌, MatchOption};
 ghost use Rattle.cfdp_c.specs.Codes as codes;
 ghost use Rattle.cfdp_c.specs.Codes.{folders_code, look_code};
 ghost use Rattle.cfdp_c.specs.Codes.{add_answer, request_answer, forget_answer, put_answer};
+ghost use Rattle.cfdp_c.specs.Codes.{remove_answer};
 ghost use Rattle.cfdp_c.specs.Codes.{poll_answer, transmit_answer, memory_answer};
 
 use crate::held::FoldersError;
 use cfdp_header::TransactionId;
-use cfdp_station::{AddError, ForgetError, Lane, Polled, PutError, RequestError};
+use cfdp_station::{AddError, ForgetError, Lane, Polled, PutError, RemoveError, RequestError};
 use cfdp_store::StoreError;
 use frame_security::Refusal;
 use std::alloc::AllocError;
@@ -22,13 +23,15 @@ pub(crate) const ALREADY_OPEN: u32 = 2;
 pub(crate) const BAD_ARGUMENT: u32 = 3;
 /// There is no memory for it.
 pub(crate) const NO_MEMORY: u32 = 4;
-/// The lent room is too short.
+/// The borrowed room is too short.
 pub(crate) const NO_ROOM: u32 = 5;
 /// There is nothing of the kind.
 pub(crate) const NOTHING: u32 = 6;
 /// The files are in folders, and the call is of files in memory.
 pub(crate) const IN_FOLDERS: u32 = 7;
-/// A name isn't as it has to be.
+/// The outbox has no file of that name.
+const NO_SUCH_FILE: u32 = 21;
+/// A name isn't as it must be.
 const BAD_NAME: u32 = 22;
 /// No number is left.
 pub(crate) const NUMBERS_SPENT: u32 = 25;
@@ -37,7 +40,7 @@ const SOURCE_FAULT: u32 = 26;
 /// The transaction has no record here.
 const UNKNOWN: u32 = 31;
 
-/// What a caller is told of a file that it adds.
+/// Returns the number of the answer to a file that is added.
 pub(crate) fn of_add(answer: Result<(), AddError>) -> u32
     ensures { result ≡ add_answer answer }
 {
@@ -48,7 +51,18 @@ pub(crate) fn of_add(answer: Result<(), AddError>) -> u32
     }
 }
 
-/// What a caller is told where no station over folders can be opened.
+/// Returns the number of the answer to a caller that removes a file from the outbox.
+pub(crate) fn of_remove(answer: Result<(), RemoveError>) -> u32
+    ensures { result ≡ remove_answer answer }
+{
+    match answer {
+        Ok(()) => OK,
+        Err(RemoveError::NoSuchFile) => NO_SUCH_FILE,
+        Err(RemoveError::InUse) => 15,
+    }
+}
+
+/// Returns the number of why no station over folders can be opened.
 pub(crate) fn of_folders(error: FoldersError) -> u32
     ensures { result ≡ folders_code error }
 {
@@ -60,7 +74,7 @@ pub(crate) fn of_folders(error: FoldersError) -> u32
     }
 }
 
-/// What a caller is told where the outbox failed to look for a file.
+/// Returns the number of why the outbox failed to look for a file.
 pub(crate) fn of_look(error: StoreError) -> u32
     ensures { result ≡ look_code error }
 {
@@ -71,7 +85,7 @@ pub(crate) fn of_look(error: StoreError) -> u32
     }
 }
 
-/// What a caller is told of the next frame that was asked for.
+/// Returns the number of the answer to a call for the next frame.
 pub(crate) fn of_frame(lane: Option<Lane>) -> u32
     ensures { MatchOption lane (result ≡ codes.nothing) (λ _. result ≡ codes.ok) }
 {
@@ -81,13 +95,13 @@ pub(crate) fn of_frame(lane: Option<Lane>) -> u32
     }
 }
 
-/// What a caller is told of a put.
+/// Returns the number of the answer to a put.
 pub(crate) fn of_put(answer: Result<TransactionId, PutError>) -> u32
     ensures { result ≡ put_answer answer }
 {
     match answer {
         Ok(_) => OK,
-        Err(PutError::NoSuchFile) => 21,
+        Err(PutError::NoSuchFile) => NO_SUCH_FILE,
         Err(PutError::Name) => BAD_NAME,
         Err(PutError::TooLarge) => 23,
         Err(PutError::TableFull) => 24,
@@ -97,7 +111,7 @@ pub(crate) fn of_put(answer: Result<TransactionId, PutError>) -> u32
     }
 }
 
-/// What a caller is told of a request of a transaction.
+/// Returns the number of the answer to a request of a transaction.
 pub(crate) fn of_request(answer: Result<(), RequestError>) -> u32
     ensures { result ≡ request_answer answer }
 {
@@ -111,7 +125,7 @@ pub(crate) fn of_request(answer: Result<(), RequestError>) -> u32
     }
 }
 
-/// What a caller is told of a record that it lets go.
+/// Returns the number of the answer to a record that is dropped.
 pub(crate) fn of_forget(answer: Result<(), ForgetError>) -> u32
     ensures { result ≡ forget_answer answer }
 {
@@ -124,7 +138,7 @@ pub(crate) fn of_forget(answer: Result<(), ForgetError>) -> u32
     }
 }
 
-/// What a caller is told of a poll.
+/// Returns the number of the answer to a poll.
 pub(crate) fn of_poll(answer: Result<Polled, AllocError>) -> u32
     ensures { result ≡ poll_answer answer }
 {
@@ -137,7 +151,7 @@ pub(crate) fn of_poll(answer: Result<Polled, AllocError>) -> u32
     }
 }
 
-/// What a caller is told of the next frame that leaves.
+/// Returns the number of the answer to a call for the next frame that leaves.
 pub(crate) fn of_transmit(answer: Result<Option<Lane>, AllocError>) -> u32
     ensures { result ≡ transmit_answer answer }
 {
@@ -148,7 +162,7 @@ pub(crate) fn of_transmit(answer: Result<Option<Lane>, AllocError>) -> u32
     }
 }
 
-/// What a caller is told of a call that only a want of memory stops.
+/// Returns the number of the answer to a call that fails only if memory runs out.
 pub(crate) fn of_memory(answer: Result<(), AllocError>) -> u32
     ensures { result ≡ memory_answer answer }
 {
@@ -158,7 +172,7 @@ pub(crate) fn of_memory(answer: Result<(), AllocError>) -> u32
     }
 }
 
-/// What a caller is told of a secured frame that is refused.
+/// Returns the number of why a secured frame is refused.
 pub(crate) fn of_refusal(cause: Refusal) -> u32
     ensures { result ≡ codes.refusal_code cause }
 {

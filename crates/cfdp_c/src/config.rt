@@ -1,8 +1,8 @@
 //! How a caller says what a station is set up as.
 ghost use Rattle.std.specs.Prelude.{◌≡◌, ◌≢◌, ◌<◌, ◌↔◌, IsOk, IfOk, IfErr, IsSome, IfSome};
 ghost use Rattle.cfdp_c.specs.Config.{config_of, entity_of, fields_of, flag_of, handler_of};
-ghost use Rattle.cfdp_c.specs.Config.{link_of, policy_of, config_len, default_config, HasFlags};
-ghost use Rattle.cfdp_c.specs.Config.{HasNames, IsUsable, NamesEntity, Suits};
+ghost use Rattle.cfdp_c.specs.Config.{limit_of, link_of, policy_of, config_len, default_config};
+ghost use Rattle.cfdp_c.specs.Config.{HasFlags, HasNames, IsUsable, NamesEntity, Suits};
 
 use crate::bad_field::BadField;
 use cfdp_directives::{ChecksumKind, Handler, Handlers, Limits, Policy, Times};
@@ -26,13 +26,14 @@ pub struct CfdpLink {
     pub spacecraft: u8,
     /// The virtual channel of the frames that carry directives: 0 to 62.
     pub virtual_channel: u8,
-    /// That of the frames that carry file data: 0 to 62, another than `virtual_channel`.
+    /// The virtual channel of the frames that carry file data: 0 to 62; it must not be
+    /// `virtual_channel`.
     pub data_virtual_channel: u8,
-    /// Octets of the insert zone behind a frame's header: 0 to 64.
+    /// Octets of the insert zone after a frame's header: 0 to 64.
     pub insert_zone: u8,
-    /// 1 where frames have an operational control field, of 4 octets, else 0.
+    /// 1 if frames have an operational control field, of 4 octets, otherwise 0.
     pub control_field: u8,
-    /// 1 where frames have a frame error control field, of 2 octets, else 0.
+    /// 1 if frames have a frame error control field, of 2 octets, otherwise 0.
     pub error_control: u8,
 }
 
@@ -40,7 +41,8 @@ pub struct CfdpLink {
 #[repr(C)]
 #[derive(Clone, Copy)]
 pub struct CfdpConfig {
-    /// Octets of this struct, as the caller's header has it: another one is refused.
+    /// Octets of this struct, as the caller's header has it: it must be the library's, or it is
+    /// refused.
     pub size: usize,
     /// The id of this entity.
     pub entity: u64,
@@ -62,8 +64,8 @@ pub struct CfdpConfig {
     pub sends: CfdpLink,
     /// The frames that it receives: the peer's `sends`.
     pub receives: CfdpLink,
-    /// 1 where the PDUs of the files that it sends, and those that answer them, end in a CRC, of 2
-    /// octets, else 0.
+    /// 1 if the PDUs of the files that it sends, and those that answer them, end in a CRC, of 2
+    /// octets, otherwise 0.
     pub pdu_crc: u8,
     /// The most octets of a file in one PDU: 1 to 4,096.
     pub segment: u16,
@@ -80,12 +82,14 @@ pub struct CfdpConfig {
     pub nak_limit: u8,
     /// How often a Finished is sent again.
     pub finished_limit: u8,
-    /// What is done where no ACK comes: 0 cancels, 1 suspends, 2 ignores it, 3 abandons.
+    /// What is done if no ACK comes: 0 cancels, 1 suspends, 2 ignores it, 3 abandons.
     pub on_ack_limit: u8,
-    /// What is done where nothing comes after NAKs.
+    /// What is done if nothing comes after NAKs.
     pub on_nak_limit: u8,
-    /// What is done where nothing at all comes.
+    /// What is done if nothing at all comes.
     pub on_inactivity: u8,
+    /// How many gaps what is held of a file may have; 0: no limit.
+    pub most_gaps: u64,
 }
 
 impl CfdpLink {
@@ -116,8 +120,8 @@ impl CfdpLink {
 }
 
 impl CfdpConfig {
-    /// The station's own configuration, where one can be set up so; else a field that isn't as it
-    /// has to be.
+    /// Returns the station's own configuration, if one can be set up so; otherwise a field that
+    /// isn't as it must be.
     pub(crate) fn config(&self) -> Result<Valid<StationConfig>, BadField>
         ensures some { IsOk result ↔ IsUsable self.now }
         ensures same { IfOk result (λ config. config ≡ config_of self.now) }
@@ -223,11 +227,12 @@ impl CfdpConfig {
                 nak: handler(self.on_nak_limit)?,
                 inactivity: handler(self.on_inactivity)?,
             },
+            most_gaps: limit(self.most_gaps),
         })
     }
 }
 
-// Whether something is so: 0 or 1, and no other number.
+// Whether something is so: it must be 0 or 1.
 pub(crate) fn flag(number: u8) -> Option<bool>
     ensures some { IsSome result ↔ (number < 2) }
     ensures same { IfSome result (λ flag. flag ≡ flag_of number) }
@@ -246,9 +251,16 @@ fn handler(number: u8) -> Option<Handler>
     Handler::from_number(number)
 }
 
+// The limit that a number says: 0 says that there is none.
+fn limit(number: u64) -> Option<u64>
+    ensures { result ≡ limit_of number }
+{
+    if number == 0 { None } else { Some(number) }
+}
+
 /// Fills in the defaults: those of a script's station 1. Station 2 has both ids, and both links,
-/// the other way round. It reads `size` first: where that is another, the caller's header has
-/// another struct, and nothing is written.
+/// the other way round. It reads `size` first: if that is another, the caller's header has another
+/// struct, and nothing is written.
 #[tactic(auto, unfolding(cfdp_directives::specs::Pdu::Codes::is_known))]
 #[unsafe(no_mangle)]
 pub extern "C" fn cfdp_fill_defaults(config: &mut CfdpConfig)
@@ -300,5 +312,6 @@ pub extern "C" fn cfdp_fill_defaults(config: &mut CfdpConfig)
         on_ack_limit: 0,
         on_nak_limit: 0,
         on_inactivity: 0,
+        most_gaps: 0,
     };
 }

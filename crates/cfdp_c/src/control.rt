@@ -14,7 +14,7 @@ use crate::held::{AnyStation, Held};
 use cfdp_station::Lane;
 use std::alloc::Global;
 
-/// The lane of file data, or that of directives.
+/// Returns the lane of file data, or the lane of directives.
 fn lane(file_data: bool) -> Lane
     ensures { result ≡ lane_of file_data }
 {
@@ -25,7 +25,7 @@ fn lane(file_data: bool) -> Lane
     }
 }
 
-/// Tells what came, if anything did.
+/// Writes what was received, if anything was.
 fn tell_control(came: Option<u32>, control: &mut u32) -> u32
     ensures { TellsControl came result control.old control.new }
 {
@@ -60,8 +60,8 @@ impl Held {
     }
 }
 
-/// Has this in the operational control field of the frames that leave from now on, of both lanes,
-/// if those that it sends have one; at first it is 0. Answers 0 or `CLOSED`.
+/// Sets the operational control field of the frames that leave from now on, of both lanes, if the
+/// frames that it sends have one; at first it is 0. Returns 0 or `CLOSED`.
 #[unsafe(no_mangle)]
 pub extern "C" fn cfdp_set_control_field(
     alloc: Global,
@@ -79,9 +79,9 @@ pub extern "C" fn cfdp_set_control_field(
     OK
 }
 
-/// Tells the operational control field of the last frame that came of a lane, of file data or of
-/// directives. Answers 0, `CLOSED`, or `NOTHING` where none came, or the frames that it receives
-/// have no such field.
+/// Writes the operational control field of the last received frame of a lane, of file data or of
+/// directives. Returns 0, `CLOSED`, or `NOTHING` if no frame was received, or the frames that it
+/// receives have no such field.
 #[unsafe(no_mangle)]
 pub extern "C" fn cfdp_control_field(
     alloc: Global,

@@ -52,7 +52,7 @@ pub struct CfdpFrameDrops {
     pub segmented: u64,
     /// There was no memory for what the zone holds.
     pub no_memory: u64,
-    /// Its check tells that it was damaged on the way.
+    /// Its check says that it was damaged on the way.
     pub damaged: u64,
 }
 
@@ -66,7 +66,7 @@ pub struct CfdpPduDrops {
     pub bad_version: u64,
     /// Its CRC is wrong.
     pub bad_crc: u64,
-    /// Its length isn't that of its header.
+    /// Its length isn't the length that its header says.
     pub bad_length: u64,
     /// It is of class 1.
     pub unacknowledged: u64,
@@ -186,7 +186,7 @@ impl Held {
     }
 }
 
-/// Tells what the station counts. Answers 0 or `CLOSED`.
+/// Writes what the station counts. Returns 0 or `CLOSED`.
 #[unsafe(no_mangle)]
 pub extern "C" fn cfdp_counters(
     alloc: Global,

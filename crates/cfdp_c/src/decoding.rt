@@ -12,7 +12,7 @@ use crate::codes::OK;
 use cfdp_directives::{Pdu, decode};
 use cfdp_header::Header;
 
-/// A PDU as a plain struct. What its kind hasn't is 0.
+/// A PDU as a plain struct. A field that its kind hasn't is 0.
 #[repr(C)]
 #[derive(Clone, Copy)]
 pub struct CfdpPdu {
@@ -20,11 +20,11 @@ pub struct CfdpPdu {
     pub id: CfdpId,
     /// The entity that receives the file.
     pub destination: u64,
-    /// Where the file data stand (0), where a NAK's scope starts (8), or the progress (12).
+    /// The offset of the file data (0), the start of a NAK's scope (8), or the progress (12).
     pub offset: u64,
-    /// Octets of the file (4, 7), or where a NAK's scope ends (8).
+    /// Octets of the file (4, 7), or the end of a NAK's scope (8).
     pub size: u64,
-    /// Octets of file data (0): the last ones of the PDU, but for its CRC.
+    /// Octets of file data (0): the last ones of the PDU, except its CRC.
     pub data_len: usize,
     /// How many ranges a NAK asks for (8).
     pub pairs: usize,
@@ -32,7 +32,7 @@ pub struct CfdpPdu {
     pub checksum: u32,
     /// 0 file data, 4 EOF, 5 Finished, 6 ACK, 7 Metadata, 8 NAK, 9 Prompt, 12 Keep Alive.
     pub kind: u8,
-    /// 1 where it goes toward the file's sender.
+    /// 1 if it goes toward the file's sender.
     pub toward_sender: u8,
     /// The condition code (4, 5, 6).
     pub condition: u8,
@@ -44,11 +44,11 @@ pub struct CfdpPdu {
     pub acknowledged: u8,
     /// The code of the checksum (7).
     pub checksum_kind: u8,
-    /// 1 where a Keep Alive is asked for, 0 where a NAK is (9).
+    /// 1 if a Keep Alive is asked for, 0 if a NAK is (9).
     pub keep_alive: u8,
-    /// 1 where sizes and offsets have 8 octets, 0 where they have 4.
+    /// 1 if sizes and offsets have 8 octets, 0 if they have 4.
     pub large: u8,
-    /// 1 where the PDU ends in a CRC, of 2 octets, else 0.
+    /// 1 if the PDU ends in a CRC, of 2 octets, otherwise 0.
     pub crc: u8,
 }
 
@@ -152,8 +152,8 @@ impl CfdpPdu {
     }
 }
 
-/// Reads a PDU. Answers 0, or 50 more than the number of the first thing that is wrong with it, 1
-/// to 11, but 6.
+/// Reads a PDU. Returns 0, or 50 more than the number of the first thing that is wrong with it, 1
+/// to 11, but not 6.
 #[unsafe(no_mangle)]
 pub extern "C" fn cfdp_decode(pdu: &[u8], out: &mut CfdpPdu) -> u32
     ensures answer { result ≡ pdu_answer (pdu_fault pdu.now) }

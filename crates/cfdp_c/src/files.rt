@@ -1,5 +1,5 @@
-//! The published files of a station with its files in memory, by their places in ascending order of
-//! their names, until they are let go.
+//! The published files of a station with its files in memory, by their indexes in ascending order
+//! of their names, until they are dropped.
 ghost use Rattle.std.specs.Prelude.{◌≡◌, ◌≢◌, ◌+◌, false, length, nat_le, slice_get};
 ghost use Rattle.std.specs.BTreeMap.{IsOrdered};
 ghost use Rattle.std.specs.Cmp.Lexicographic.{slice_cmp};
@@ -29,7 +29,7 @@ pub struct CfdpFile {
     pub size: usize,
 }
 
-/// The entry at a place of a map.
+/// Returns the entry at an index of a map.
 fn entry_at(files: &BTreeMap<Vec<u8>, Vec<u8>>, place: usize) -> Option<(&Vec<u8>, &Vec<u8>)>
     ensures at { option_map (λ e. (e.0.now, e.1.now)) result ≡ slice_get files.now.entries place }
     ensures ordered { IsOrdered (λ a b. slice_cmp nat_cmp a.items b.items) files.now }
@@ -37,7 +37,7 @@ fn entry_at(files: &BTreeMap<Vec<u8>, Vec<u8>>, place: usize) -> Option<(&Vec<u8
     files.iter().nth(place)
 }
 
-/// The name and the octets of the file at a place.
+/// Returns the name and the octets of the file at an index.
 fn file_at(files: &Files, place: usize) -> Option<(&Vec<u8>, &Vec<u8>)>
     ensures { option_map (λ f. (f.0.now.items, f.1.now.items)) result
         ≡ slice_get (entries files.now) place }
@@ -45,7 +45,7 @@ fn file_at(files: &Files, place: usize) -> Option<(&Vec<u8>, &Vec<u8>)>
     entry_at(files.entries(), place)
 }
 
-/// How many entries a map has.
+/// Returns how many entries a map has.
 fn entry_count(files: &BTreeMap<Vec<u8>, Vec<u8>>) -> usize
     ensures count { result ≡ length files.now.entries }
     ensures ordered { IsOrdered (λ a b. slice_cmp nat_cmp a.items b.items) files.now }
@@ -55,14 +55,14 @@ fn entry_count(files: &BTreeMap<Vec<u8>, Vec<u8>>) -> usize
     files.len()
 }
 
-/// How many files there are.
+/// Returns how many files there are.
 fn count(files: &Files) -> usize
     ensures { result ≡ length (entries files.now) }
 {
     entry_count(files.entries())
 }
 
-/// Copies octets from an offset on into lent room, if there are as many.
+/// Copies octets from an offset on into borrowed room, if there are as many.
 fn read(octets: &[u8], offset: usize, room: &mut [u8]) -> u32
     ensures reads { ReadsIf (nat_le (offset + length room.old) (length octets.now)) octets.now
         offset result room.old room.new }
@@ -76,7 +76,7 @@ fn read(octets: &[u8], offset: usize, room: &mut [u8]) -> u32
     OK
 }
 
-/// Tells how long the name and the file at a place are, and the name.
+/// Writes how long the name and the file at an index are, and the name.
 fn tell_file(files: &Files, place: usize, out: &mut CfdpFile, name: &mut [u8]) -> u32
     ensures names { NamesFile (slice_get (entries files.now) place) result out.old out.new
         name.old name.new }
@@ -95,7 +95,7 @@ fn tell_file(files: &Files, place: usize, out: &mut CfdpFile, name: &mut [u8]) -
     OK
 }
 
-/// Reads from the file at a place.
+/// Reads from the file at an index.
 fn read_at(files: &Files, place: usize, offset: usize, out: &mut [u8]) -> u32
     ensures reads { ReadsFile (slice_get (entries files.now) place) offset result out.old
         out.new }
@@ -112,7 +112,7 @@ fn remove<O: Outbox>(station: &mut Station<O, MemoryInbox>, name: &[u8]) -> u32
     ensures { RemovesFile (map.get station.old.entity.state.table.files name.now) name.now
         result station.old station.new }
 {
-    // Where there is none, the clause says that nothing changed.
+    // If there is none, the clause says that nothing changed.
     if station.inbox().published().get(name).is_none() {
         return NOTHING;
     }
@@ -172,7 +172,7 @@ impl Held {
     }
 }
 
-/// How many files are published in memory; 0 of a closed handle, and of one with folders.
+/// Returns how many files are published in memory; 0 if the handle is closed, or has folders.
 #[unsafe(no_mangle)]
 pub extern "C" fn cfdp_file_count(alloc: Global, station: &mut CfdpStation) -> usize
     ensures open { station.new.is_open ≡ station.old.is_open }
@@ -188,9 +188,9 @@ pub extern "C" fn cfdp_file_count(alloc: Global, station: &mut CfdpStation) -> u
     count
 }
 
-/// Tells the size of the published file at a place, and copies its name into lent room of 255
-/// octets or less. Answers 0, `CLOSED`, `IN_FOLDERS` where they lie in a folder, `NOTHING` where
-/// there are not so many files, or `NO_ROOM`.
+/// Writes the size of the published file at an index, and copies its name into borrowed room of 255
+/// octets or less. Returns 0, `CLOSED`, `IN_FOLDERS` if they lie in a folder, `NOTHING` if there
+/// are not so many files, or `NO_ROOM`.
 #[unsafe(no_mangle)]
 pub extern "C" fn cfdp_file(
     alloc: Global,
@@ -215,9 +215,9 @@ pub extern "C" fn cfdp_file(
     answer
 }
 
-/// Fills lent room with octets of the published file at a place, from an offset on. Answers 0,
-/// `CLOSED`, `IN_FOLDERS` where they lie in a folder, `NOTHING` where there are not so many files,
-/// or `BAD_ARGUMENT` where the file ends before that.
+/// Fills borrowed room with octets of the published file at an index, from an offset on. Returns 0,
+/// `CLOSED`, `IN_FOLDERS` if they lie in a folder, `NOTHING` if there are not so many files, or
+/// `BAD_ARGUMENT` if the file ends before that.
 #[unsafe(no_mangle)]
 pub extern "C" fn cfdp_read_file(
     alloc: Global,
@@ -242,9 +242,8 @@ pub extern "C" fn cfdp_read_file(
     answer
 }
 
-/// Lets go of the published file of a name: the places of those behind it are one less then.
-/// Answers 0, `CLOSED`, `IN_FOLDERS` where they lie in a folder, or `NOTHING` where there is no
-/// file of that name.
+/// Drops the published file of a name: the indexes of those after it are one less then. Returns 0,
+/// `CLOSED`, `IN_FOLDERS` if they lie in a folder, or `NOTHING` if there is no file of that name.
 #[unsafe(no_mangle)]
 pub extern "C" fn cfdp_remove_file(alloc: Global, station: &mut CfdpStation, name: &[u8]) -> u32
     ensures open { station.new.is_open ≡ station.old.is_open }

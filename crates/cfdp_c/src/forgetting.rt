@@ -1,4 +1,4 @@
-//! Records of transactions that are over: to let them go, and which ones were.
+//! Records of transactions that are over: to drop them, and which ones were dropped.
 ghost use Rattle.std.specs.Prelude.{◌≡◌, ◌≢◌, false};
 ghost use Rattle.cfdp_entity.specs.Entity.{is_forgotten};
 ghost use Rattle.cfdp_c.specs.Calls.{id_of, ForgetsOne, ForgetsClosed};
@@ -16,7 +16,7 @@ use cfdp_station::Station;
 use cfdp_store::{Inbox, Outbox};
 use std::alloc::Global;
 
-/// Lets go of all records of a station that may go.
+/// Drops all records of a station that may be dropped.
 fn forget_closed<O: Outbox, I: Inbox>(station: &mut Station<O, I>) -> u32
     ensures forgets { ForgetsClosed result station.old station.new }
 {
@@ -56,12 +56,12 @@ impl Held {
     }
 }
 
-/// Lets go of the record of a transaction that is over, which makes room for another one. It is
+/// Drops the record of a transaction that is over, which makes room for another one. It is
 /// never opened again: an EOF or a Finished that still comes of it is acknowledged.
 ///
-/// Answers 0, `CLOSED`, `UNKNOWN` where it has no record here, `STILL_OPEN` where it isn't over,
-/// `ANSWER_DUE` where a poll has yet to send an acknowledgement of it, or `NO_MEMORY`: the first
-/// that holds. But for 0 nothing changed.
+/// Returns 0, `CLOSED`, `UNKNOWN` if it has no record here, `STILL_OPEN` if it isn't over,
+/// `ANSWER_DUE` if a poll must still send an acknowledgement of it, or `NO_MEMORY`: the first that
+/// holds. Unless it is 0, nothing changed.
 #[unsafe(no_mangle)]
 pub extern "C" fn cfdp_forget(alloc: Global, station: &mut CfdpStation, id: &CfdpId) -> u32
     ensures open { station.new.is_open ≡ station.old.is_open }
@@ -77,8 +77,8 @@ pub extern "C" fn cfdp_forget(alloc: Global, station: &mut CfdpStation, id: &Cfd
     answer
 }
 
-/// Lets go of the records of all transactions that are over and have no acknowledgement due, as
-/// `cfdp_forget` does of one. Answers 0, `CLOSED`, or `NO_MEMORY`: some of them may be gone then.
+/// Drops the records of all transactions that are over and have no acknowledgement due, as
+/// `cfdp_forget` does of one. Returns 0, `CLOSED`, or `NO_MEMORY`: some of them may be gone then.
 #[unsafe(no_mangle)]
 pub extern "C" fn cfdp_forget_closed(alloc: Global, station: &mut CfdpStation) -> u32
     ensures open { station.new.is_open ≡ station.old.is_open }
@@ -94,7 +94,7 @@ pub extern "C" fn cfdp_forget_closed(alloc: Global, station: &mut CfdpStation) -
     answer
 }
 
-/// Tells whether the record of a transaction was let go: 1 where it was, else 0. Answers 0 or
+/// Writes whether the record of a transaction was dropped: 1 if it was, otherwise 0. Returns 0 or
 /// `CLOSED`.
 #[unsafe(no_mangle)]
 pub extern "C" fn cfdp_was_forgotten(

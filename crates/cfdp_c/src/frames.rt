@@ -36,7 +36,7 @@ fn poll_memory(station: &mut Station<MemoryOutbox, MemoryInbox>) -> u32
     of_poll(answer)
 }
 
-/// The most whole frames that can wait, those of both lanes.
+/// Returns the most whole frames that can wait, those of both lanes.
 fn frames_ahead<O: Outbox, I: Inbox>(station: &Station<O, I>) -> usize
     ensures { AreAhead result station.now.down }
 {
@@ -112,7 +112,7 @@ impl Held {
         }
     }
 
-    /// The octets of room for a frame.
+    /// Returns the octets of room for a frame.
     fn room_len(&self) -> usize
         ensures { result ≡ frame_len (state_of self.now.station).down.directives.link }
     {
@@ -134,10 +134,10 @@ impl Held {
     }
 }
 
-/// Writes the next frame that is to leave to room of exactly its octets: polls until a whole frame
-/// waits, or nothing is due or has room, and fills up what is begun. Directives go first. Answers
-/// 0, `CLOSED`, `NO_ROOM` where the room has another length, `NOTHING` where there is nothing to
-/// send, or `NO_MEMORY`: what was polled before stays.
+/// Writes the next frame that must leave to room of exactly its octets: polls until a whole frame
+/// waits, or nothing is due or has room, and fills up what is begun. Directives go first. Returns
+/// 0, `CLOSED`, `NO_ROOM` if the room has another length, `NOTHING` if there is nothing to send, or
+/// `NO_MEMORY`: what was polled before stays.
 #[unsafe(no_mangle)]
 pub extern "C" fn cfdp_transmit(alloc: Global, station: &mut CfdpStation, frame: &mut [u8]) -> u32
     ensures sends { Answers result station.old station.new
@@ -152,9 +152,9 @@ pub extern "C" fn cfdp_transmit(alloc: Global, station: &mut CfdpStation, frame:
     answer
 }
 
-/// Moves the PDU whose turn it is down its lane, if one is due. Answers 0, `CLOSED`, `NOTHING`
-/// where none is due, `FULL` where it doesn't fit until frames were taken off, `SOURCE_FAULT` where
-/// the outbox failed and the transaction was cancelled for it, or `NO_MEMORY`: nothing changed.
+/// Moves the PDU whose turn it is down its lane, if one is due. Returns 0, `CLOSED`, `NOTHING` if
+/// none is due, `FULL` if it doesn't fit until frames were taken off, `SOURCE_FAULT` if the outbox
+/// failed and the transaction was cancelled for it, or `NO_MEMORY`: nothing changed.
 #[unsafe(no_mangle)]
 pub extern "C" fn cfdp_poll(alloc: Global, station: &mut CfdpStation) -> u32
     ensures open { station.new.is_open ≡ station.old.is_open }
@@ -171,8 +171,8 @@ pub extern "C" fn cfdp_poll(alloc: Global, station: &mut CfdpStation) -> u32
     answer
 }
 
-/// Fills the begun frame of each lane by an idle packet, where one is begun, so that all can leave
-/// in whole frames. Answers 0 or `CLOSED`.
+/// Fills the begun frame of each lane by an idle packet, if one is begun, so that all can leave in
+/// whole frames. Returns 0 or `CLOSED`.
 #[unsafe(no_mangle)]
 pub extern "C" fn cfdp_flush(alloc: Global, station: &mut CfdpStation) -> u32
     ensures open { station.new.is_open ≡ station.old.is_open }
@@ -188,7 +188,7 @@ pub extern "C" fn cfdp_flush(alloc: Global, station: &mut CfdpStation) -> u32
     OK
 }
 
-/// The octets of each frame that it sends, in either lane; 0 of a closed handle.
+/// Returns the octets of each frame that it sends, in either lane; 0 if the handle is closed.
 #[unsafe(no_mangle)]
 pub extern "C" fn cfdp_frame_len(alloc: Global, station: &mut CfdpStation) -> usize
     ensures open { station.new.is_open ≡ station.old.is_open }
@@ -204,8 +204,8 @@ pub extern "C" fn cfdp_frame_len(alloc: Global, station: &mut CfdpStation) -> us
     len
 }
 
-/// The most whole frames that can wait after a poll or a flush, those of both lanes; 0 of a closed
-/// handle.
+/// Returns the most whole frames that can wait after a poll or a flush, those of both lanes; 0 if
+/// the handle is closed.
 #[unsafe(no_mangle)]
 pub extern "C" fn cfdp_frames_ahead(alloc: Global, station: &mut CfdpStation) -> usize
     ensures open { station.new.is_open ≡ station.old.is_open }
@@ -221,9 +221,9 @@ pub extern "C" fn cfdp_frames_ahead(alloc: Global, station: &mut CfdpStation) ->
     ahead
 }
 
-/// Writes the oldest whole frame to room of exactly its octets, and takes it off: that of
-/// directives, or where none of them waits that of file data. Its channel tells which. Answers 0,
-/// `CLOSED`, `NO_ROOM` where the room has another length, or `NOTHING` where no whole frame waits.
+/// Writes the oldest whole frame to room of exactly its octets, and takes it off: the oldest one of
+/// directives, or if none of them waits, of file data. Its channel says which. Returns 0, `CLOSED`,
+/// `NO_ROOM` if the room has another length, or `NOTHING` if no whole frame waits.
 #[unsafe(no_mangle)]
 pub extern "C" fn cfdp_next_frame(alloc: Global, station: &mut CfdpStation, frame: &mut [u8]) -> u32
     ensures open { station.new.is_open ≡ station.old.is_open }
@@ -240,7 +240,7 @@ pub extern "C" fn cfdp_next_frame(alloc: Global, station: &mut CfdpStation, fram
     answer
 }
 
-/// Takes a frame, whatever its octets are. What can't be used of it is counted. Answers 0 or
+/// Takes a frame, whatever its octets are. What can't be used of it is counted. Returns 0 or
 /// `CLOSED`.
 #[unsafe(no_mangle)]
 pub extern "C" fn cfdp_receive(alloc: Global, station: &mut CfdpStation, frame: &[u8]) -> u32

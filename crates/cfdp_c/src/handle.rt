@@ -35,7 +35,7 @@ impl CfdpStation {
         }
     }
 
-    /// An open handle on what a box has.
+    /// Returns an open handle on what a box has.
     pub(crate) fn holding(held: Box<Held>) -> CfdpStation
         ensures open { result.is_open ≡ true }
         ensures value { result.slot.value ≡ Some held.value }
@@ -46,7 +46,7 @@ impl CfdpStation {
         }
     }
 
-    /// Takes out what the handle has, which is closed then: `None` where it was closed before.
+    /// Takes out what the handle has, which is closed then. Returns `None` if it was closed before.
     pub(crate) fn lift(&mut self, alloc: Global) -> Option<Box<Held>>
         ensures closed { self.new.is_open ≡ false }
         ensures lifted { MatchOption result (self.old.is_open ≡ false)
@@ -63,8 +63,8 @@ impl CfdpStation {
 /// Opens a closed handle on a station that has no transactions, and whose stores, both in memory,
 /// are empty.
 ///
-/// Answers 0, `ALREADY_OPEN`, `NO_MEMORY`, or where no station can be set up so the number of a
-/// field that isn't as it has to be, 70 to 99. But for 0 the handle is as it was.
+/// Returns 0, `ALREADY_OPEN`, `NO_MEMORY`, or, if no station can be set up so, the number of a
+/// field that isn't as it must be, 70 to 99. Unless it is 0, the handle is as it was.
 #[unsafe(no_mangle)]
 pub extern "C" fn cfdp_open(alloc: Global, station: &mut CfdpStation, config: &CfdpConfig) -> u32
     ensures answers { ((result ≡ codes.ok) ⊎ (result ≡ codes.already_open))
@@ -89,12 +89,13 @@ pub extern "C" fn cfdp_open(alloc: Global, station: &mut CfdpStation, config: &C
 }
 
 /// Opens a closed handle on a station that has no transactions, sends the files of one folder, each
-/// as it is asked for, and receives into another one. Both are there, and are named by their paths
-/// in UTF-8. No other station receives into the second one as long as the handle is open.
+/// as it is asked for, and receives into another one. Both folders must be there, and are named by
+/// their paths in UTF-8. No other station receives into the second one as long as the handle is
+/// open.
 ///
-/// Answers 0, `ALREADY_OPEN`, the number of a field as `cfdp_open`, `NO_OUTBOX` where the first
-/// folder can't be read, `NO_INBOX` where the second one can't be, `INBOX_IN_USE` where another
-/// station receives into it, or `NO_MEMORY`. But for 0 the handle is as it was.
+/// Returns 0, `ALREADY_OPEN`, the number of a field as `cfdp_open`, `NO_OUTBOX` if the first folder
+/// can't be read, `NO_INBOX` if the second one can't be, `INBOX_IN_USE` if another station receives
+/// into it, or `NO_MEMORY`. Unless it is 0, the handle is as it was.
 #[unsafe(no_mangle)]
 pub extern "C" fn cfdp_open_folders(
     alloc: Global,
@@ -174,7 +175,7 @@ fn fill(alloc: Global, station: &mut CfdpStation, held: Held) -> u32
     }
 }
 
-/// Gives back all that the handle has; it is closed then. A closed one stays so.
+/// Gives back all that the handle has; it is closed then. A closed one stays closed.
 #[unsafe(no_mangle)]
 pub extern "C" fn cfdp_close(alloc: Global, station: &mut CfdpStation)
     ensures { station.new.is_open ≡ false }

@@ -46,7 +46,7 @@ impl From<AllocError> for FoldersError {
 }
 
 impl Held {
-    /// A station without transactions, both of whose stores are empty.
+    /// Returns a station without transactions, both of whose stores are empty.
     pub fn in_memory(alloc: Global, config: Valid<StationConfig>) -> Result<Held, AllocError>
         ensures first { IfOk result (λ held. IsFirst config (state_of held.station)) }
         ensures place { IfOk result (λ held. has_folders held.station ≡ false) }
@@ -59,7 +59,7 @@ impl Held {
         })
     }
 
-    /// A station without transactions, over two folders, each by its path.
+    /// Returns a station without transactions, over two folders, each by its path.
     pub fn in_folders(
         alloc: Global,
         config: Valid<StationConfig>,
@@ -82,7 +82,7 @@ impl Held {
     }
 }
 
-/// The path of a folder to send from, which is there.
+/// Returns the path of a folder to send from, which must be there.
 fn outbox_path(alloc: Global, path: &[u8]) -> Result<&str, FoldersError> {
     let Ok(path) = str::from_utf8(path) else {
         return Err(FoldersError::NoOutbox);
@@ -94,7 +94,7 @@ fn outbox_path(alloc: Global, path: &[u8]) -> Result<&str, FoldersError> {
     }
 }
 
-/// The path of a folder to receive into, and the folder, taken.
+/// Returns the path of a folder to receive into, and the folder, taken.
 fn take_inbox(alloc: Global, path: &[u8]) -> Result<(&str, HeldFolder), FoldersError> {
     let Ok(path) = str::from_utf8(path) else {
         return Err(FoldersError::NoInbox);

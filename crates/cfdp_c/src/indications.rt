@@ -1,4 +1,4 @@
-//! What a station tells its user.
+//! What a station indicates to its user.
 ghost use Rattle.std.specs.Prelude.{◌≡◌, ◌≢◌, drop, false, length, nat_le};
 ghost use Rattle.std.specs.Prelude.{slice_get};
 ghost use Rattle.std.specs.Bool.{OnTrue, OnFalse};
@@ -16,7 +16,7 @@ use cfdp_directives::Indication;
 use cfdp_header::TransactionId;
 use std::alloc::Global;
 
-/// An [`Indication`] as a plain struct. What its kind hasn't is 0.
+/// An [`Indication`] as a plain struct. A field that its kind hasn't is 0.
 #[repr(C)]
 #[derive(Clone, Copy)]
 pub struct CfdpIndication {
@@ -114,7 +114,7 @@ impl CfdpIndication {
     }
 }
 
-/// Copies the names of an indication into lent room, if it has as many octets.
+/// Copies the names of an indication into borrowed room, if it has as many octets.
 fn copy_names(told: &Indication, room: &mut [u8]) -> bool
     ensures fits { result ≡ nat_le (length (names_of told.now)) (length room.old) }
     ensures copied { OnTrue result (room.new ≡ over (names_of told.now) room.old) }
@@ -173,9 +173,9 @@ impl Held {
     }
 }
 
-/// Tells the next indication, and copies its names, that at the sender first, into lent room of 510
-/// octets or less; the station lets it go then. Answers 0, `CLOSED`, `NOTHING` where all were told,
-/// or `NO_ROOM` where the names don't fit: then it stays the next.
+/// Writes the next indication, and copies its names, the name at the sender first, into borrowed
+/// room of 510 octets or less; the station drops it then. Returns 0, `CLOSED`, `NOTHING` if none is
+/// left, or `NO_ROOM` if the names don't fit: then it stays the next.
 #[unsafe(no_mangle)]
 pub extern "C" fn cfdp_next_indication(
     alloc: Global,

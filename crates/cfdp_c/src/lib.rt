@@ -3,7 +3,7 @@
 //!
 //! No part of the protocol stands here. Each function tests what its caller gave, calls the
 //! station, and puts the answer into a number or a plain struct; its contract is the station's own
-//! clause, of what the handle has. `bindings/c/cfdp.h` says what a caller owes.
+//! clause, of what the handle has. `bindings/c/cfdp.h` says what a caller must do.
 //!
 //! Tested by `tests/bindings.py`.
 #![tactic(auto)]
@@ -29,7 +29,7 @@ mod securing;
 mod station_slot;
 mod version;
 
-pub use calls::{CfdpId, cfdp_add, cfdp_next_timeout, cfdp_put, cfdp_tick};
+pub use calls::{CfdpId, cfdp_add, cfdp_next_timeout, cfdp_put, cfdp_remove_source, cfdp_tick};
 pub use config::{CfdpConfig, CfdpLink, cfdp_fill_defaults};
 pub use control::{cfdp_control_field, cfdp_set_control_field};
 pub use counters::{CfdpCounters, CfdpFrameDrops, CfdpPduDrops, CfdpSentPdus, cfdp_counters};

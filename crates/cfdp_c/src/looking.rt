@@ -38,7 +38,7 @@ fn phase_number(phase: Phase) -> u8
     }
 }
 
-/// The transaction at a place, in order of opening.
+/// Returns the transaction at an index, in order of opening.
 fn transaction_in<O: Outbox, I: Inbox>(
     station: &Station<O, I>,
     place: usize,
@@ -61,7 +61,7 @@ impl Held {
         }
     }
 
-    /// The transaction at a place, in order of opening.
+    /// Returns the transaction at an index, in order of opening.
     fn transaction_at(&self, place: usize) -> Option<(TransactionId, Phase)>
         ensures at { result
             ≡ slice_get (phases_of (state_of self.now.station).entity.state.table) place }
@@ -94,9 +94,9 @@ impl Held {
     }
 }
 
-/// Tells the transaction at a cursor, which begins as 0, and moves that on to the next one. They
-/// stand in order of opening, closed ones too, until they are forgotten, which moves those behind
-/// them up. Answers 0, `CLOSED`, or `NOTHING` where all were told.
+/// Writes the transaction at a cursor, which must begin as 0, and moves that on to the next one.
+/// They stand in order of opening, closed ones too, until they are forgotten, which moves those
+/// after them up. Returns 0, `CLOSED`, or `NOTHING` if there are no more.
 #[unsafe(no_mangle)]
 pub extern "C" fn cfdp_transactions(
     alloc: Global,
@@ -117,7 +117,8 @@ pub extern "C" fn cfdp_transactions(
     answer
 }
 
-/// How many more transactions there is room for, of 4,096 records; 0 of a closed handle.
+/// Returns how many more transactions there is room for, of 4,096 records; 0 if the handle is
+/// closed.
 #[unsafe(no_mangle)]
 pub extern "C" fn cfdp_records_left(alloc: Global, station: &mut CfdpStation) -> usize
     ensures open { station.new.is_open ≡ station.old.is_open }

@@ -39,7 +39,7 @@ fn ask(alloc: Global, station: &mut CfdpStation, id: &CfdpId, request: Request) 
     answer
 }
 
-/// Gives a transaction up, and tells the peer. Answers 0, `CLOSED`, `NO_MEMORY`, or why not.
+/// Cancels a transaction, and notifies the peer. Returns 0, `CLOSED`, `NO_MEMORY`, or why not.
 #[unsafe(no_mangle)]
 pub extern "C" fn cfdp_cancel(alloc: Global, station: &mut CfdpStation, id: &CfdpId) -> u32
     ensures { Answers result station.old station.new
@@ -49,7 +49,8 @@ pub extern "C" fn cfdp_cancel(alloc: Global, station: &mut CfdpStation, id: &Cfd
     ask(alloc, station, id, Request::Cancel)
 }
 
-/// Sends nothing of a transaction, and lets no time run for it. Answers as `cfdp_cancel`.
+/// Suspends a transaction: sends nothing of it, and lets no time run for it. Returns as
+/// `cfdp_cancel`.
 #[unsafe(no_mangle)]
 pub extern "C" fn cfdp_suspend(alloc: Global, station: &mut CfdpStation, id: &CfdpId) -> u32
     ensures { Answers result station.old station.new
@@ -59,7 +60,7 @@ pub extern "C" fn cfdp_suspend(alloc: Global, station: &mut CfdpStation, id: &Cf
     ask(alloc, station, id, Request::Suspend)
 }
 
-/// Goes on with a transaction that was suspended. Answers as `cfdp_cancel`.
+/// Resumes a transaction that was suspended. Returns as `cfdp_cancel`.
 #[unsafe(no_mangle)]
 pub extern "C" fn cfdp_resume(alloc: Global, station: &mut CfdpStation, id: &CfdpId) -> u32
     ensures { Answers result station.old station.new
@@ -69,8 +70,8 @@ pub extern "C" fn cfdp_resume(alloc: Global, station: &mut CfdpStation, id: &Cfd
     ask(alloc, station, id, Request::Resume)
 }
 
-/// Asks the receiver of a file that this station sends for a Keep Alive where true, else for a NAK.
-/// Answers as `cfdp_cancel`.
+/// Asks the receiver of a file that this station sends for a Keep Alive if true, otherwise for a
+/// NAK. Returns as `cfdp_cancel`.
 #[unsafe(no_mangle)]
 pub extern "C" fn cfdp_prompt(
     alloc: Global,

@@ -1,9 +1,9 @@
-// Octets that are copied into lent room.
+// Octets that are copied into borrowed room.
 ghost use Rattle.std.specs.Prelude.{◌≡◌, ◌++◌, ◌≤◌, length, nat_le};
 ghost use Rattle.std.specs.Bool.{OnTrue, OnFalse};
 ghost use Rattle.cfdp_c.specs.Told.{over};
 
-/// Copies octets over the front of a room that has so many.
+/// Copies octets over the front of a room, which must have as many.
 fn copy_front(octets: &[u8], room: &mut [u8])
     requires { length octets.now ≤ length room.old }
     ensures { room.new ≡ over octets.now room.old }
@@ -24,7 +24,7 @@ pub(crate) fn put(octets: &[u8], room: &mut [u8]) -> bool
     true
 }
 
-/// Copies both over the front of a room, one behind the other, if it has as many.
+/// Copies both over the front of a room, one after the other, if it has as many.
 pub(crate) fn put_both(first: &[u8], second: &[u8], room: &mut [u8]) -> bool
     ensures fits { result ≡ nat_le (length (first.now ++ second.now)) (length room.old) }
     ensures copied { OnTrue result (room.new ≡ over (first.now ++ second.now) room.old) }

@@ -16,18 +16,18 @@ use frame_security::{Opener, Sealer, Security};
 #[repr(C)]
 #[derive(Clone, Copy)]
 pub struct CfdpSecurity {
-    /// To seal, the sequence number of the next frame, from 1 on; to open, that of the frame that
-    /// was accepted last, 0 if none was. The calls count it on.
+    /// To seal, the sequence number of the next frame, from 1 on; to open, the number of the frame
+    /// that was accepted last, 0 if none was. The calls count it on.
     pub number: u64,
     /// The security parameter index, by which frames name the key: 1 to 65,534.
     pub spi: u16,
     /// Octets of the MAC that are sent: 16 to 32.
     pub mac_len: u8,
-    /// Octets of the insert zone behind a frame's header: 0 to 64.
+    /// Octets of the insert zone after a frame's header: 0 to 64.
     pub insert_zone: u8,
-    /// 1 where frames have an operational control field, of 4 octets, else 0.
+    /// 1 if frames have an operational control field, of 4 octets, otherwise 0.
     pub control_field: u8,
-    /// 1 where frames have a frame error control field, of 2 octets, else 0.
+    /// 1 if frames have a frame error control field, of 2 octets, otherwise 0.
     pub error_control: u8,
     /// The key: 32 octets.
     pub key: [u8; 32],
@@ -55,8 +55,8 @@ impl CfdpSecurity {
 /// and what is added to it: 10 octets, the MAC, and the fields. The operational control field says
 /// this, if there is one.
 ///
-/// Answers 0; `BAD_ARGUMENT` where the struct says what can't be; `NO_ROOM` where the frame has no
-/// header or the room another length; or `NUMBERS_SPENT` where no number is left. But for 0 nothing
+/// Returns 0; `BAD_ARGUMENT` if the struct says what can't be; `NO_ROOM` if the frame has no header
+/// or the room another length; or `NUMBERS_SPENT` if no number is left. Unless it is 0, nothing
 /// changed.
 #[unsafe(no_mangle)]
 pub extern "C" fn cfdp_seal_frame(
@@ -88,12 +88,12 @@ pub extern "C" fn cfdp_seal_frame(
     }
 }
 
-/// Verifies a frame that came, and writes its bare frame over the front of the room, of as many
+/// Verifies a received frame, and writes its bare frame over the front of the room, of as many
 /// octets as the frame has less those that sealing adds.
 ///
-/// Answers 0; `BAD_ARGUMENT` where the struct says what can't be; 101 to 105 where the frame is
-/// refused, by the first of these causes: too short, damaged, of another SPI, not authentic, of a
-/// number that isn't greater than the last one; or `NO_ROOM` where the room is too short. But for 0
+/// Returns 0; `BAD_ARGUMENT` if the struct says what can't be; 101 to 105 if the frame is refused,
+/// by the first of these causes: too short, damaged, of another SPI, not authentic, of a number
+/// that isn't greater than the last one; or `NO_ROOM` if the room is too short. Unless it is 0,
 /// nothing changed.
 #[unsafe(no_mangle)]
 pub extern "C" fn cfdp_open_frame(security: &mut CfdpSecurity, frame: &[u8], out: &mut [u8]) -> u32

@@ -8,7 +8,7 @@ use crate::parts::Parts;
 use std::alloc::Global;
 use std::marker::Model;
 
-/// What a caller's pointer points to, of which it knows nothing.
+/// What a caller's pointer points to; the caller knows nothing of it.
 pub struct Opaque {
     at: u8,
 }
@@ -28,7 +28,7 @@ impl Model for StationSlot {
 }
 
 impl StationSlot {
-    /// A slot without a station.
+    /// Returns a slot without a station.
     pub fn empty(alloc: Global) -> StationSlot
         ensures { result.value ≡ None }
     {
@@ -38,7 +38,7 @@ impl StationSlot {
         }
     }
 
-    /// A slot that has the station of a box, by the box's parts.
+    /// Returns a slot that has the station of a box, by the box's parts.
     pub fn of_parts(parts: Parts<Held, Global>) -> StationSlot
         ensures { result.value ≡ Some parts.value }
     {
@@ -49,7 +49,7 @@ impl StationSlot {
         }
     }
 
-    /// The parts of the box that the slot has.
+    /// Returns the parts of the box that the slot has.
     pub fn into_parts(self) -> Parts<Held, Global>
         requires { IsSome self.value }
         ensures { Some result.value ≡ self.value }

@@ -11,12 +11,13 @@ use Rattle.cfdp_command_line.specs.declared.station.CarrierKind.TheVariants.{Fra
 use Rattle.cfdp_command_line.specs.declared.station.StationFlags.{StationFlags}
 use Rattle.cfdp_command_line.specs.declared.station.StationLimits.{StationLimits}
 use Rattle.cfdp_command_line.specs.declared.station.TimeUnit.TheVariants.{Milliseconds, Seconds}
+use Rattle.cfdp_store.specs.declared.name_rule.NameRule.TheVariants.{Any, Portable}
 use Rattle.frame_fields.specs.Fields.{no_fields}
 use Rattle.cfdp_dump.specs.declared.spelled.form.DumpForm.TheVariants.{Short, Long, Fields}
 use Rattle.cfdp_dump.specs.declared.spelled.shape.FrameShape.{FrameShape}
 use Rattle.cfdp_dump.specs.declared.dump.DumpKind.TheVariants.{Pdus, Frames}
 
--- words behind the program's name
+-- words after the program's name
 abbrev line : List Text → List Text
 line words = codes "cfdp_node" ∷ words
 
@@ -42,7 +43,7 @@ drawn_of_file = (refl, refl)
 
 -- ---- dump
 
--- frames with packet zones of so many octets and no fields beside the M_PDU
+-- frames with packet zones of a given number of octets and no fields beside the M_PDU
 abbrev bare : ℕ → FrameShape
 bare zone = record { zone = zone; fields = no_fields }
 
@@ -95,9 +96,9 @@ more_than_all = refl
 
 -- ---- station
 
--- what is meant where no option says else
+-- what is meant if no option says otherwise
 abbrev plain_limits : StationLimits
-plain_limits = record { retries = 3; at_once = 4; most_size = 0; most_open = 0 }
+plain_limits = record { retries = 3; at_once = 4; most_size = 0; most_open = 0; journal_every = 1000 }
 
 abbrev no_flags : StationFlags
 no_flags = record { remove_sent = false; no_overwrite = false; commands = false; no_time = false; json = false }
@@ -113,16 +114,19 @@ plain = record {
   flags = no_flags;
   carrier = FramesCarried;
   unit = Seconds;
+  names = Portable;
   listen = codes "a";
   to = codes "b";
   inbox = None;
   outbox = None;
   spool = None;
   state = None;
+  journal = None;
   keys = None;
   control = None;
   console = None;
   console_token = None;
+  console_host = None;
   puts = [];
   sets = [];
   shown = nothing;
@@ -135,7 +139,7 @@ plain_station = (refl, refl)
 -- each default said gives what nothing said gives
 abbrev defaults : List Text
 defaults = codes "--idle" ∷ codes "0" ∷ codes "--first-number" ∷ codes "0" ∷ codes "--rate" ∷ codes "1000" ∷ codes "--drop" ∷ codes "0" ∷ codes "--loss" ∷ codes "0" ∷ codes "--seed" ∷ codes "1" ∷ codes "--carrier" ∷ codes "frames" ∷ codes "--unit" ∷
-    codes "s" ∷ codes "--retries" ∷ codes "3" ∷ codes "--at-once" ∷ codes "4" ∷ codes "--most-size" ∷ codes "0" ∷ codes "--most-open" ∷ codes "0" ∷ []
+    codes "s" ∷ codes "--retries" ∷ codes "3" ∷ codes "--at-once" ∷ codes "4" ∷ codes "--most-size" ∷ codes "0" ∷ codes "--most-open" ∷ codes "0" ∷ codes "--journal-every" ∷ codes "1000" ∷ codes "--names" ∷ codes "portable" ∷ []
 
 defaults_said : (refusals (named defaults) ≡ []) × (asked_of (named defaults) ≡ Some (station plain))
 unfolding clap_on_literals
@@ -157,17 +161,19 @@ unfolding clap_on_literals
 sending_station = (refl, refl)
 
 abbrev operating : List Text
-operating = codes "--spool" ∷ codes "s" ∷ codes "--remove-sent" ∷ codes "--retries" ∷ codes "0" ∷ codes "--at-once" ∷ codes "3072" ∷ codes "--most-size" ∷ codes "281474976710656" ∷ codes "--most-open" ∷
-    codes "4096" ∷ codes "--no-overwrite" ∷ codes "--commands" ∷ codes "--control" ∷ codes "c" ∷ codes "--no-time" ∷ codes "--json" ∷ codes "--carrier" ∷ codes "pdus" ∷ codes "--unit" ∷ codes "ms" ∷ codes "--keys" ∷ codes "k" ∷ []
+operating = codes "--journal" ∷ codes "j" ∷ codes "--journal-every" ∷ codes "10" ∷ codes "--spool" ∷ codes "s" ∷ codes "--remove-sent" ∷ codes "--retries" ∷ codes "0" ∷ codes "--at-once" ∷ codes "3072" ∷ codes "--most-size" ∷ codes "281474976710656" ∷ codes "--most-open" ∷
+    codes "4096" ∷ codes "--no-overwrite" ∷ codes "--commands" ∷ codes "--control" ∷ codes "c" ∷ codes "--no-time" ∷ codes "--json" ∷ codes "--carrier" ∷ codes "pdus" ∷ codes "--unit" ∷ codes "ms" ∷ codes "--names" ∷ codes "any" ∷ codes "--keys" ∷ codes "k" ∷ []
 
 operated_station : (refusals (named operating) ≡ [])
     × (asked_of (named operating)
     ≡ Some (station (record plain {
-      limits = record { retries = 0; at_once = 3072; most_size = 281474976710656; most_open = 4096 };
+      limits = record { retries = 0; at_once = 3072; most_size = 281474976710656; most_open = 4096; journal_every = 10 };
       flags = record { remove_sent = true; no_overwrite = true; commands = true; no_time = true; json = true };
       carrier = PdusCarried;
       unit = Milliseconds;
+      names = Any;
       spool = Some (codes "s");
+      journal = Some (codes "j");
       keys = Some (codes "k");
       control = Some (codes "c");
     })))

@@ -1,4 +1,4 @@
--- What the words behind `loop` ask for.
+-- What the words after `loop` ask for.
 use Rattle.std.specs.Prelude.{ℕ, List, [], ◌∷◌, codes, map, Option, Some, None, option_and_then, option_map, true, unwrap_or, if◌then◌else◌}
 use Rattle.std.specs.Str.Parse.{digits_value, without_leading_plus}
 use Rattle.clap.specs.ValueTests.{is_unsigned_in}
@@ -13,11 +13,11 @@ use Rattle.cfdp_command_line.specs.Shown.{ShownAsked, asked_shown, file_rule, sh
 
 -- ---- the grammar
 
--- a word that has to be said, by its place
+-- a word that must be said, by its place
 abbrev pub place_rule : Text → Rule
 place_rule name = record (new_rule name) { value_names = 1; required = true }
 
--- a number in a range, and what stands for it where none is given
+-- a number in a range, and what stands for it if none is given
 abbrev pub number_rule : Text → (low high : ℕ) → Text → Rule
 number_rule name low high default = record (new_rule name) {
   long = Some name;
@@ -35,19 +35,19 @@ pairs_rule name = record (new_rule name) {
   value_names = 2;
 }
 
--- the most turns: 1 to 1,000,000, and 10,000 where none are given
+-- the most turns: 1 to 1,000,000, and 10,000 if none are given
 abbrev pub turns_rule : Rule
 turns_rule = number_rule (codes "turns") 1 1000000 (codes "10000")
 
--- a number up to 1,000,000, and what stands for it where none is said
+-- a number up to 1,000,000, and what stands for it if none is said
 abbrev pub tuned_rule : Text → Text → Rule
 tuned_rule name default = number_rule name 0 1000000 default
 
--- each Kth frame is lost: 0 to 1,000,000, and none where K is 0 or isn't given
+-- each Kth frame is lost: 0 to 1,000,000, and none if K is 0 or isn't given
 abbrev pub drop_rule : Rule
 drop_rule = tuned_rule (codes "drop") (codes "0")
 
--- of a hundred frames so many are lost at random: 0 to 100, and none where it isn't given
+-- of a hundred frames so many are lost at random: 0 to 100, and none if it isn't given
 abbrev pub loss_rule : Rule
 loss_rule = number_rule (codes "loss") 0 100 (codes "0")
 
@@ -55,7 +55,7 @@ loss_rule = number_rule (codes "loss") 0 100 (codes "0")
 abbrev pub most : ℕ
 most = 18446744073709551615
 
--- where the random numbers begin, and at 1 where it isn't given
+-- where the random numbers begin, and at 1 if it isn't given
 abbrev pub seed_rule : Rule
 seed_rule = number_rule (codes "seed") 0 most (codes "1")
 
@@ -89,7 +89,7 @@ loop_app = with_shown set_app
 
 -- To send a file of one folder into another, both by their paths, under a name of its own there;
 -- the most turns; which frames are lost; the file of the keys, if frames are authenticated; the keys
--- of settings, each with its value behind it; and what is shown of it.
+-- of settings, each with its value after it; and what is shown of it.
 pub record LoopAsked : Type 0 where
   pub from : Text
   pub to : Text

@@ -36,11 +36,11 @@ use Rattle.cfdp_command_line.specs.Shown.{ShownAsked, asked_shown, flag_rule, is
 abbrev pub input_rule : Rule
 input_rule = record (new_rule (codes "file")) { value_names = 1 }
 
--- what the lines are, which has to be said
+-- what the lines are, which must be said
 abbrev pub kind_rule : Rule
 kind_rule = record (new_rule (codes "kind")) { value_names = 1; required = true }
 
--- the octets of a packet zone: 16 to 2,040, and 256 where none are given
+-- the octets of a packet zone: 16 to 2,040, and 256 if none are given
 abbrev pub zone_rule : Rule
 zone_rule = record (new_rule (codes "zone")) {
   long = Some (codes "zone");
@@ -57,7 +57,7 @@ sim_app = with_rule (with_shown (new_app (codes "sim"))) input_rule
 abbrev pub lines_app : App
 lines_app = with_rule (with_rule (new_app (codes "dump")) kind_rule) zone_rule
 
--- the octets of an insert zone: up to 64, and 0 where none are given
+-- the octets of an insert zone: up to 64, and 0 if none are given
 abbrev pub insert_rule : Rule
 insert_rule = number_rule (codes "insert-zone") 0 64 (codes "0")
 
@@ -71,7 +71,7 @@ frames_app =
 abbrev pub read_app : App
 read_app = with_rule frames_app (flag_rule (codes "text"))
 
--- and how they are told; and the file with them
+-- and how they are printed; and the file with them
 abbrev pub told_app : App
 told_app =
     with_rule (with_rule (with_rule read_app (flag_rule (codes "long")))
@@ -99,7 +99,7 @@ address_app = with_rule (new_app (codes "ask")) address_rule
 abbrev pub ask_app : App
 ask_app = with_rule address_app words_rule
 
--- the program alone, which shows its help where it gets no word
+-- the program alone, which shows its help if it gets no word
 abbrev pub top_app : App
 top_app = with_rule (on_top (λ s. record s { arg_required_else_help = true })
     (new_app (codes "cfdp_node"))) (flag_rule (codes "version"))
@@ -130,12 +130,13 @@ IsCommand app c = (app_of c ≡ app) × HasNoGlobals c
 
 -- ---- what is asked for
 
--- How lines are to be told: their kind, what frames are made of, in which form, whether with what
+-- How lines are printed: their kind, what frames are made of, in which form, whether with what
 -- frames carry, and whether lines are read as tools write them.
 abbrev pub Lines : Type 0
 Lines = DumpKind × FrameShape × DumpForm × Bool × Bool
 
--- To run a script, and what is shown of it; to tell lines, and how; to send a file, and how; to run
+-- To run a script, and what is shown of it; to print lines, and how; to send a file, and how; to
+-- run
 -- a station, and how; to send a command to the station at an address; to serve the page at an
 -- address; or the version. A file that is read is said by its name; without one standard input is
 -- read.
@@ -166,7 +167,7 @@ zone_of_word word = if is_unsigned_in 16 2040 word
 abbrev pub sim_of : List Row → Asked
 sim_of rows = sim (shown_of rows) (first_of (codes "file") rows)
 
--- the form in which to tell: fields, where they are asked for, a long line as well or not
+-- the form in which to print: fields, if they are asked for, a long line as well or not
 abbrev pub form_of : (fields long : Bool) → DumpForm
 form_of fields long = if fields then Fields else (if long then Long else Short)
 
@@ -254,19 +255,19 @@ HasShape (Ask address words) = ⊤
 HasShape (Play address) = ⊤
 HasShape Version = ⊤
 
--- the exit status of the process where its arguments are not done
+-- the exit status of the process if its arguments are not done
 abbrev pub refusal_status : ErrorKind → ℕ
 refusal_status DisplayHelp = 0
 refusal_status DisplayVersion = 0
 refusal_status OutOfMemory = 3
 refusal_status mistake = 2
 
--- The process ends with the status of this kind; where help can't be printed, with that of a
+-- The process ends with the status of this kind; if help can't be printed, with that of a
 -- device.
 abbrev pub IsStatusOf : ErrorKind → ℕ → Type 0
 IsStatusOf kind status = (status ≡ refusal_status kind) ⊎ ((refusal_status kind ≡ 0) × (status ≡ 3))
 
--- A command line is refused with this status: by one of these kinds, or for want of memory.
+-- A command line is refused with this status: by one of these kinds, or out of memory.
 pub record RefusedBy (kinds : Kinds) (status : ℕ) : Type 0 where
   pub kind : ErrorKind
   pub among : (kind ≡ OutOfMemory) ⊎ IsAmong kind kinds

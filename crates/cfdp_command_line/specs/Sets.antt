@@ -1,4 +1,4 @@
--- What pairs of words set: the keys of settings, each with its value behind it.
+-- What pairs of words set: the keys of settings, each with its value after it.
 use Rattle.std.specs.Prelude.{◌≡◌, ◌⊎◌, List, [], ◌∷◌, Option, Some, None, option_and_then, option_map}
 use Rattle.clap.specs.Walk.{Text}
 use Rattle.station_pair.specs.declared.world_config.WorldConfig.{WorldConfig}
@@ -7,7 +7,7 @@ use Rattle.cfdp_report.specs.Settings.{default_settings, set_value, setting_of, 
 use Rattle.cfdp_report.specs.declared.settings.Settings.{Settings}
 use Rattle.cfdp_report.specs.Settings.{AreValid}
 
--- the settings after one pair; none where the first word is no key, or the second one no number
+-- the settings after one pair; none if the first word is no key, or the second one no number
 abbrev pub set_by : (key value : Text) → Settings → Option Settings
 set_by key value s = option_and_then
     (λ setting. option_map (λ number. set_value s setting number) (number_of value))

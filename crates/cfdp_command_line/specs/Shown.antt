@@ -1,4 +1,4 @@
--- The words that ask what is to be shown of a run beside its report.
+-- The words that ask what must be shown of a run beside its report.
 use Rattle.std.specs.Prelude.{Bool, List, codes, false, Option, Some, option_map}
 use Rattle.std.specs.Option.{option_map_or}
 use Rattle.std.specs.Str.{bytes_eq}
@@ -17,7 +17,7 @@ flag_rule name = record (new_rule name) { long = Some name; action = Some SetTru
 abbrev pub file_rule : Text → Rule
 file_rule name = record (new_rule name) { long = Some name; value_names = 1 }
 
--- a subcommand with what is told on standard error
+-- a subcommand with what is said on standard error
 abbrev pub with_told : App → App
 with_told app = with_rule (with_rule app (flag_rule (codes "explain"))) (flag_rule (codes "trace"))
 
@@ -31,7 +31,7 @@ with_shown app = with_rule (with_rule (with_told app) (file_rule (codes "pcap"))
 abbrev pub is_given : Text → List Row → Bool
 is_given name rows = option_map_or (λ word. bytes_eq word (codes "true")) (first_of name rows) false
 
--- Whether to explain, and whether to tell what passes; and the files for a capture and for a chart,
+-- Whether to explain, and whether to say what passes; and the files for a capture and for a chart,
 -- by their names.
 pub record ShownAsked : Type 0 where
   pub explain : Bool

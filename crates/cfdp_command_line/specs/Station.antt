@@ -1,4 +1,4 @@
--- What the words behind `station` ask for.
+-- What the words after `station` ask for.
 use Rattle.std.specs.Prelude.{ℕ, List, [], ◌∷◌, codes, Option, Some, None, map, option_and_then, option_map, true, if◌then◌else◌}
 use Rattle.std.specs.Str.{bytes_eq}
 use Rattle.clap.specs.Simple.{App, new_app, new_rule, with_rule}
@@ -13,24 +13,26 @@ use Rattle.cfdp_command_line.specs.declared.station.StationRequest.{StationReque
 use Rattle.cfdp_command_line.specs.declared.station.StationWords.{StationWords}
 use Rattle.cfdp_command_line.specs.declared.station.TimeUnit.{TimeUnit}
 use Rattle.cfdp_command_line.specs.declared.station.TimeUnit.TheVariants.{Seconds, Milliseconds}
+use Rattle.cfdp_store.specs.declared.name_rule.NameRule.{NameRule}
+use Rattle.cfdp_store.specs.declared.name_rule.NameRule.TheVariants.{Portable, Any}
 use Rattle.cfdp_command_line.specs.Looping.{losses_of, most, number_in, number_rule, pairs_rule, tuned_rule, with_losses, words_for}
 use Rattle.cfdp_command_line.specs.Shown.{ShownAsked, asked_shown, file_rule, flag_rule, is_given, shown_of, with_shown}
 
 -- ---- the grammar
 
--- a word that has to be said behind its option
+-- a word that must be said after its option
 abbrev pub said_rule : Text → Rule
 said_rule name = record (new_rule name) { long = Some name; value_names = 1; required = true }
 
--- a number that has to be said
+-- a number that must be said
 abbrev pub said_number_rule : Text → Rule
 said_number_rule name = record (said_rule name) { parser = Some (Unsigned 0 most) }
 
--- the number of the first transaction, and 0 where none is said
+-- the number of the first transaction, and 0 if none is said
 abbrev pub first_number_rule : Rule
 first_number_rule = number_rule (codes "first-number") 0 most (codes "0")
 
--- a word, and what stands for it where none is said
+-- a word, and what stands for it if none is said
 abbrev pub named_rule : Text → Text → Rule
 named_rule name default = record (new_rule name) {
   long = Some name;
@@ -67,8 +69,12 @@ abbrev pub stores_app : App
 stores_app = with_rule (with_rule (with_rule carried_app (file_rule (codes "inbox")))
     (file_rule (codes "outbox"))) (file_rule (codes "state"))
 
+abbrev pub journaled_app : App
+journaled_app = with_rule (with_rule stores_app (file_rule (codes "journal")))
+    (number_rule (codes "journal-every") 10 3600000 (codes "1000"))
+
 abbrev pub keyed_app : App
-keyed_app = with_rule stores_app (file_rule (codes "keys"))
+keyed_app = with_rule journaled_app (file_rule (codes "keys"))
 
 abbrev pub lists_app : App
 lists_app = with_rule (with_rule keyed_app (pairs_rule (codes "put"))) (pairs_rule (codes "set"))
@@ -88,15 +94,16 @@ held_app = with_rule
     (number_rule (codes "most-open") 0 4096 (codes "0"))
 
 abbrev pub incoming_app : App
-incoming_app = with_rule held_app (flag_rule (codes "no-overwrite"))
+incoming_app = with_rule (with_rule held_app (flag_rule (codes "no-overwrite")))
+    (named_rule (codes "names") (codes "portable"))
 
 abbrev pub operated_app : App
 operated_app = with_rule (with_rule incoming_app (flag_rule (codes "commands")))
     (file_rule (codes "control"))
 
 abbrev pub consoled_app : App
-consoled_app = with_rule (with_rule operated_app (file_rule (codes "console")))
-    (file_rule (codes "console-token"))
+consoled_app = with_rule (with_rule (with_rule operated_app (file_rule (codes "console")))
+    (file_rule (codes "console-token"))) (file_rule (codes "console-host"))
 
 abbrev pub told_app : App
 told_app = with_rule (with_rule consoled_app (flag_rule (codes "no-time")))
@@ -112,28 +119,31 @@ station_app = with_shown file_app
 -- ---- what is asked for
 
 -- To run a station: who it is, and how it runs; how much it does at a time, and what it takes; its
--- flags; what a datagram carries, and the unit of times; its address and its peer's; the folders
--- that files come to and lie in, and that whose files are sent as they come there; the file that
--- keeps which numbers are reserved, and the one of the keys; the addresses on which commands are taken and a browser is
--- shown it, and the file with what that has to show; the names of files to
--- send, each with its name at the peer behind it; the keys of settings, each with its value behind
--- it; and what is shown.
+-- flags; what a datagram carries, the unit of times, and which names files may have; its address
+-- and its peer's; the folders that files come to and lie in, and the one whose files are sent as
+-- they come there; the file that keeps which numbers are reserved, the journal, and the file of the
+-- keys; the addresses on which commands are taken and a browser is shown it, and the file with what that must
+-- show; the names of files to send, each with its name at the peer after it; the keys of settings,
+-- each with its value after it; and what is shown.
 pub record StationAsked : Type 0 where
   pub numbers : StationNumbers
   pub limits : StationLimits
   pub flags : StationFlags
   pub carrier : CarrierKind
   pub unit : TimeUnit
+  pub names : NameRule
   pub listen : Text
   pub to : Text
   pub inbox : Option Text
   pub outbox : Option Text
   pub spool : Option Text
   pub state : Option Text
+  pub journal : Option Text
   pub keys : Option Text
   pub control : Option Text
   pub console : Option Text
   pub console_token : Option Text
+  pub console_host : Option Text
   pub puts : List Text
   pub sets : List Text
   pub shown : ShownAsked
@@ -155,12 +165,14 @@ numbers_of rows =
 abbrev pub limits_of : List Row → Option StationLimits
 limits_of rows =
     option_and_then (λ retries. option_and_then (λ at_once. option_and_then (λ most_size.
-    option_map (λ most_open. record {
+    option_and_then (λ most_open. option_map (λ journal_every. record {
       retries = retries;
       at_once = at_once;
       most_size = most_size;
       most_open = most_open;
-    }) (number_in (codes "most-open") 0 4096 rows))
+      journal_every = journal_every;
+    }) (number_in (codes "journal-every") 10 3600000 rows))
+    (number_in (codes "most-open") 0 4096 rows))
     (number_in (codes "most-size") 0 most_octets rows)) (number_in (codes "at-once") 1 3072 rows))
     (number_in (codes "retries") 0 1000 rows)
 
@@ -186,25 +198,35 @@ unit_of_word word =
     if bytes_eq word (codes "s") then Some Seconds
     else (if bytes_eq word (codes "ms") then Some Milliseconds else None)
 
--- what has to be right of what was said
+-- what a word says of names of files
+abbrev pub names_of_word : Text → Option NameRule
+names_of_word word =
+    if bytes_eq word (codes "portable") then Some Portable
+    else (if bytes_eq word (codes "any") then Some Any else None)
+
+-- what must be right of what was said
 pub record Needed : Type 0 where
   pub numbers : StationNumbers
   pub limits : StationLimits
   pub carrier : CarrierKind
   pub unit : TimeUnit
+  pub names : NameRule
   pub listen : Text
   pub to : Text
 
 abbrev pub needed_of : List Row → Option Needed
 needed_of rows = option_and_then (λ numbers. option_and_then (λ limits. option_and_then (λ carrier.
-    option_and_then (λ unit. option_and_then (λ listen. option_map (λ to. record {
+    option_and_then (λ unit. option_and_then (λ names. option_and_then (λ listen.
+    option_map (λ to. record {
       numbers = numbers;
       limits = limits;
       carrier = carrier;
       unit = unit;
+      names = names;
       listen = listen;
       to = to;
     }) (first_of (codes "to") rows)) (first_of (codes "listen") rows))
+    (option_and_then names_of_word (first_of (codes "names") rows)))
     (option_and_then unit_of_word (first_of (codes "unit") rows)))
     (option_and_then carrier_of_word (first_of (codes "carrier") rows)))
     (limits_of rows)) (numbers_of rows)
@@ -216,16 +238,19 @@ asked_with rows needed = record {
   flags = flags_of rows;
   carrier = needed.carrier;
   unit = needed.unit;
+  names = needed.names;
   listen = needed.listen;
   to = needed.to;
   inbox = first_of (codes "inbox") rows;
   outbox = first_of (codes "outbox") rows;
   spool = first_of (codes "spool") rows;
   state = first_of (codes "state") rows;
+  journal = first_of (codes "journal") rows;
   keys = first_of (codes "keys") rows;
   control = first_of (codes "control") rows;
   console = first_of (codes "console") rows;
   console_token = first_of (codes "console-token") rows;
+  console_host = first_of (codes "console-host") rows;
   puts = words_for (codes "put") rows;
   sets = words_for (codes "set") rows;
   shown = shown_of rows;
@@ -243,28 +268,32 @@ station_asked request = record {
   flags = request.flags;
   carrier = request.carrier;
   unit = request.unit;
+  names = request.names;
   listen = request.listen.bytes.items;
   to = request.to.bytes.items;
   inbox = option_map (λ folder. folder.bytes.items) request.inbox;
   outbox = option_map (λ folder. folder.bytes.items) request.outbox;
   spool = option_map (λ folder. folder.bytes.items) request.spool;
   state = option_map (λ file. file.bytes.items) request.state;
+  journal = option_map (λ file. file.bytes.items) request.journal;
   keys = option_map (λ file. file.bytes.items) request.keys;
   control = option_map (λ address. address.bytes.items) request.control;
   console = option_map (λ address. address.bytes.items) request.console;
   console_token = option_map (λ file. file.bytes.items) request.console_token;
+  console_host = option_map (λ name. name.bytes.items) request.console_host;
   puts = map (λ name. name.bytes.items) request.puts.items;
   sets = map (λ word. word.bytes.items) request.sets.items;
   shown = asked_shown request.shown;
 }
 
--- what has to be right, in words of the command line, with what else was said
+-- what must be right, in words of the command line, with what else was said
 abbrev pub words_asked : List Row → StationWords → StationAsked
 words_asked rows words = asked_with rows (record {
   numbers = words.numbers;
   limits = words.limits;
   carrier = words.carrier;
   unit = words.unit;
+  names = words.names;
   listen = words.listen.now;
   to = words.to.now;
 })

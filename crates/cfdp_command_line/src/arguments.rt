@@ -24,9 +24,11 @@ ghost use Rattle.cfdp_command_line.specs.Shown.{file_rule, flag_rule};
 ghost use Rattle.cfdp_command_line.specs.Shown as showing;
 
 use crate::looping::{LoopRequest, loop_command, loop_request, number_in};
-use crate::settings_file::with_settings;
+use crate::settings_file::{tell_option_line, with_settings};
 use crate::shown::{shown_by, shown_command};
-use crate::station::{StationRequest, owned_words, station_command, station_request};
+use crate::station::{
+    StationRequest, is_carrier, is_unit, owned_words, station_command, station_request,
+};
 use aos_frame::{FrameFields, LEAST_ZONE, MOST_ZONE};
 use cfdp_config::value_said;
 use cfdp_dump::{DumpForm, DumpKind, DumpRequest, FrameShape};
@@ -37,12 +39,12 @@ use clap::{Arg, ArgAction, ArgMatches, Command, Error, value_parser};
 use std::alloc::{AllocError, Global};
 use std::{env, io};
 
-/// What the words behind the program's name ask for.
+/// What the words after the program's name ask for.
 #[derive(Drop)]
 pub enum Request {
     /// To run a script.
     Sim(SimRequest),
-    /// To tell what the lines of this file, or else of standard input, spell.
+    /// To say what the lines of this file, or otherwise of standard input, spell.
     Dump {
         lines: DumpRequest,
         file: Option<String>,
@@ -65,22 +67,23 @@ pub enum Request {
     Version,
 }
 
-/// How a script is to be run.
+/// How a script must be run.
 #[derive(Drop)]
 pub struct SimRequest {
-    /// What is to be shown of the run.
+    /// What must be shown of the run.
     pub shown: Shown,
     /// The file that the script is read from; standard input without one.
     pub file: Option<String>,
 }
 
-const VERSION: &str = "0.1.0";
+/// The version of the program.
+pub const VERSION: &str = "1.0.0-rc.1";
 
 const MISTAKE: u8 = 2;
 
 const NO_MEMORY: u8 = 3;
 
-// What stands before the settings in the help of `sim`, and what stands behind them.
+// What stands before the settings in the help of `sim`, and what stands after them.
 const SIM_COMMANDS: &str = "\
 A script is ASCII text, one command a line, with one space between words. Empty
 lines and lines that begin with # are skipped. S is a station, 1 or 2. ID is a
@@ -118,7 +121,7 @@ Settings, with their defaults:
 ";
 
 const SIM_REPORT: &str = "
-Report: what each station tells its user, the files received with their
+Report: what each station reports to its user, the files received, with their
 checksums, and how many puts were completed. Before that, 'line N ANSWER' for
 each command that failed:
   Nothing                       nothing to do
@@ -191,7 +194,7 @@ Examples (the first prints 'eof 1:1 0 D7656C6C 5'):
   echo 20000A1300010000000100020400D7656C6C00000005 | cfdp_node dump pdus
   cfdp_node dump frames --deep capture.pcap";
 
-// What is said where KIND is none.
+// What is said if KIND is none.
 const NO_KIND: &str = "\
 KIND must be pdus or frames. Example:
   echo 20000A1300010000000100020400D7656C6C00000005 | cfdp_node dump pdus";
@@ -211,10 +214,14 @@ Commands of a station:
   stop [now]             finish the open puts, then exit; now: exit at once
   help                   list all commands
 
+ADDR is the --control address of the station: HOST:PORT or unix:PATH. With
+--json before it the answer is one JSON object, whatever the station's option.
+
 Exit status: 0 done, 1 command refused, 2 bad arguments, 3 no answer.
 
 Examples:
   cfdp_node ask 127.0.0.1:5101 list
+  cfdp_node ask --json unix:/run/cfdp/one/control counters
   cfdp_node ask 127.0.0.1:5101 put --first a.bin b.bin";
 
 const PLAY_HELP: &str = "\
@@ -232,8 +239,8 @@ Example:
 ///
 /// # Errors
 ///
-/// The status with which the process ends, where there is nothing to do: help or a settings file,
-/// which went to standard output, or a mistake, which was told on standard error.
+/// The status with which the process ends, if there is nothing to do: help or a settings file,
+/// which went to standard output, or a mistake, as standard error says.
 pub fn read(rt: &HostRuntime) -> Result<Request, u8>
     ensures zone { IfOk result HasShape }
     ensures status { IfErr result (λ status. (status ≡ 0) ⊎ (status ≡ 2) ⊎ (status ≡ 3)) }
@@ -252,16 +259,20 @@ pub fn read(rt: &HostRuntime) -> Result<Request, u8>
     }
 }
 
-/// The words of a command line, with `--` in front of those that `ask` sends: so none of these is
-/// taken for an option of the program.
+/// The words of a command line, with `--` before those that `ask` sends: so none of these is
+/// taken for an option of the program. The word `--json` is the first of these, also if it stands
+/// before the address.
 fn with_line_apart(alloc: Global, mut words: Vec<String>) -> Result<Vec<String>, AllocError> {
+    if words.len() > 3 && words[1].as_str() == "ask" && words[2].as_str() == "--json" {
+        words.swap(2, 3);
+    }
     if words.len() > 3 && words[1].as_str() == "ask" && words[3].as_str() != "--" {
         words.insert(3, String::from_str(alloc, "--")?)?;
     }
     Ok(words)
 }
 
-/// What these words ask for. The first is the program's name. Help and mistakes are told.
+/// What these words ask for. The first is the program's name. Help and mistakes are printed.
 ///
 /// # Errors
 ///
@@ -276,8 +287,25 @@ fn request_of(rt: &HostRuntime, words: &[String]) -> Result<Request, u8>
 {
     match parse(rt.alloc(), words) {
         Ok(request) => Ok(request),
-        Err(error) => Err(answered(rt, &error)),
+        Err(error) => Err(refused(rt, words, &error)),
     }
+}
+
+/// Prints what the parser says of these words, and in which line of a settings file the mistake
+/// stands, if one says it. Gives the status that goes with it.
+fn refused(rt: &HostRuntime, words: &[String], error: &Error) -> u8
+    ensures kind { IsStatusOf (kind_of error.now) result }
+    ensures status { (result ≡ 0) ⊎ (result ≡ 2) ⊎ (result ≡ 3) }
+{
+    let status = answered(rt, error);
+    if status == MISTAKE
+        && words.len() > 1
+        && words[1].as_str() == "station"
+        && let Ok(told) = format!(in rt.alloc(); "{error}")
+    {
+        tell_option_line(rt, told.as_str());
+    }
+    status
 }
 
 /// Prints the version, and gives the status of the process.
@@ -290,7 +318,7 @@ pub fn version_status(rt: &HostRuntime) -> u8
     }
 }
 
-/// What these words ask for. The first is the program's name.
+/// Returns what these words ask for. The first is the program's name.
 ///
 /// # Errors
 ///
@@ -328,12 +356,12 @@ fn parse_by<'a>(
     }
 }
 
-/// What is wrong with words that fit the grammar but for KIND, a carrier or a unit, with the usage
-/// of their command. The first is the program's name, the second that of a command.
+/// What is wrong with words that fit the grammar except KIND, a carrier, a unit or a rule of names,
+/// with the usage of their command. The first is the program's name, the second that of a command.
 ///
 /// # Errors
 ///
-/// `AllocError` where there is no memory.
+/// `AllocError` if there is no memory.
 fn misfit(alloc: Global, words: &[String]) -> Result<Error, AllocError>
     ensures { IfOk result (λ e. kind_of e ≡ ErrorKind.InvalidValue) }
 {
@@ -343,19 +371,25 @@ fn misfit(alloc: Global, words: &[String]) -> Result<Error, AllocError>
     }
 }
 
-/// What is wrong with the words behind `station`, of which the carrier or the unit is none.
+/// What is wrong with the words after `station` if the carrier, the unit or the rule of names is
+/// none.
 ///
 /// # Errors
 ///
-/// `AllocError` where there is no memory.
+/// `AllocError` if there is no memory.
 fn station_misfit(alloc: Global, said: &[String]) -> Result<Error, AllocError>
     ensures { IfOk result (λ e. kind_of e ≡ ErrorKind.InvalidValue) }
 {
     let carrier = value_said(said, "carrier").unwrap_or("frames");
     let unit = value_said(said, "unit").unwrap_or("s");
-    let wrong = format!(in alloc;
-        "--carrier must be frames, packets or pdus (got {carrier}), and --unit s or ms (got {unit})"
-    )?;
+    let names = value_said(said, "names").unwrap_or("portable");
+    let wrong = if !is_carrier(carrier) {
+        format!(in alloc; "--carrier must be frames, packets or pdus (got {carrier})")?
+    } else if !is_unit(unit) {
+        format!(in alloc; "--unit must be s or ms (got {unit})")?
+    } else {
+        format!(in alloc; "--names must be portable or any (got {names})")?
+    };
     let mut station = station_command(alloc)?.bin_name("cfdp_node station")?;
     station.error(ErrorKind::InvalidValue, wrong.as_str())
 }
@@ -364,7 +398,7 @@ fn station_misfit(alloc: Global, said: &[String]) -> Result<Error, AllocError>
 ///
 /// # Errors
 ///
-/// `AllocError` where there is no memory.
+/// `AllocError` if there is no memory.
 fn dump_misfit(alloc: Global) -> Result<Error, AllocError>
     ensures { IfOk result (λ e. kind_of e ≡ ErrorKind.InvalidValue) }
 {
@@ -372,8 +406,8 @@ fn dump_misfit(alloc: Global) -> Result<Error, AllocError>
     dump.error(ErrorKind::InvalidValue, NO_KIND)
 }
 
-/// What these words ask for by the program's grammar, `None` where KIND, a carrier or a unit is
-/// none.
+/// What these words ask for by the program's grammar, `None` if KIND, a carrier, a unit or a rule
+/// of names is none.
 ///
 /// # Errors
 ///
@@ -394,7 +428,8 @@ fn matched<'a>(
     Ok(requested(alloc, &matches)?)
 }
 
-/// What the words that were found ask for, `None` where KIND, a carrier or a unit is none.
+/// What the words that were found ask for, `None` if KIND, a carrier, a unit or a rule of names is
+/// none.
 fn requested(alloc: Global, matches: &ArgMatches<'_>) -> Result<Option<Request>, AllocError>
     ensures asked { IfOk result (λ found. option_map asked found
         ≡ asked_by (subcommand_rows_of matches.now)) }
@@ -412,7 +447,7 @@ fn requested(alloc: Global, matches: &ArgMatches<'_>) -> Result<Option<Request>,
     }
 }
 
-/// What the words behind `sim` ask for.
+/// What the words after `sim` ask for.
 fn sim_request(alloc: Global, arguments: &ArgMatches<'_>) -> Result<Option<Request>, AllocError>
     ensures asked { IfOk result (λ found. option_map asked found
         ≡ Some (sim_of (rows_of (found_of arguments.now)))) }
@@ -425,7 +460,7 @@ fn sim_request(alloc: Global, arguments: &ArgMatches<'_>) -> Result<Option<Reque
     Ok(Some(Request::Sim(request)))
 }
 
-/// What the words behind `loop` ask for, `None` where a number is out of its range.
+/// What the words after `loop` ask for, `None` if a number is out of its range.
 fn transfer_request(
     alloc: Global,
     arguments: &ArgMatches<'_>,
@@ -437,7 +472,7 @@ fn transfer_request(
     Ok(loop_request(alloc, arguments)?.map(Request::Loop))
 }
 
-/// What the words behind `ask` ask for.
+/// What the words after `ask` ask for.
 fn ask_request(alloc: Global, arguments: &ArgMatches<'_>) -> Result<Option<Request>, AllocError>
     ensures asked { IfOk result (λ found. option_map asked found
         ≡ ask_of (rows_of (found_of arguments.now))) }
@@ -450,7 +485,7 @@ fn ask_request(alloc: Global, arguments: &ArgMatches<'_>) -> Result<Option<Reque
     }
 }
 
-/// What the words behind `play` ask for.
+/// What the words after `play` ask for.
 fn play_request(alloc: Global, arguments: &ArgMatches<'_>) -> Result<Option<Request>, AllocError>
     ensures asked { IfOk result (λ found. option_map asked found
         ≡ play_of (rows_of (found_of arguments.now))) }
@@ -462,8 +497,8 @@ fn play_request(alloc: Global, arguments: &ArgMatches<'_>) -> Result<Option<Requ
     }
 }
 
-/// What the words behind `station` ask for, `None` where a number is out of its range, or a carrier
-/// or a unit is none.
+/// What the words after `station` ask for, `None` if a number is out of its range, or a carrier, a
+/// unit or a rule of names is none.
 fn serving_request(alloc: Global, arguments: &ArgMatches<'_>) -> Result<Option<Request>, AllocError>
     ensures asked { IfOk result (λ found. option_map asked found
         ≡ option_map asks.station (station_of (rows_of (found_of arguments.now)))) }
@@ -472,7 +507,7 @@ fn serving_request(alloc: Global, arguments: &ArgMatches<'_>) -> Result<Option<R
     Ok(station_request(alloc, arguments)?.map(Request::Station))
 }
 
-/// A copy of the word that was found for this argument, if there is one.
+/// Copies the word that was found for this argument, if there is one.
 pub fn owned_word(
     alloc: Global,
     arguments: &ArgMatches<'_>,
@@ -487,7 +522,7 @@ pub fn owned_word(
     }
 }
 
-/// What the words behind `dump` ask for, `None` where KIND is no kind.
+/// What the words after `dump` ask for, `None` if KIND is no kind.
 fn dump_request(alloc: Global, arguments: &ArgMatches<'_>) -> Result<Option<Request>, AllocError>
     ensures asked { IfOk result (λ found. option_map asked found
         ≡ dump_of (rows_of (found_of arguments.now))) }
@@ -500,7 +535,7 @@ fn dump_request(alloc: Global, arguments: &ArgMatches<'_>) -> Result<Option<Requ
     }
 }
 
-/// How lines are to be told, `None` where KIND is no kind.
+/// How lines are printed, `None` if KIND is no kind.
 fn lines_asked(arguments: &ArgMatches<'_>) -> Option<DumpRequest>
     ensures asked { option_map (λ lines. asked_lines lines) result
         ≡ lines_of (rows_of (found_of arguments.now)) }
@@ -520,7 +555,7 @@ fn lines_asked(arguments: &ArgMatches<'_>) -> Option<DumpRequest>
     })
 }
 
-/// What frames are made of, `None` where a number is out of its range.
+/// What frames are made of, `None` if a number is out of its range.
 fn frame_shape(arguments: &ArgMatches<'_>) -> Option<FrameShape>
     ensures asked { result ≡ shape_of (rows_of (found_of arguments.now)) }
     ensures range { IfSome result IsShape }
@@ -531,7 +566,7 @@ fn frame_shape(arguments: &ArgMatches<'_>) -> Option<FrameShape>
     })
 }
 
-/// The fields of frames, `None` where an insert zone is too long.
+/// The fields of frames, `None` if an insert zone is too long.
 fn frame_fields(arguments: &ArgMatches<'_>) -> Option<FrameFields>
     ensures asked { result ≡ fields_of (rows_of (found_of arguments.now)) }
     ensures range { IfSome result (λ fields. fields.insert_zone ≤ 64) }
@@ -543,7 +578,7 @@ fn frame_fields(arguments: &ArgMatches<'_>) -> Option<FrameFields>
     })
 }
 
-/// The form that these two options ask for: fields, where both do.
+/// The form that these two options ask for: fields, if both do.
 fn dump_form(fields: bool, long: bool) -> DumpForm
     ensures { result ≡ form_of fields long }
 {
@@ -556,7 +591,7 @@ fn dump_form(fields: bool, long: bool) -> DumpForm
     }
 }
 
-/// The word that was found for this argument, or stands for it where none is given.
+/// Returns the word that was found for this argument, or its default if none is given.
 pub fn word_of<'a>(arguments: &ArgMatches<'a>, name: &str) -> Option<&'a str>
     ensures { option_map (λ word. word.now) result
         ≡ first_of name.now (rows_of (found_of arguments.now)) }
@@ -564,7 +599,7 @@ pub fn word_of<'a>(arguments: &ArgMatches<'a>, name: &str) -> Option<&'a str>
     arguments.get_str(name)
 }
 
-/// Whether a flag was found.
+/// Returns `true` if a flag was found.
 pub fn is_given(arguments: &ArgMatches<'_>, name: &str) -> bool
     ensures { result ≡ showing.is_given name.now (rows_of (found_of arguments.now)) }
 {
@@ -598,7 +633,7 @@ fn zone_octets(word: &str) -> Option<u16>
     }
 }
 
-/// What stands behind the arguments in the help of `sim`.
+/// What stands after the arguments in the help of `sim`.
 fn sim_help(alloc: Global) -> Result<String, AllocError> {
     format!(in alloc; "{SIM_COMMANDS}{SettingsHelp}{SIM_REPORT}")
 }
@@ -617,7 +652,7 @@ fn grammar<'a>(alloc: Global, sim_help: &'a str) -> Result<Command<'a>, AllocErr
     }
 }
 
-/// The same without `play`.
+/// Returns the grammar above without `play`.
 fn asking_grammar<'a>(alloc: Global, sim_help: &'a str) -> Result<Command<'a>, AllocError>
     ensures { IfOk result (IsCommand (with_subcommand (with_subcommand (with_subcommand
         (with_subcommand (with_subcommand top_app sim_app.top) dump_app.top) loop_app.top)
@@ -633,7 +668,7 @@ fn asking_grammar<'a>(alloc: Global, sim_help: &'a str) -> Result<Command<'a>, A
     }
 }
 
-/// The same without `ask`.
+/// Returns the grammar above without `ask`.
 fn stations_grammar<'a>(alloc: Global, sim_help: &'a str) -> Result<Command<'a>, AllocError>
     ensures { IfOk result (IsCommand (with_subcommand (with_subcommand (with_subcommand
         (with_subcommand top_app sim_app.top) dump_app.top) loop_app.top) station_app.top)) }
@@ -648,7 +683,7 @@ fn stations_grammar<'a>(alloc: Global, sim_help: &'a str) -> Result<Command<'a>,
     }
 }
 
-/// The same without `station` too.
+/// Returns the grammar above without `station` too.
 fn files_grammar<'a>(alloc: Global, sim_help: &'a str) -> Result<Command<'a>, AllocError>
     ensures { IfOk result (IsCommand (with_subcommand (with_subcommand (with_subcommand top_app
         sim_app.top) dump_app.top) loop_app.top)) }
@@ -663,7 +698,7 @@ fn files_grammar<'a>(alloc: Global, sim_help: &'a str) -> Result<Command<'a>, Al
     }
 }
 
-/// The same with `sim` and `dump` alone.
+/// Returns the grammar above with `sim` and `dump` alone.
 fn lines_grammar<'a>(alloc: Global, sim_help: &'a str) -> Result<Command<'a>, AllocError>
     ensures { IfOk result (IsCommand (with_subcommand (with_subcommand top_app sim_app.top)
         dump_app.top)) }
@@ -678,7 +713,7 @@ fn lines_grammar<'a>(alloc: Global, sim_help: &'a str) -> Result<Command<'a>, Al
     }
 }
 
-/// The same with `sim` alone.
+/// Returns the grammar above with `sim` alone.
 fn script_grammar<'a>(alloc: Global, sim_help: &'a str) -> Result<Command<'a>, AllocError>
     ensures { IfOk result (IsCommand (with_subcommand top_app sim_app.top)) }
 {
@@ -718,7 +753,7 @@ fn dump_command<'a>(alloc: Global) -> Result<Command<'a>, AllocError>
     told_command(alloc)?.arg(input_argument(alloc))
 }
 
-/// `dump` with what the lines are, how they are read, and how they are told.
+/// `dump` with what the lines are, how they are read, and how they are printed.
 fn told_command<'a>(alloc: Global) -> Result<Command<'a>, AllocError>
     ensures { IfOk result (IsCommand told_app) }
 {
@@ -822,7 +857,7 @@ fn listen_argument<'a>(alloc: Global) -> Arg<'a>
         .help("Serve the page at this address")
 }
 
-/// A command with one argument more.
+/// Adds an argument to a command.
 pub fn with_argument<'a>(command: Command<'a>, argument: Arg<'a>) -> Result<Command<'a>, AllocError>
     requires command { HasNoGlobals command }
     requires argument { argument.global ≡ false }
@@ -831,7 +866,7 @@ pub fn with_argument<'a>(command: Command<'a>, argument: Arg<'a>) -> Result<Comm
     command.arg(argument)
 }
 
-/// An argument that is there or not.
+/// Returns an argument that has no value: it is given or not.
 pub fn flag<'a>(alloc: Global, name: &'a str, help: &'a str) -> Arg<'a>
     ensures { (rule_of result ≡ flag_rule name.now) × (result.global ≡ false) }
 {
@@ -841,14 +876,14 @@ pub fn flag<'a>(alloc: Global, name: &'a str, help: &'a str) -> Arg<'a>
         .action(ArgAction::SetTrue)
 }
 
-/// The same, under a heading of the help.
+/// Returns such a flag under a heading of the help.
 pub fn flag_under<'a>(alloc: Global, heading: &'a str, name: &'a str, help: &'a str) -> Arg<'a>
     ensures { (rule_of result ≡ flag_rule name.now) × (result.global ≡ false) }
 {
     flag(alloc, name, help).help_heading(heading)
 }
 
-/// A file that something is written to.
+/// Returns an argument that names a file that something is written to.
 pub fn file_for<'a>(alloc: Global, name: &'a str, help: &'a str) -> Arg<'a>
     ensures { (rule_of result ≡ file_rule name.now) × (result.global ≡ false) }
 {
@@ -858,7 +893,7 @@ pub fn file_for<'a>(alloc: Global, name: &'a str, help: &'a str) -> Arg<'a>
         .help(help)
 }
 
-/// The same, under a heading of the help.
+/// Returns an argument for such a file under a heading of the help.
 pub fn file_under<'a>(alloc: Global, heading: &'a str, name: &'a str, help: &'a str) -> Arg<'a>
     ensures { (rule_of result ≡ file_rule name.now) × (result.global ≡ false) }
 {
@@ -926,8 +961,8 @@ fn insert_argument<'a>(alloc: Global) -> Arg<'a>
         .default_value("0")
 }
 
-/// Prints what the parser has to say, and gives the status that goes with it, which is that of
-/// memory too where help can't be printed.
+/// Prints what the parser must say, and gives the status that goes with it, which is that of
+/// memory too if help can't be printed.
 fn answered(rt: &HostRuntime, error: &Error) -> u8
     ensures kind { IsStatusOf (kind_of error.now) result }
     ensures status { (result ≡ 0) ⊎ (result ≡ 2) ⊎ (result ≡ 3) }
@@ -950,7 +985,7 @@ fn answered(rt: &HostRuntime, error: &Error) -> u8
     }
 }
 
-/// Tells that the words can't be read, and gives the status that goes with it.
+/// Prints that the words can't be read, and gives the status that goes with it.
 fn unread_status(rt: &HostRuntime, error: &io::Error) -> u8
     ensures { (result ≡ MISTAKE) ⊎ (result ≡ NO_MEMORY) }
 {

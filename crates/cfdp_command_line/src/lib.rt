@@ -11,10 +11,11 @@ mod settings_file;
 mod shown;
 mod station;
 
-pub use arguments::{Request, SimRequest, parse, read, version_status};
+pub use arguments::{Request, SimRequest, VERSION, parse, read, version_status};
 pub use looping::LoopRequest;
 pub use losses::{LossRequest, frame_losses, note_losses};
 pub use sets::SetError;
+pub use settings_file::tell_line;
 pub use station::{
     CarrierKind, StationFlags, StationLimits, StationNumbers, StationRequest, TimeUnit,
 };

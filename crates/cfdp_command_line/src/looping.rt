@@ -1,4 +1,4 @@
-//! What the words behind `loop` ask for.
+//! What the words after `loop` ask for.
 ghost use Rattle.std.specs.Prelude.{◌≡◌, ◌≤◌, false, map, IfOk, IfSome, OnErr, option_map};
 ghost use Rattle.clap.specs.Matches.{found_of};
 ghost use Rattle.clap.specs.Walk.{rows_of, rule_of};
@@ -21,12 +21,12 @@ use station_pair::WorldConfig;
 use std::alloc::{AllocError, Global};
 use valid_config::Valid;
 
-/// A file that is to go from one folder into another.
+/// A file that must go from one folder into another.
 #[derive(Drop)]
 pub struct LoopRequest {
     /// The path of the folder that it lies in.
     pub from: String,
-    /// The path of the folder that it is to come to.
+    /// The path of the folder that it must come to.
     pub to: String,
     /// Its name in the first folder.
     pub source: String,
@@ -38,18 +38,18 @@ pub struct LoopRequest {
     pub losses: LossRequest,
     /// The path of the file of the keys by which frames are authenticated, if they are.
     pub keys: Option<String>,
-    /// What is set of both stations: the key of each setting, and behind it the value.
+    /// What is set of both stations: the key of each setting, and after it the value.
     pub sets: Vec<String>,
-    /// What is to be shown of it.
+    /// What must be shown of it.
     pub shown: Shown,
 }
 
 impl LoopRequest {
-    /// The configuration of both stations: that of a script with these settings.
+    /// Returns the configuration of both stations: that of a script with these settings.
     ///
     /// # Errors
     ///
-    /// The first word that isn't understood; else the first setting that is out of its range.
+    /// The first word that isn't understood; otherwise the first setting that is out of its range.
     pub fn config(&self) -> Result<Valid<WorldConfig>, SetError<'_>>
         ensures set { IfOk result
             (IsSetBy (map (λ word. word.bytes.items) self.now.sets.items)) }
@@ -60,7 +60,7 @@ impl LoopRequest {
     }
 }
 
-/// What has to be right of what was said, in words of the command line.
+/// What must be right of what was said, in words of the command line.
 #[derive(Clone, Copy)]
 struct LoopWords<'a> {
     from: &'a str,
@@ -93,14 +93,14 @@ Examples:
   mkdir a b && echo hello > a/x && cfdp_node loop a b x y --loss 20 --trace
   cfdp_node loop a b x y --set zone 1024 --set error_control 1";
 
-/// The grammar of what stands behind `loop`.
+/// Returns the grammar of what stands after `loop`.
 pub fn loop_command<'a>(alloc: Global) -> Result<Command<'a>, AllocError>
     ensures { IfOk result (IsCommand loop_app) }
 {
     shown_command(alloc, set_command(alloc)?)
 }
 
-/// The same without what is shown beside the report.
+/// Returns the grammar above without what is shown beside the report.
 fn set_command<'a>(alloc: Global) -> Result<Command<'a>, AllocError>
     ensures { IfOk result (IsCommand set_app) }
 {
@@ -112,7 +112,7 @@ fn set_command<'a>(alloc: Global) -> Result<Command<'a>, AllocError>
     ))
 }
 
-/// The same without settings.
+/// Returns the grammar above without settings.
 fn keys_command<'a>(alloc: Global) -> Result<Command<'a>, AllocError>
     ensures { IfOk result (IsCommand keys_app) }
 {
@@ -123,14 +123,14 @@ fn keys_command<'a>(alloc: Global) -> Result<Command<'a>, AllocError>
     ))
 }
 
-/// The same without keys.
+/// Returns the grammar above without keys.
 fn numbers_command<'a>(alloc: Global) -> Result<Command<'a>, AllocError>
     ensures { IfOk result (IsCommand numbers_app) }
 {
     losses_command(alloc, files_command(alloc)?.arg(turns_argument(alloc))?)
 }
 
-/// The same without options.
+/// Returns the grammar above without options.
 fn files_command<'a>(alloc: Global) -> Result<Command<'a>, AllocError>
     ensures { IfOk result (IsCommand files_app) }
 {
@@ -139,7 +139,7 @@ fn files_command<'a>(alloc: Global) -> Result<Command<'a>, AllocError>
         .arg(place(alloc, "destination", "DST", "The name that it gets in TO"))
 }
 
-/// The same with both folders alone.
+/// Returns the grammar above with both folders alone.
 fn folders_command<'a>(alloc: Global) -> Result<Command<'a>, AllocError>
     ensures { IfOk result (IsCommand folders_app) }
 {
@@ -150,7 +150,7 @@ fn folders_command<'a>(alloc: Global) -> Result<Command<'a>, AllocError>
         .arg(place(alloc, "to", "TO", "The folder to receive into"))
 }
 
-/// A word that has to be said.
+/// A word that must be said.
 fn place<'a>(alloc: Global, name: &'a str, shown: &'a str, help: &'a str) -> Arg<'a>
     ensures { (rule_of result ≡ place_rule name.now) × (result.global ≡ false) }
 {
@@ -171,7 +171,7 @@ fn turns_argument<'a>(alloc: Global) -> Arg<'a>
         .default_value("10000")
 }
 
-/// A number up to 1,000,000, and the one that stands for it where none is said.
+/// Returns an argument whose value is a number up to 1,000,000, with a default.
 pub fn tuned<'a>(
     alloc: Global,
     heading: &'a str,
@@ -191,11 +191,11 @@ pub fn tuned<'a>(
         .default_value(default)
 }
 
-/// What the words behind `loop` ask for.
+/// Returns what the words after `loop` ask for.
 ///
 /// # Errors
 ///
-/// `AllocError` where there is no memory for the words.
+/// `AllocError` if there is no memory for the words.
 pub fn loop_request(
     alloc: Global,
     arguments: &ArgMatches<'_>,
@@ -224,7 +224,7 @@ fn loop_words<'a>(arguments: &ArgMatches<'a>) -> Option<LoopWords<'a>>
 }
 
 impl LoopWords<'_> {
-    /// The same, in memory of its own, with what else was found.
+    /// Copies it into memory of its own, with what else was found.
     fn kept(self, alloc: Global, arguments: &ArgMatches<'_>) -> Result<LoopRequest, AllocError>
         ensures { IfOk result (λ request. loop_asked request
             ≡ words_asked (rows_of (found_of arguments.now)) self.entry) }
@@ -243,7 +243,7 @@ impl LoopWords<'_> {
     }
 }
 
-/// The number that was found for this argument, if it lies between these two or is one of them.
+/// Returns the number that was found for this argument, if it is from `low` to `high`.
 pub fn number_in(arguments: &ArgMatches<'_>, name: &str, low: u64, high: u64) -> Option<u64>
     ensures number { result
         ≡ requests.number_in name.now low high (rows_of (found_of arguments.now)) }

@@ -24,7 +24,7 @@ pub struct LossRequest {
     pub seed: u64,
 }
 
-/// A subcommand with the arguments that say which frames are lost.
+/// Adds the arguments to a subcommand that say which frames are lost.
 pub fn losses_command<'a>(alloc: Global, command: Command<'a>) -> Result<Command<'a>, AllocError>
     requires { HasNoGlobals command }
     ensures { IfOk result (IsCommand (with_losses (app_of command.entry))) }
@@ -71,7 +71,7 @@ fn seed_argument<'a>(alloc: Global) -> Arg<'a>
         .default_value("1")
 }
 
-/// What the words behind a subcommand say of the frames that are lost.
+/// Returns what the words after a subcommand say of the frames that are lost.
 pub fn losses_of(arguments: &ArgMatches<'_>) -> Option<LossRequest>
     ensures { result ≡ requests.losses_of (rows_of (found_of arguments.now)) }
 {
@@ -82,7 +82,7 @@ pub fn losses_of(arguments: &ArgMatches<'_>) -> Option<LossRequest>
     })
 }
 
-/// Says on standard error where no frame is left of those that are sent.
+/// Says on standard error if no frame is left of those that are sent.
 pub fn note_losses(rt: &HostRuntime, losses: LossRequest) {
     if losses.every == 1 {
         let _ = eprintln!(rt; "note: --drop 1 loses all frames; --drop 2 loses half of them");
@@ -91,7 +91,7 @@ pub fn note_losses(rt: &HostRuntime, losses: LossRequest) {
     }
 }
 
-/// The losses that are asked for, of which none was counted yet.
+/// Returns the losses that are asked for; none was counted yet.
 pub fn frame_losses(losses: LossRequest) -> FrameLosses {
     let percent = u32::try_from(losses.percent).unwrap_or(u32::MAX);
     FrameLosses::new(losses.every, percent, losses.seed)

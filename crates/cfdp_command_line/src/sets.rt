@@ -1,4 +1,4 @@
-//! What pairs of words set: the keys of settings, each with its value behind it.
+//! What pairs of words set: the keys of settings, each with its value after it.
 ghost use Rattle.std.specs.Prelude.{◌≡◌, map, IfOk, OnErr};
 ghost use Rattle.std.specs.Result.{result_ok};
 ghost use Rattle.cfdp_command_line.specs.Sets.{CannotBeSet, IsSetBy, set_all, set_by};
@@ -13,9 +13,9 @@ use valid_config::Valid;
 /// Why words set no configuration of two stations.
 #[derive(Clone, Copy)]
 pub enum SetError<'a> {
-    /// There is no such key, behind which this value stands.
+    /// There is no such key, after which this value stands.
     Key { key: &'a str, value: &'a str },
-    /// The value behind this key is no number.
+    /// The value after this key is no number.
     Number { key: &'a str, value: &'a str },
     /// This value of the setting is out of its range.
     OutOfRange(Setting, u64),
@@ -24,7 +24,7 @@ pub enum SetError<'a> {
 }
 
 impl SetError<'_> {
-    /// Tells it on standard error, in one line.
+    /// Prints it on standard error, in one line.
     pub fn tell(self, rt: &HostRuntime) {
         let _ = match self {
             SetError::Key { key, value } => {
@@ -67,12 +67,12 @@ fn value_hint(key: &str) -> Hint {
     }
 }
 
-/// The configuration of both stations of a loop that these words set: keys, each with its value
-/// behind it.
+/// Returns the configuration of both stations of a loop that these words set: keys, each with its
+/// value after it.
 ///
 /// # Errors
 ///
-/// The first word that isn't understood; else the first setting that is out of its range.
+/// The first word that isn't understood; otherwise the first setting that is out of its range.
 pub fn configuration(words: &[String]) -> Result<Valid<WorldConfig>, SetError<'_>>
     ensures set { IfOk result (IsSetBy (map (λ word. word.bytes.items) words.now)) }
     ensures refused { OnErr result (CannotBeSet (map (λ word. word.bytes.items) words.now)) }
@@ -95,7 +95,7 @@ fn misfit<'a>(settings: &Settings) -> SetError<'a> {
     }
 }
 
-/// The settings after these words, of which each second one is the value of the key before it.
+/// The settings after these words; each second word is the value of the key before it.
 ///
 /// # Errors
 ///

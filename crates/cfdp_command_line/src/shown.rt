@@ -1,4 +1,4 @@
-//! The words that ask what is to be shown of a run beside its report.
+//! The words that ask what must be shown of a run beside its report.
 ghost use Rattle.std.specs.Prelude.{◌≡◌, IfOk};
 ghost use Rattle.clap.specs.Matches.{found_of};
 ghost use Rattle.clap.specs.Simple.{app_of};
@@ -11,7 +11,7 @@ use cfdp_watch::Shown;
 use clap::{ArgMatches, Command};
 use std::alloc::{AllocError, Global};
 
-/// A subcommand with the arguments that say what is to be shown.
+/// Adds the arguments to a subcommand that say what must be shown.
 pub fn shown_command<'a>(alloc: Global, command: Command<'a>) -> Result<Command<'a>, AllocError>
     requires { HasNoGlobals command }
     ensures { IfOk result (IsCommand (with_shown (app_of command.entry))) }
@@ -37,7 +37,7 @@ pub fn shown_command<'a>(alloc: Global, command: Command<'a>) -> Result<Command<
     )
 }
 
-/// The same with those alone that say what is told on standard error.
+/// Adds those alone that say what is printed on standard error.
 fn told_command<'a>(alloc: Global, command: Command<'a>) -> Result<Command<'a>, AllocError>
     requires { HasNoGlobals command }
     ensures { IfOk result (IsCommand (with_told (app_of command.entry))) }
@@ -57,11 +57,11 @@ fn told_command<'a>(alloc: Global, command: Command<'a>) -> Result<Command<'a>, 
         ))
 }
 
-/// What the words behind a subcommand ask to be shown.
+/// Returns what the words after a subcommand ask to be shown.
 ///
 /// # Errors
 ///
-/// `AllocError` where there is no memory for the files' names.
+/// `AllocError` if there is no memory for the files' names.
 pub fn shown_by(alloc: Global, arguments: &ArgMatches<'_>) -> Result<Shown, AllocError>
     ensures { IfOk result (λ shown. asked_shown shown
         ≡ shown_of (rows_of (found_of arguments.now))) }

@@ -1,4 +1,4 @@
-//! What the words behind `station` ask for.
+//! What the words after `station` ask for.
 ghost use Rattle.std.specs.Prelude.{◌≡◌, [], false, map, unwrap_or, IfOk, option_map};
 ghost use Rattle.clap.specs.Matches.{found_of};
 ghost use Rattle.clap.specs.Walk.{all_of, rows_of, rule_of};
@@ -8,8 +8,9 @@ ghost use Rattle.cfdp_command_line.specs.Shown.{file_rule};
 ghost use Rattle.cfdp_command_line.specs.Station.{addresses_app, carried_app, carrier_of_word};
 ghost use Rattle.cfdp_command_line.specs.Station.{consoled_app};
 ghost use Rattle.cfdp_command_line.specs.Station.{file_app, first_number_rule, flags_of, held_app};
-ghost use Rattle.cfdp_command_line.specs.Station.{incoming_app, keyed_app, limits_of, lists_app};
-ghost use Rattle.cfdp_command_line.specs.Station.{named_rule};
+ghost use Rattle.cfdp_command_line.specs.Station.{incoming_app, journaled_app, keyed_app};
+ghost use Rattle.cfdp_command_line.specs.Station.{limits_of, lists_app};
+ghost use Rattle.cfdp_command_line.specs.Station.{named_rule, names_of_word};
 ghost use Rattle.cfdp_command_line.specs.Station.{names_app, numbered_app, numbers_of};
 ghost use Rattle.cfdp_command_line.specs.Station.{operated_app};
 ghost use Rattle.cfdp_command_line.specs.Station.{own_numbers_app, said_number_rule};
@@ -21,12 +22,13 @@ use crate::arguments::{file_for, file_under, flag, flag_under, is_given, owned_w
 use crate::looping::{number_in, tuned};
 use crate::losses::{LossRequest, losses_command, losses_of};
 use crate::shown::{shown_by, shown_command};
+use cfdp_store::NameRule;
 use cfdp_watch::Shown;
 use clap::builder::ValueParser;
 use clap::{Arg, ArgAction, ArgMatches, Command, value_parser};
 use std::alloc::{AllocError, Global};
 
-/// A station that is to run, and what it is to send.
+/// A station that must run, and what it must send.
 #[derive(Drop)]
 pub struct StationRequest {
     /// Who it is, and how it runs.
@@ -39,6 +41,8 @@ pub struct StationRequest {
     pub carrier: CarrierKind,
     /// The unit of the times that `--set` sets; `--idle` stays in seconds.
     pub unit: TimeUnit,
+    /// Which names files may have that it sends or receives.
+    pub names: NameRule,
     /// The address at which it listens.
     pub listen: String,
     /// The address of its peer.
@@ -49,22 +53,26 @@ pub struct StationRequest {
     pub outbox: Option<String>,
     /// The path of the folder whose files it sends as they come there.
     pub spool: Option<String>,
-    /// The path of the file that keeps which numbers are reserved, where it is said.
+    /// The path of the file that keeps which numbers are reserved, if it is said.
     pub state: Option<String>,
+    /// The path of the journal by which transfers go on after a restart, if there is one.
+    pub journal: Option<String>,
     /// The path of the file of the keys by which frames are authenticated, if they are.
     pub keys: Option<String>,
     /// The TCP address on which commands are taken.
     pub control: Option<String>,
     /// The TCP address at which a browser is shown it.
     pub console: Option<String>,
-    /// The path of the file with the token that the console wants.
+    /// The path of the file with the token that the console asks for.
     pub console_token: Option<String>,
-    /// The files that it sends: the name of each in that folder, and behind it the one that it is
+    /// The name of the host by which a proxy asks the console.
+    pub console_host: Option<String>,
+    /// The files that it sends: the name of each in that folder, and after it the one that it is
     /// to have at the peer.
     pub puts: Vec<String>,
-    /// What is set: the key of each setting, and behind it the value.
+    /// What is set: the key of each setting, and after it the value.
     pub sets: Vec<String>,
-    /// What is to be shown of it.
+    /// What must be shown of it.
     pub shown: Shown,
 }
 
@@ -78,7 +86,7 @@ pub struct StationNumbers {
     /// The seconds after which it ends in which nothing came and nothing was open, up to 1,000,000;
     /// with 0 it never does.
     pub idle: u64,
-    /// The number of its first transaction; with 0 it begins behind those that are reserved.
+    /// The number of its first transaction; with 0 it begins after those that are reserved.
     pub first_number: u64,
     /// The most frames that leave in a second, up to 1,000,000; with 0 any number.
     pub rate: u64,
@@ -89,7 +97,7 @@ pub struct StationNumbers {
 /// How much a station does at a time, and what it takes.
 #[derive(Clone, Copy)]
 pub struct StationLimits {
-    /// How often a file of the spool is sent anew after a fault that may pass, up to 1,000.
+    /// How often a file of the spool is sent again after a fault that may pass, up to 1,000.
     pub retries: u64,
     /// The most puts that are open at a time, 1 to 3,072.
     pub at_once: u64,
@@ -98,6 +106,8 @@ pub struct StationLimits {
     pub most_size: u64,
     /// The most files that come at a time, up to 4,096; with 0 there is no limit.
     pub most_open: u64,
+    /// The milliseconds after which the journal notes how far files are, 10 to 3,600,000.
+    pub journal_every: u64,
 }
 
 /// What is said of a station by a flag, which is there or not.
@@ -135,42 +145,39 @@ pub enum TimeUnit {
     Milliseconds,
 }
 
-/// What has to be right of what was said, in words of the command line.
+/// What must be right of what was said, in words of the command line.
 #[derive(Clone, Copy)]
 struct StationWords<'a> {
     numbers: StationNumbers,
     limits: StationLimits,
     carrier: CarrierKind,
     unit: TimeUnit,
+    names: NameRule,
     listen: &'a str,
     to: &'a str,
 }
 
 const STATION_HELP: &str = "\
 ADDR is HOST:PORT, e.g. 127.0.0.1:5001. Datagrams that do not come from the peer
-are dropped. File names are 1 to 64 of A-Z a-z 0-9 . _ - with no leading dot.
-Both stations must set the same --carrier, zone and spacecraft.
+are dropped. Both stations must set the same --carrier, zone and spacecraft.
 
 --idle: make it longer than every timer of both stations.
---spool: write a file under a name that begins with a dot, and rename it when
-it is whole. A sent file moves to .sent there, a failed one to .failed; after
-limits, silence, a wrong checksum or size, or a failed disk it is retried first.
---control, --console: an address of this machine, e.g. 127.0.0.1:5101; with
---console-token (16 to 256 visible ASCII characters) a console may have another.
+--names: portable is 1 to 64 of A-Z a-z 0-9 . _ -, any is 1 to 255 octets of
+UTF-8 without / and control characters; no name may begin with a dot.
+--spool: write a file as .NAME and rename it; it goes to .sent or to .failed.
+--control: unix:PATH, for its owner alone, or like --console an address of this
+machine. A console with --console-token (16 to 256 visible ASCII) may have any.
 --keys: FILE has a line for each key: SPI (1 to 65534), send or receive, and 64
 hexadecimal digits. A second receive line is the peer's former key.
 --state: without it FOLDER.state, beside --outbox or --spool, otherwise --inbox.
 
-Keys of --set, with their defaults, beside those of 'sim --help' (number_width 8
-and pdu_crc 1 here). Keys peer_.. are for frames or packets that the peer sends:
+Keys of --set and their defaults, beside those of 'sim --help' (number_width 8,
+pdu_crc 1, most_gaps 65536 here). Keys peer_.. are of what the peer sends:
   spacecraft 42            0 to 255
-  virtual_channel 5, peer_virtual_channel 6
-                           of directives, 0 to 62
-  data_virtual_channel 7, peer_data_virtual_channel 8
-                           of file data, 0 to 62
+  virtual_channel 5, peer_virtual_channel 6              of directives, 0 to 62
+  data_virtual_channel 7, peer_data_virtual_channel 8    of file data, 0 to 62
   apid 100, peer_apid 101  0 to 2046
-  insert_zone 0, peer_insert_zone 0
-                           octets of the insert zone, 0 to 64
+  insert_zone 0, peer_insert_zone 0  octets of the insert zone, 0 to 64
   control_field 0, peer_control_field 0
                            1: frames have an operational control field
   error_control 0, peer_error_control 0
@@ -192,14 +199,14 @@ Examples: two terminals that transfer two files; a station that keeps running:
   cfdp_node station --config station.toml --id 1 --peer 2 --spool SEND \\
     --listen 127.0.0.1:5001 --to 127.0.0.1:5002 --control 127.0.0.1:5101";
 
-/// The grammar of what stands behind `station`.
+/// Returns the grammar of what stands after `station`.
 pub fn station_command<'a>(alloc: Global) -> Result<Command<'a>, AllocError>
     ensures { IfOk result (IsCommand station_app) }
 {
     shown_command(alloc, file_command(alloc)?)
 }
 
-/// The same without what is shown beside the report.
+/// Returns the grammar above without what is shown beside the report.
 fn file_command<'a>(alloc: Global) -> Result<Command<'a>, AllocError>
     ensures { IfOk result (IsCommand file_app) }
 {
@@ -216,7 +223,7 @@ fn file_command<'a>(alloc: Global) -> Result<Command<'a>, AllocError>
         ))
 }
 
-/// The same without a file of settings.
+/// Returns the grammar above without a file of settings.
 fn told_command<'a>(alloc: Global) -> Result<Command<'a>, AllocError>
     ensures { IfOk result (IsCommand told_app) }
 {
@@ -225,7 +232,7 @@ fn told_command<'a>(alloc: Global) -> Result<Command<'a>, AllocError>
         .arg(flag_under(alloc, "Output", "json", "Write each line as a JSON object"))
 }
 
-/// The same without what says how lines are written.
+/// Returns the grammar above without what says how lines are written.
 fn consoled_command<'a>(alloc: Global) -> Result<Command<'a>, AllocError>
     ensures { IfOk result (IsCommand consoled_app) }
 {
@@ -242,10 +249,17 @@ fn consoled_command<'a>(alloc: Global) -> Result<Command<'a>, AllocError>
             "Operation",
             "console-token",
             "Ask visitors for the token in FILE",
+        ))?
+        .arg(word_for(
+            alloc,
+            "Operation",
+            "console-host",
+            "NAME",
+            "Accept a proxy's requests for the host NAME",
         ))
 }
 
-/// The same without a console.
+/// Returns the grammar above without a console.
 fn operated_command<'a>(alloc: Global) -> Result<Command<'a>, AllocError>
     ensures { IfOk result (IsCommand operated_app) }
 {
@@ -261,23 +275,32 @@ fn operated_command<'a>(alloc: Global) -> Result<Command<'a>, AllocError>
             "Operation",
             "control",
             "ADDR",
-            "Accept commands at this TCP address",
+            "Accept commands at this TCP address or unix:PATH",
         ))
 }
 
-/// The same without commands.
+/// Returns the grammar above without commands.
 fn incoming_command<'a>(alloc: Global) -> Result<Command<'a>, AllocError>
     ensures { IfOk result (IsCommand incoming_app) }
 {
-    held_command(alloc)?.arg(flag_under(
-        alloc,
-        "Files",
-        "no-overwrite",
-        "Refuse a file whose name is taken",
-    ))
+    held_command(alloc)?
+        .arg(flag_under(
+            alloc,
+            "Files",
+            "no-overwrite",
+            "Refuse a file whose name is taken",
+        ))?
+        .arg(named(
+            alloc,
+            "Files",
+            "names",
+            "RULE",
+            "portable",
+            "Allow portable or any file names",
+        ))
 }
 
-/// The same where a file may come in the place of another.
+/// Returns the grammar above without `--no-overwrite` and `--names`.
 fn held_command<'a>(alloc: Global) -> Result<Command<'a>, AllocError>
     ensures { IfOk result (IsCommand held_app) }
 {
@@ -304,7 +327,7 @@ fn held_command<'a>(alloc: Global) -> Result<Command<'a>, AllocError>
         ))
 }
 
-/// The same without limits of what comes.
+/// Returns the grammar above without limits of what comes.
 fn sent_command<'a>(alloc: Global) -> Result<Command<'a>, AllocError>
     ensures { IfOk result (IsCommand sent_app) }
 {
@@ -331,7 +354,7 @@ fn sent_command<'a>(alloc: Global) -> Result<Command<'a>, AllocError>
         ))
 }
 
-/// The same without numbers of what is sent.
+/// Returns the grammar above without numbers of what is sent.
 fn spooled_command<'a>(alloc: Global) -> Result<Command<'a>, AllocError>
     ensures { IfOk result (IsCommand spooled_app) }
 {
@@ -351,7 +374,7 @@ fn spooled_command<'a>(alloc: Global) -> Result<Command<'a>, AllocError>
         ))
 }
 
-/// The same without a spool.
+/// Returns the grammar above without a spool.
 fn lists_command<'a>(alloc: Global) -> Result<Command<'a>, AllocError>
     ensures { IfOk result (IsCommand lists_app) }
 {
@@ -372,11 +395,11 @@ fn lists_command<'a>(alloc: Global) -> Result<Command<'a>, AllocError>
         ))
 }
 
-/// The same without what may be said more than once.
+/// Returns the grammar above without what may be said more than once.
 fn keyed_command<'a>(alloc: Global) -> Result<Command<'a>, AllocError>
     ensures { IfOk result (IsCommand keyed_app) }
 {
-    stores_command(alloc)?.arg(file_under(
+    journaled_command(alloc)?.arg(file_under(
         alloc,
         "Link",
         "keys",
@@ -384,7 +407,30 @@ fn keyed_command<'a>(alloc: Global) -> Result<Command<'a>, AllocError>
     ))
 }
 
-/// The same without keys.
+/// Returns the grammar above without keys.
+fn journaled_command<'a>(alloc: Global) -> Result<Command<'a>, AllocError>
+    ensures { IfOk result (IsCommand journaled_app) }
+{
+    stores_command(alloc)?
+        .arg(file_under(
+            alloc,
+            "Identity",
+            "journal",
+            "Resume open transfers after a kill, by FILE",
+        ))?
+        .arg(ranged(
+            alloc,
+            "Identity",
+            "journal-every",
+            "MS",
+            "1000",
+            10,
+            3_600_000,
+            "Note progress in it each MS ms",
+        ))
+}
+
+/// Returns the grammar above without a journal and keys.
 fn stores_command<'a>(alloc: Global) -> Result<Command<'a>, AllocError>
     ensures { IfOk result (IsCommand stores_app) }
 {
@@ -411,7 +457,7 @@ fn stores_command<'a>(alloc: Global) -> Result<Command<'a>, AllocError>
         ))
 }
 
-/// The same without stores and keys.
+/// Returns the grammar above without stores and keys.
 fn carried_command<'a>(alloc: Global) -> Result<Command<'a>, AllocError>
     ensures { IfOk result (IsCommand carried_app) }
 {
@@ -434,7 +480,7 @@ fn carried_command<'a>(alloc: Global) -> Result<Command<'a>, AllocError>
         ))
 }
 
-/// The same without what a datagram carries and the unit of times.
+/// Returns the grammar above without what a datagram carries and the unit of times.
 fn own_numbers_command<'a>(alloc: Global) -> Result<Command<'a>, AllocError>
     ensures { IfOk result (IsCommand own_numbers_app) }
 {
@@ -449,7 +495,7 @@ fn own_numbers_command<'a>(alloc: Global) -> Result<Command<'a>, AllocError>
     losses_command(alloc, paced)
 }
 
-/// The same without what says which frames leave.
+/// Returns the grammar above without what says which frames leave.
 fn numbered_command<'a>(alloc: Global) -> Result<Command<'a>, AllocError>
     ensures { IfOk result (IsCommand numbered_app) }
 {
@@ -465,7 +511,7 @@ fn numbered_command<'a>(alloc: Global) -> Result<Command<'a>, AllocError>
         .arg(first_number_argument(alloc))
 }
 
-/// The same with ids and addresses alone.
+/// Returns the grammar above with ids and addresses alone.
 fn addresses_command<'a>(alloc: Global) -> Result<Command<'a>, AllocError>
     ensures { IfOk result (IsCommand addresses_app) }
 {
@@ -486,7 +532,7 @@ fn addresses_command<'a>(alloc: Global) -> Result<Command<'a>, AllocError>
         ))
 }
 
-/// The same with ids alone.
+/// Returns the grammar above with ids alone.
 fn names_command<'a>(alloc: Global) -> Result<Command<'a>, AllocError>
     ensures { IfOk result (IsCommand names_app) }
 {
@@ -497,14 +543,14 @@ fn names_command<'a>(alloc: Global) -> Result<Command<'a>, AllocError>
         .arg(said_number(alloc, "Identity", "peer", "Set the entity id of the peer"))
 }
 
-/// A number that has to be said.
+/// A number that must be said.
 fn said_number<'a>(alloc: Global, heading: &'a str, name: &'a str, help: &'a str) -> Arg<'a>
     ensures { (rule_of result ≡ said_number_rule name.now) × (result.global ≡ false) }
 {
     said(alloc, heading, name, "ID", help).value_parser(value_parser!(u64))
 }
 
-/// A word that has to be said behind its option.
+/// A word that must be said after its option.
 fn said<'a>(
     alloc: Global,
     heading: &'a str,
@@ -522,7 +568,7 @@ fn said<'a>(
         .required(true)
 }
 
-/// A word that may be said behind its option.
+/// A word that may be said after its option.
 fn word_for<'a>(
     alloc: Global,
     heading: &'a str,
@@ -539,7 +585,7 @@ fn word_for<'a>(
         .help_heading(heading)
 }
 
-/// A word that may be said, and the one that stands for it where none is.
+/// A word that may be said, and the one that stands for it if none is.
 fn named<'a>(
     alloc: Global,
     heading: &'a str,
@@ -558,7 +604,7 @@ fn named<'a>(
         .default_value(default)
 }
 
-/// A number between these two or one of them, and the one that stands for it where none is said.
+/// A number between these two or one of them, and the one that stands for it if none is said.
 fn ranged<'a>(
     alloc: Global,
     heading: &'a str,
@@ -593,7 +639,7 @@ fn first_number_argument<'a>(alloc: Global) -> Arg<'a>
         .default_value("0")
 }
 
-/// Two words, as often as they are said.
+/// Returns an argument of two words that may be given more than once.
 pub fn pairs<'a>(alloc: Global, name: &'a str, shown: &'a [&'a str; 2], help: &'a str) -> Arg<'a>
     ensures { (rule_of result ≡ pairs_rule name.now) × (result.global ≡ false) }
 {
@@ -605,7 +651,7 @@ pub fn pairs<'a>(alloc: Global, name: &'a str, shown: &'a [&'a str; 2], help: &'
         .num_args(2)
 }
 
-/// The same, under a heading of the help.
+/// Returns such an argument under a heading of the help.
 fn pairs_under<'a>(
     alloc: Global,
     heading: &'a str,
@@ -618,11 +664,11 @@ fn pairs_under<'a>(
     pairs(alloc, name, shown, help).help_heading(heading)
 }
 
-/// What the words behind `station` ask for.
+/// Returns what the words after `station` ask for.
 ///
 /// # Errors
 ///
-/// `AllocError` where there is no memory for the words.
+/// `AllocError` if there is no memory for the words.
 pub fn station_request(
     alloc: Global,
     arguments: &ArgMatches<'_>,
@@ -645,6 +691,7 @@ fn station_words<'a>(arguments: &ArgMatches<'a>) -> Option<StationWords<'a>>
         limits: station_limits(arguments)?,
         carrier: carrier_of(word_of(arguments, "carrier")?)?,
         unit: unit_of(word_of(arguments, "unit")?)?,
+        names: names_of(word_of(arguments, "names")?)?,
         listen: word_of(arguments, "listen")?,
         to: word_of(arguments, "to")?,
     })
@@ -671,6 +718,7 @@ fn station_limits(arguments: &ArgMatches<'_>) -> Option<StationLimits>
         at_once: number_in(arguments, "at-once", 1, 3072)?,
         most_size: number_in(arguments, "most-size", 0, 281474976710656)?,
         most_open: number_in(arguments, "most-open", 0, 4096)?,
+        journal_every: number_in(arguments, "journal-every", 10, 3_600_000)?,
     })
 }
 
@@ -701,6 +749,11 @@ fn carrier_of(word: &str) -> Option<CarrierKind>
     }
 }
 
+/// Returns `true` if a word says what a datagram carries.
+pub fn is_carrier(word: &str) -> bool {
+    carrier_of(word).is_some()
+}
+
 /// What this word says of the unit of times.
 fn unit_of(word: &str) -> Option<TimeUnit>
     ensures { result ≡ unit_of_word word.now }
@@ -714,8 +767,26 @@ fn unit_of(word: &str) -> Option<TimeUnit>
     }
 }
 
+/// Returns `true` if a word is a unit of times.
+pub fn is_unit(word: &str) -> bool {
+    unit_of(word).is_some()
+}
+
+/// What this word says of names of files.
+fn names_of(word: &str) -> Option<NameRule>
+    ensures { result ≡ names_of_word word.now }
+{
+    if word == "portable" {
+        Some(NameRule::Portable)
+    } else if word == "any" {
+        Some(NameRule::Any)
+    } else {
+        None
+    }
+}
+
 impl StationWords<'_> {
-    /// The same, in memory of its own, with what else was found.
+    /// Copies it into memory of its own, with what else was found.
     fn kept(self, alloc: Global, arguments: &ArgMatches<'_>) -> Result<StationRequest, AllocError>
         ensures { IfOk result (λ request. station_asked request
             ≡ words_asked (rows_of (found_of arguments.now)) self.entry) }
@@ -726,16 +797,19 @@ impl StationWords<'_> {
             flags: station_flags(arguments),
             carrier: self.carrier,
             unit: self.unit,
+            names: self.names,
             listen: String::from_str(alloc, self.listen)?,
             to: String::from_str(alloc, self.to)?,
             inbox: owned_word(alloc, arguments, "inbox")?,
             outbox: owned_word(alloc, arguments, "outbox")?,
             spool: owned_word(alloc, arguments, "spool")?,
             state: owned_word(alloc, arguments, "state")?,
+            journal: owned_word(alloc, arguments, "journal")?,
             keys: owned_word(alloc, arguments, "keys")?,
             control: owned_word(alloc, arguments, "control")?,
             console: owned_word(alloc, arguments, "console")?,
             console_token: owned_word(alloc, arguments, "console-token")?,
+            console_host: owned_word(alloc, arguments, "console-host")?,
             puts: owned_words(alloc, arguments, "put")?,
             sets: owned_words(alloc, arguments, "set")?,
             shown: shown_by(alloc, arguments)?,

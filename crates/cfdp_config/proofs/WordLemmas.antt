@@ -4,7 +4,7 @@ use Rattle.toml.specs.View.{items_view}
 use Rattle.toml.specs.declared.value.Value.{Value}
 use Rattle.cfdp_config.specs.Words.{both}
 
--- values of which there aren't two
+-- values, if there aren't two
 pub both-other : (vs : List Value) → (length vs ≡ 2 → ⊥) → None ≡ both (items_view vs)
 both-other [] other = refl
 both-other (a ∷ []) other = refl

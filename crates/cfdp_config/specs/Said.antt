@@ -13,11 +13,11 @@ use Rattle.cfdp_config.specs.declared.options.ValueKind.TheVariants.{Text, Numbe
 abbrev pub without : (front word : Word) → Option Word
 without front word = if pointwise nat_eq (take (length front) word) front then Some (drop (length front) word) else None
 
--- what stands behind the option of this name in a word that begins with it
+-- what stands after the option of this name in a word that begins with it
 abbrev pub behind : (name word : Word) → Option Word
 behind name word = option_and_then (without name) (without (codes "--") word)
 
--- nothing stands behind it, or an equals sign and a value
+-- nothing stands after it, or an equals sign and a value
 abbrev pub is_end : Option Word → Bool
 is_end None = false
 is_end (Some []) = true
@@ -27,7 +27,7 @@ is_end (Some (x ∷ xs)) = x == 61
 abbrev pub says : (name word : Word) → Bool
 says name word = is_end (behind name word)
 
--- one of the words is this option; behind the word "--" none is
+-- one of the words is this option; after the word "--" none is
 abbrev pub is_said : Word → List Word → Bool
 is_said name [] = false
 is_said name (word ∷ words) = if bytes_eq word (codes "--") then false

@@ -42,7 +42,7 @@ both _ = None
 abbrev pub three : (name first second : Word) → List Word
 three name first second = option_word name ∷ first ∷ second ∷ []
 
--- words in front of others, where both are known
+-- words before others, if both are known
 abbrev pub before : Option (List Word) → Option (List Word) → Option (List Word)
 before front rest = option_and_then (λ ws. option_map (λ vs. ws ++ vs) rest) front
 
@@ -64,7 +64,7 @@ abbrev pub flag_words : Word → Bool → List Word
 flag_words name true = option_word name ∷ []
 flag_words name false = []
 
--- what an option with this value comes to; None where the value is of another kind
+-- what an option with this value comes to; None if the value is of another kind
 abbrev pub option_words : ValueKind → Word → Data → Option (List Word)
 option_words Text name value = option_map (λ text. valued_word name text ∷ []) (as_str value)
 option_words Number name value = option_map (λ n. valued_word name (decimal n) ∷ []) (number_of value)

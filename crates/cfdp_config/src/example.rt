@@ -1,6 +1,6 @@
 //! A settings file with all options.
 
-/// A settings file with all options, a comment for each, and what holds where nothing is said. What
+/// A settings file with all options, a comment for each, and what holds if nothing is said. What
 /// has no such value stands in a comment.
 pub const EXAMPLE: &str = "\
 # Settings of 'cfdp_node station --config FILE'. An option of the command line replaces one here;
@@ -27,6 +27,8 @@ unit = \"s\"                      # unit of the times in [set] below: s or ms
 # inbox = \"RECEIVED\"            # receive files into this folder
 # outbox = \"FILES\"              # find the files of put in this folder
 # state = \"FILES.state\"         # default: beside outbox or spool, otherwise beside inbox
+# journal = \"FILES.journal\"     # resume open transfers after a kill, by this file
+journal-every = 1000            # note progress in it each N ms, 10 to 3600000
 
 # Files to send.
 put = []                        # files of outbox with their names there: [[\"a.bin\", \"b.bin\"]]
@@ -35,6 +37,9 @@ remove-sent = false             # delete sent spool files, instead of keeping th
 retries = 3                     # retry a spool file up to N times, to 1000
 at-once = 4                     # send up to N files at once, 1 to 3072
 
+# Names of files that are sent and received.
+names = \"portable\"              # portable: A-Z a-z 0-9 . _ - to 64; any: UTF-8 to 255 octets
+
 # Files to accept.
 most-size = 0                   # refuse files of more than N octets, to 2^48 (0: any)
 most-open = 0                   # receive at most N files at once, to 4096 (0: any)
@@ -42,9 +47,10 @@ no-overwrite = false            # refuse a file whose name is taken
 
 # Operation.
 commands = false                # read commands from standard input
-# control = \"127.0.0.1:5101\"    # accept commands at this TCP address
+# control = \"127.0.0.1:5101\"    # accept commands at this TCP address, or at \"unix:PATH\"
 # console = \"127.0.0.1:8080\"    # serve a web console at this TCP address
 # console-token = \"TOKEN\"       # ask visitors for the token in this file
+# console-host = \"cfdp.example\" # accept requests of a proxy for this host
 
 # Output.
 no-time = false                 # omit timestamps
@@ -56,6 +62,8 @@ trace = false                   # print each event on standard error
 
 # Keys of --set.
 [set]
+# A frame has zone + 8 octets, and an Ethernet packet takes one of up to 1472: IP sends a longer one
+# in pieces, and a lost piece loses it whole.
 zone = 256                      # octets of the packet zone of a frame, 16 to 2040
 insert_zone = 0                 # octets of the insert zone in frames sent, 0 to 64
 control_field = 0               # 1: frames sent have an operational control field
@@ -79,6 +87,7 @@ inactivity_time = 100           # time to wait for any PDU of a transaction
 on_ack_limit = 0                # no ACK: 0 cancel, 1 suspend, 2 ignore, 3 abandon
 on_nak_limit = 0                # the same if data is still missing after all NAKs
 on_inactivity = 0               # the same if no PDU arrives in inactivity_time
+most_gaps = 65536               # most gaps of a file that is received, 0: no limit
 spacecraft = 42                 # spacecraft id of both directions, 0 to 255
 packet_type = 0                 # with carrier = 'packets': 0 telemetry, 1 telecommand
 secondary_header = 0            # octets of the secondary header in packets sent, 0 to 63

@@ -14,7 +14,7 @@ mod options;
 mod said;
 mod words;
 
-pub use error::SettingsError;
+pub use error::{SettingsError, key_line};
 pub use example::EXAMPLE;
 pub use options::{OPTIONS, SettingsOption, ValueKind};
 pub use said::{is_said, value_said};

@@ -3,9 +3,9 @@
 /// What the value of an option is, in a file and on a command line.
 #[derive(Clone, Copy, PartialEq, Eq)]
 pub enum ValueKind {
-    /// A text: the word behind the option.
+    /// A text: the word after the option.
     Text,
-    /// A whole number from 0: the word behind the option, in decimal digits.
+    /// A whole number from 0: the word after the option, in decimal digits.
     Number,
     /// True or false: the option stands there, or not.
     Flag,
@@ -25,7 +25,7 @@ pub struct SettingsOption {
 }
 
 /// All options of a station but those that name a settings file, in the order of its help.
-pub const OPTIONS: [SettingsOption; 35] = [
+pub const OPTIONS: [SettingsOption; 39] = [
     SettingsOption {
         name: "id",
         kind: ValueKind::Number,
@@ -87,6 +87,14 @@ pub const OPTIONS: [SettingsOption; 35] = [
         kind: ValueKind::Text,
     },
     SettingsOption {
+        name: "journal",
+        kind: ValueKind::Text,
+    },
+    SettingsOption {
+        name: "journal-every",
+        kind: ValueKind::Number,
+    },
+    SettingsOption {
         name: "keys",
         kind: ValueKind::Text,
     },
@@ -127,6 +135,10 @@ pub const OPTIONS: [SettingsOption; 35] = [
         kind: ValueKind::Flag,
     },
     SettingsOption {
+        name: "names",
+        kind: ValueKind::Text,
+    },
+    SettingsOption {
         name: "commands",
         kind: ValueKind::Flag,
     },
@@ -140,6 +152,10 @@ pub const OPTIONS: [SettingsOption; 35] = [
     },
     SettingsOption {
         name: "console-token",
+        kind: ValueKind::Text,
+    },
+    SettingsOption {
+        name: "console-host",
         kind: ValueKind::Text,
     },
     SettingsOption {

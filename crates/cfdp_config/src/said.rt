@@ -2,8 +2,8 @@
 ghost use Rattle.std.specs.Prelude.{◌≡◌, map, option_map};
 ghost use Rattle.cfdp_config.specs.Said as said;
 
-/// Whether an option of this name stands among these words, with or without a value behind an
-/// equals sign. Behind the word `--` none is an option.
+/// Returns `true` if an option of this name stands among these words, with or without a value after
+/// an equals sign. After the word `--` none is an option.
 pub fn is_said(words: &[String], name: &str) -> bool
     ensures { result ≡ said.is_said name.now (map (λ word. word.bytes.items) words.now) }
 {
@@ -29,15 +29,15 @@ fn says(word: &[u8], name: &[u8]) -> bool
     }
 }
 
-/// What stands behind `--NAME` in a word that begins so.
+/// What stands after `--NAME` in a word that begins so.
 fn behind<'a>(word: &'a [u8], name: &[u8]) -> Option<&'a [u8]>
     ensures { option_map (λ rest. rest.now) result ≡ said.behind name.now word.now }
 {
     word.strip_prefix(b"--".as_slice())?.strip_prefix(name)
 }
 
-/// The value of the first option of this name among these words: behind an equals sign, or else the
-/// next word, unless that is an option.
+/// Returns the value of the first option of this name among these words: after an equals sign, or
+/// else the next word, unless that is an option.
 pub fn value_said<'a>(words: &'a [String], name: &str) -> Option<&'a str> {
     let mut is_next = false;
     for word in words {
@@ -61,7 +61,7 @@ pub fn value_said<'a>(words: &'a [String], name: &str) -> Option<&'a str> {
     None
 }
 
-/// The same as `behind`, as text.
+/// Returns what `behind` returns, as text.
 fn text_behind<'a>(word: &'a str, name: &str) -> Option<&'a str> {
     word.strip_prefix("--")?.strip_prefix(name)
 }

@@ -7,16 +7,17 @@ ghost use Rattle.cfdp_config.specs.Words.{valued_word, words_at};
 ghost use Rattle.cfdp_config.specs.Words as says;
 ghost use Rattle.cfdp_config.specs.Said as counting;
 
-use crate::error::SettingsError;
+use crate::error::{SettingsError, key_line};
 use crate::options::{SettingsOption, ValueKind};
 use crate::said::is_said;
 use std::alloc::{AllocError, Global};
+use strsim::levenshtein;
 use toml::{Table, Value};
 
-/// The words of a command line that the text of a settings file says of these options, where its
-/// other words say these: an option that is said there counts in place of the file's, but for `--put` and `--set`,
-/// which add to it. They are to stand in front of the said ones, so that of two values of a key
-/// that which is said holds.
+/// Returns the words of a command line that the text of a settings file says of these options, if
+/// its other words say these: an option that is said there counts in place of the file's, except
+/// `--put` and `--set`, which add to it. They must stand before the said ones, so that of two
+/// values of a key that which is said holds.
 ///
 /// # Errors
 ///
@@ -33,9 +34,9 @@ pub fn settings_words(
 {
     match toml::table_from_str(alloc, text) {
         Ok(table) => {
-            check_keys(alloc, &table, options)?;
+            check_keys(alloc, text, &table, options)?;
             let left = unsaid(alloc, options, said)?;
-            table_words(alloc, &table, left.as_slice())
+            table_words(alloc, text, &table, left.as_slice())
         }
         Err(error) => Err(SettingsError::of_text(text, error)),
     }
@@ -44,16 +45,47 @@ pub fn settings_words(
 /// Whether each key is the name of one of these options.
 fn check_keys(
     alloc: Global,
+    text: &str,
     table: &Table,
     options: &[SettingsOption],
 ) -> Result<(), SettingsError> {
     for key in table.keys() {
         if !is_option(options, key.as_str()) {
-            let key = String::from_str(alloc, key.as_str())?;
-            return Err(SettingsError::NoSuchKey(key));
+            return Err(SettingsError::NoSuchKey {
+                line: key_line(text, key.as_str()),
+                key: String::from_str(alloc, key.as_str())?,
+                nearest: nearest(alloc, options, key.as_str())?,
+            });
         }
     }
     Ok(())
+}
+
+/// So many letters of a key may be others than those of an option that is near to it.
+const NEAR: usize = 2;
+
+/// A longer key is near to no option.
+const LONGEST: usize = 32;
+
+/// Returns the option whose name is most like a key, if at most two letters differ.
+fn nearest(
+    alloc: Global,
+    options: &[SettingsOption],
+    key: &str,
+) -> Result<Option<&'static str>, AllocError> {
+    if key.len() > LONGEST {
+        return Ok(None);
+    }
+    let mut found = None;
+    let mut least = NEAR + 1;
+    for option in options {
+        let edits = levenshtein(alloc, key, option.name)?;
+        if edits < least {
+            least = edits;
+            found = Some(option.name);
+        }
+    }
+    Ok(found)
 }
 
 fn is_option(options: &[SettingsOption], key: &str) -> bool {
@@ -94,9 +126,10 @@ fn counts(option: &SettingsOption, said: &[String]) -> bool
 ///
 /// # Errors
 ///
-/// `OtherValue` where a value is of another kind than its option's, or `NoMemory`.
+/// `OtherValue` if a value is of another kind than its option's, or `NoMemory`.
 fn table_words(
     alloc: Global,
+    text: &str,
     table: &Table,
     options: &[SettingsOption],
 ) -> Result<Vec<String>, SettingsError>
@@ -107,23 +140,24 @@ fn table_words(
     for option in options {
         match found_words(alloc, table, option)? {
             Some(mut found) => words.append(&mut found)?,
-            None => return Err(option.misfit()),
+            None => return Err(option.misfit(text)),
         }
     }
     Ok(words)
 }
 
 impl SettingsOption {
-    /// That its value is of another kind.
-    fn misfit(&self) -> SettingsError {
+    /// That its value in this text is of another kind.
+    fn misfit(&self, text: &str) -> SettingsError {
         SettingsError::OtherValue {
+            line: key_line(text, self.name),
             key: self.name,
             expected: self.kind.wording(),
         }
     }
 }
 
-/// The words that a table says of an option, none where it doesn't have it; `None` where its value
+/// The words that a table says of an option, none if it doesn't have it; `None` if its value
 /// is of another kind.
 fn found_words(
     alloc: Global,
@@ -141,7 +175,7 @@ fn found_words(
     }
 }
 
-/// The words for an option with this value; `None` where it is of another kind.
+/// The words for an option with this value; `None` if it is of another kind.
 fn value_words(
     alloc: Global,
     kind: ValueKind,
@@ -240,7 +274,7 @@ fn valued(alloc: Global, name: &str, value: &str) -> Result<String, AllocError>
     Ok(word)
 }
 
-/// Pairs are three words each: the option and both texts. `None` where one is none, or where a text
+/// Pairs are three words each: the option and both texts. `None` if one is none, or if a text
 /// would be read as an option.
 fn pairs_words(alloc: Global, name: &str, value: &Value) -> Result<Option<Vec<String>>, AllocError>
     ensures { IfOk result (λ found. option_map
@@ -272,7 +306,7 @@ fn pair_words(alloc: Global, name: &str, pair: &Value) -> Result<Option<Vec<Stri
     }
 }
 
-/// Both texts of a pair of which none would be read as an option.
+/// Both texts of a pair, if none would be read as an option.
 fn both(pair: &Value) -> Option<(&str, &str)>
     ensures { option_map (λ texts. (texts.0.now, texts.1.now)) result
         ≡ option_and_then says.both (as_array (view pair.now)) }
@@ -302,7 +336,7 @@ fn is_plain(text: &str) -> bool
     }
 }
 
-/// An option and two words behind it.
+/// An option and two words after it.
 fn three(alloc: Global, name: &str, first: &str, second: &str) -> Result<Vec<String>, AllocError>
     ensures { IfOk result (λ words. map (λ word. word.bytes.items) words.items
         ≡ says.three name.now first.now second.now) }
@@ -313,7 +347,7 @@ fn three(alloc: Global, name: &str, first: &str, second: &str) -> Result<Vec<Str
     Ok(words)
 }
 
-/// A key and its number are three words: the option and both. `None` where a value is no such
+/// A key and its number are three words: the option and both. `None` if a value is no such
 /// number, or a key would be read as an option.
 fn numbers_words(
     alloc: Global,

@@ -1,1 +1,2 @@
 mod HearingLemmas
+mod Summing

@@ -13,10 +13,10 @@ use Rattle.cfdp_console.specs.declared.deed.Deed.{Deed}
 use Rattle.cfdp_console.specs.declared.deed.Deed.TheVariants as deed
 use Rattle.cfdp_console.specs.declared.look.Look.{Look}
 use Rattle.cfdp_console.specs.declared.look.Look.TheVariants as look
-use Rattle.cfdp_console.specs.Guard.{IsOwn, ShowsToken}
+use Rattle.cfdp_console.specs.Guard.{IsAllowed, ShowsToken}
 
--- ---- what is done: its path has these parts in front of the transaction's id and behind it, and
--- its line is the command of the control address, with the id behind it
+-- ---- what is done: its path has these parts before the transaction's id and after it, and its
+-- line is the command of the control address, with the id after it
 
 abbrev pub front_of : Deed → List ℕ
 front_of deed.Put = codes "/puts"
@@ -53,7 +53,7 @@ pub record IsWord (word : List ℕ) : Type 0 where
   pub some : word ≢ []
   pub all : All IsOfWord word
 
--- what stands behind the deed's words: one word, which is the id of a transaction, or nothing
+-- what stands after the deed's words: one word, which is the id of a transaction, or nothing
 abbrev pub IsIdOf : Deed → List ℕ → Type 0
 IsIdOf deed.Put id = id ≡ []
 IsIdOf deed.Cancel id = IsWord id
@@ -62,8 +62,8 @@ IsIdOf deed.Resume id = IsWord id
 IsIdOf deed.Freeze id = id ≡ []
 IsIdOf deed.Thaw id = id ≡ []
 
--- ---- a put: an object of JSON with the file's name `source`, with `destination` where it is to
--- have another one at the peer, and with `first` as `true` where it goes ahead of all that wait
+-- ---- a put: an object of JSON with the file's name `source`, with `destination` if it is to
+-- have another one at the peer, and with `first` as `true` if it goes ahead of all that wait
 
 abbrev pub text_in : List ℕ → Data → Option (List ℕ)
 text_in key wanted = option_and_then as_str (get key wanted)
@@ -73,7 +73,7 @@ first_words (Some true) = codes "put --first "
 first_words (Some false) = codes "put "
 first_words None = codes "put "
 
--- the name at the peer, which is that of the file where no other is said
+-- the name at the peer, which is that of the file if no other is said
 abbrev pub name_at_peer : List ℕ → Option (List ℕ) → List ℕ
 name_at_peer source (Some destination) = destination
 name_at_peer source None = source
@@ -124,7 +124,7 @@ IsPage look.Page = ⊤
 IsPage _ = ⊥
 
 -- Who is entitled to ask this: for a command, whoever shows the token and sends it as a POST; for
--- what the station has, whoever shows the token, or anybody where it is open to all.
+-- what the station has, whoever shows the token, or anybody if it is open to all.
 abbrev pub IsEntitled : Guard → Request (List ℕ) → Ask → Type 0
 IsEntitled guard request (ask.Look it) =
     IsPage it ⊎ (IsTrue guard.is_open ⊎ ShowsToken guard request)
@@ -132,7 +132,7 @@ IsEntitled guard request (ask.Command line) = ShowsToken guard request
     × ((head_of request).method ≡ codes "POST")
     × Commands (uri_path (head_of request).uri) (body_of request) line.items
 
--- who may ask this: who is entitled to, and asks by the console's own address
+-- who may ask this: who is entitled to, and asks by the console's own address or through the proxy
 pub record May (guard : Guard) (request : Request (List ℕ)) (it : Ask) : Type 0 where
-  pub own : IsOwn request
+  pub allowed : IsAllowed guard request
   pub entitled : IsEntitled guard request it

@@ -25,7 +25,7 @@ IsOwnHost host = (host ≡ codes "localhost")
     ⊎ IsTrue (starts_with nat_eq host (codes "["))
     ⊎ All IsOfAddress host
 
--- where the origin is told, it is the address that the request is for
+-- if the origin is said, it is the address that the request is for
 abbrev pub OriginFits : Option FieldValue → List ℕ → Type 0
 OriginFits None host = ⊤
 OriginFits (Some origin) host = origin.bytes ≡ codes "http://" ++ host
@@ -36,6 +36,24 @@ pub record IsOwn (request : Request (List ℕ)) : Type 0 where
   pub is_there : field_of request (codes "host") ≡ Some host
   pub own : IsOwnHost host.bytes
   pub origin : OriginFits (field_of request (codes "origin")) host.bytes
+
+-- if the origin is said, a page of this host sends it
+abbrev pub ProxyOriginFits : Option FieldValue → List ℕ → Type 0
+ProxyOriginFits None host = ⊤
+ProxyOriginFits (Some origin) host =
+    (origin.bytes ≡ codes "https://" ++ host) ⊎ (origin.bytes ≡ codes "http://" ++ host)
+
+-- A proxy, whose host the operator named, asks for it: by that name, and no page of another site
+-- sends it.
+pub record IsByProxy (guard : Guard) (request : Request (List ℕ)) : Type 0 where
+  pub host : FieldValue
+  pub is_there : field_of request (codes "host") ≡ Some host
+  pub named : host.bytes ≡ guard.proxy_host.items
+  pub origin : ProxyOriginFits (field_of request (codes "origin")) host.bytes
+
+-- the request may be answered
+abbrev pub IsAllowed : Guard → Request (List ℕ) → Type 0
+IsAllowed guard request = IsOwn request ⊎ IsByProxy guard request
 
 -- the request shows the token
 abbrev pub ShowsToken : Guard → Request (List ℕ) → Type 0

@@ -2,3 +2,6 @@ pub mod Guard
 pub mod Asking
 pub mod Hearing
 pub mod Shown
+pub mod Ranges
+pub mod Rounds
+pub mod Details

@@ -5,8 +5,10 @@ ghost use Rattle.serde_json.specs.Read.{max_depth, read};
 ghost use Rattle.serde_json.specs.View.{view};
 
 use crate::denial::Denial;
+use crate::details::details_value;
 use crate::documents::{
-    closed_value, history_value, id_text, log_value, open_value, status_value, transactions_value,
+    closed_value, files_value, history_value, id_text, log_value, open_value, status_value,
+    transactions_value,
 };
 use crate::look::Look;
 use crate::metrics::write_metrics;
@@ -45,22 +47,22 @@ pub struct Answer {
 }
 
 impl Answer {
-    /// That a command was done.
+    /// Returns the answer that a command was done.
     ///
     /// # Errors
     ///
-    /// `AllocError` where there is no memory for it.
+    /// `AllocError` if there is no memory for it.
     pub fn done(alloc: Global) -> Result<Answer, AllocError>
         ensures { IfOk result (λ answer. answer.status ≡ 200) }
     {
         json_answer(alloc, StatusCode::OK, &json!(in alloc; {"ok": true})?)
     }
 
-    /// Why a command wasn't done: it changed nothing.
+    /// Returns the answer that says why a command wasn't done: it changed nothing.
     ///
     /// # Errors
     ///
-    /// `AllocError` where there is no memory for it.
+    /// `AllocError` if there is no memory for it.
     pub fn refused(alloc: Global, why: &str) -> Result<Answer, AllocError>
         ensures { IfOk result (λ answer. answer.status ≡ 409) }
     {
@@ -71,31 +73,33 @@ impl Answer {
         )
     }
 
-    /// Why nothing was asked of the station.
+    /// Returns the answer that says why nothing was asked of the station.
     ///
     /// # Errors
     ///
-    /// `AllocError` where there is no memory for it.
+    /// `AllocError` if there is no memory for it.
     pub fn denied(alloc: Global, by: Denial) -> Result<Answer, AllocError> {
         let why = by.meaning();
         json_answer(alloc, by.status(), &json!(in alloc; {"error": why})?)
     }
 
-    /// What is looked at.
+    /// Returns the answer with what is looked at.
     ///
     /// # Errors
     ///
-    /// `AllocError` where there is no memory for it.
+    /// `AllocError` if there is no memory for it.
     pub fn shows(alloc: Global, look: &Look, shown: Shown<'_>) -> Result<Answer, AllocError> {
         let value = match look {
             Look::Page => return page(alloc),
             Look::Metrics => return metrics(alloc, shown),
             Look::Transaction(id) => return transaction(alloc, id.as_slice(), shown),
+            Look::Details(id) => return details(alloc, id.as_slice(), shown),
             Look::Token => return token(alloc, shown),
             Look::Status => status_value(alloc, shown)?,
             Look::History => history_value(alloc, shown.samples)?,
             Look::Transactions(after) => transactions_value(alloc, shown, *after)?,
             Look::Log(after) => log_value(alloc, shown, *after)?,
+            Look::Files => files_value(alloc, shown.files)?,
         };
         json_answer(alloc, StatusCode::OK, &value)
     }
@@ -144,25 +148,50 @@ fn token(alloc: Global, shown: Shown<'_>) -> Result<Answer, AllocError> {
 
 /// One transaction that is open, or one of the last that were closed.
 fn transaction(alloc: Global, id: &[u8], shown: Shown<'_>) -> Result<Answer, AllocError> {
+    match transaction_value(alloc, id, shown)? {
+        Some(value) => json_answer(alloc, StatusCode::OK, &value),
+        None => Answer::denied(alloc, Denial::NotFound),
+    }
+}
+
+/// The details of such a transaction.
+fn details(alloc: Global, id: &[u8], shown: Shown<'_>) -> Result<Answer, AllocError> {
+    let Some(transaction) = transaction_value(alloc, id, shown)? else {
+        return Answer::denied(alloc, Denial::NotFound);
+    };
+    let value = details_value(alloc, shown, transaction)?;
+    json_answer(alloc, StatusCode::OK, &value)
+}
+
+/// The object of a transaction that is open, or of one of the last that were closed.
+fn transaction_value(
+    alloc: Global,
+    id: &[u8],
+    shown: Shown<'_>,
+) -> Result<Option<Value>, AllocError> {
     for open in shown.open {
         if open.id.as_bytes() == id {
-            return json_answer(alloc, StatusCode::OK, &open_value(alloc, open)?);
+            return Ok(Some(open_value(alloc, open)?));
         }
     }
-    closed_transaction(alloc, id, shown)
+    closed_transaction_value(alloc, id, shown)
 }
 
-/// One of the last transactions that were closed.
-fn closed_transaction(alloc: Global, id: &[u8], shown: Shown<'_>) -> Result<Answer, AllocError> {
+/// The object of one of the last transactions that were closed.
+fn closed_transaction_value(
+    alloc: Global,
+    id: &[u8],
+    shown: Shown<'_>,
+) -> Result<Option<Value>, AllocError> {
     for closed in shown.ledger.closed().iter() {
         if id_text(alloc, closed.id)?.as_bytes() == id {
-            return json_answer(alloc, StatusCode::OK, &closed_value(alloc, closed)?);
+            return Ok(Some(closed_value(alloc, closed)?));
         }
     }
-    Answer::denied(alloc, Denial::NotFound)
+    Ok(None)
 }
 
-/// Gives an answer to a request, and closes the connection behind it where it `closes`.
+/// Gives an answer to a request, and closes the connection after it if it `closes`.
 #[derive(Drop)]
 pub struct Answering<'a> {
     pub answer: &'a Answer,
@@ -189,7 +218,8 @@ impl Service for Answering<'_> {
     }
 }
 
-/// Adds the fields of the head: nothing of an answer is kept, taken for something else, or shown
+/// Adds the fields of the head: nothing of an answer may be kept, taken for something else, or
+/// shown
 /// within another page; and a page has nothing run or loaded but what it has itself.
 fn add_fields(response: &mut Response, kind: Kind) -> Result<(), AllocError>
     ensures { OnOk result (response.new.body ≡ response.old.body) }

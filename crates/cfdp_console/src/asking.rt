@@ -5,7 +5,7 @@ ghost use Rattle.cfdp_console.specs.Asking.{IsEntitled, May};
 
 use crate::deed::command_line;
 use crate::denial::Denial;
-use crate::guard::{Guard, is_own};
+use crate::guard::{Guard, is_allowed};
 use crate::look::{Look, look_at};
 use bytes::Bytes;
 use http::Request;
@@ -20,7 +20,7 @@ pub enum Ask {
     Command(Vec<u8>),
 }
 
-/// What a request asks, where its sender may.
+/// Returns what a request asks, if its sender may ask it.
 ///
 /// # Errors
 ///
@@ -29,7 +29,7 @@ pub enum Ask {
 pub fn judge(alloc: Global, guard: &Guard, request: &Request<Bytes>) -> Result<Ask, Denial>
     ensures { IfOk result (λ ask. May guard.now request.now ask) }
 {
-    if !is_own(request) {
+    if !is_allowed(guard, request) {
         return Err(Denial::Foreign);
     }
     let method = request.method().as_str();
@@ -42,7 +42,7 @@ pub fn judge(alloc: Global, guard: &Guard, request: &Request<Bytes>) -> Result<A
     }
 }
 
-/// What a request asks that is to change something.
+/// What a request asks that changes something.
 fn command(alloc: Global, guard: &Guard, request: &Request<Bytes>) -> Result<Ask, Denial>
     requires { (head_of request.now).method ≡ codes "POST" }
     ensures { IfOk result (IsEntitled guard.now request.now) }

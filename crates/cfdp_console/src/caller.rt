@@ -1,5 +1,5 @@
 //! A connection of the console, as steps over octets: it makes no call of the system but through
-//! the reader and the writer that it is lent.
+//! the reader and the writer that it borrows.
 ghost use Rattle.std.specs.Prelude.{◌≡◌, ℕ, List, IfSome, Ok};
 ghost use Rattle.http.specs.declared.request.Request.{Request};
 ghost use Rattle.http_server.specs.Exchange.{Call, Chain};
@@ -36,7 +36,7 @@ const GET: &[u8] = b"GET / HTTP/1.1\r\nHost: localhost\r\n\r\n";
 enum Stage {
     /// Its request isn't whole.
     Hearing,
-    /// It is to be answered.
+    /// It must be answered.
     Awaiting,
     /// Its answer goes.
     Sending,
@@ -45,7 +45,7 @@ enum Stage {
 }
 
 /// A connection of the console. It carries requests, each of which is answered before the next one
-/// is read; once one asks for that, or isn't of HTTP/1.1, it is closed behind the answer.
+/// is read; once one asks for that, or isn't of HTTP/1.1, it is closed after the answer.
 #[derive(Drop)]
 pub struct Caller {
     alloc: Global,
@@ -91,8 +91,8 @@ impl Service for Hearing<'_> {
 }
 
 impl Caller {
-    /// One that came at this time, in milliseconds. The names of its fields are kept under secret
-    /// keys, since it chooses them.
+    /// Returns a caller that came at this time, in milliseconds. The names of its fields are kept
+    /// under secret keys, since it chooses them.
     pub fn new(alloc: Global, keys: RandomState, now: u64) -> Caller {
         Caller {
             alloc,
@@ -107,12 +107,12 @@ impl Caller {
         }
     }
 
-    /// Whether octets of it are taken.
+    /// Returns `true` if octets of it are taken.
     pub fn wants_octets(&self) -> bool {
         self.stage == Stage::Hearing && self.hearing.wants_read()
     }
 
-    /// Whether octets wait to be sent to it.
+    /// Returns `true` if octets wait to be sent to it.
     pub fn has_output(&self) -> bool {
         match self.stage {
             Stage::Hearing => self.hearing.wants_write(),
@@ -121,13 +121,13 @@ impl Caller {
         }
     }
 
-    /// Whether it is over: all is sent, or it was too slow.
+    /// Returns `true` if it is over: all is sent, or it was too slow.
     pub fn is_gone(&self) -> bool {
         self.stage == Stage::Gone
     }
 
     /// Takes octets that came; none of them means that no more come. What it asks, once its request
-    /// is whole and it may ask that: it is to be answered. One that may not is answered here.
+    /// is whole and it may ask that: it must be answered. One that may not is answered here.
     pub fn hears(&mut self, octets: &[u8], guard: &Guard, now: u64) -> Option<Ask>
         ensures { IfSome result (λ ask. (request : Request (List ℕ)) × May guard.now request ask) }
     {
@@ -141,12 +141,12 @@ impl Caller {
         self.judges(guard, now)
     }
 
-    /// Whether its last answer has gone, and its next request may have come meanwhile.
+    /// Returns `true` if its last answer has gone, and its next request may have come meanwhile.
     pub fn is_anew(&self) -> bool {
         self.is_anew
     }
 
-    /// What it asks by a request that came while its last answer went, as `hears`.
+    /// Returns what it asks by a request that came while its last answer went, as `hears`.
     pub fn goes_on(&mut self, guard: &Guard, now: u64) -> Option<Ask>
         ensures { IfSome result (λ ask. (request : Request (List ℕ)) × May guard.now request ask) }
     {
@@ -157,7 +157,7 @@ impl Caller {
         self.judges(guard, now)
     }
 
-    /// What it asks, where its request is whole.
+    /// What it asks, if its request is whole.
     fn judges(&mut self, guard: &Guard, now: u64) -> Option<Ask>
         ensures { IfSome result (λ ask. (request : Request (List ℕ)) × May guard.now request ask) }
     {
@@ -198,7 +198,7 @@ impl Caller {
         }
     }
 
-    /// Answers what it asks. Where there is no memory for the answer, it is left without one.
+    /// Answers what it asks. If there is no memory for the answer, it is left without one.
     pub fn answers(&mut self, answer: Result<Answer, AllocError>, now: u64) {
         if self.stage != Stage::Awaiting {
             return;
@@ -223,8 +223,8 @@ impl Caller {
         };
     }
 
-    /// Sends what the writer has room for, at this time. Behind an answer it goes on to the next
-    /// request, where one may follow.
+    /// Sends what the writer has room for, at this time. After an answer it goes on to the next
+    /// request, if one may follow.
     ///
     /// # Errors
     ///
@@ -249,8 +249,8 @@ impl Caller {
         }
     }
 
-    /// Goes on to its next request, where one may follow. What `hearing` would answer was sent by
-    /// `reply`, and is thrown away.
+    /// Goes on to its next request, if one may follow. What `hearing` would answer was sent by
+    /// `reply`, and is discarded.
     fn begins_anew(&mut self, now: u64) {
         let _ = self.hearing.write_to(&mut io::sink());
         self.is_anew = self.keeps && !self.hearing.wants_write();
@@ -262,7 +262,7 @@ impl Caller {
         };
     }
 
-    /// Leaves it where it was too slow.
+    /// Leaves it if it was too slow.
     pub fn looks_at_clock(&mut self, now: u64) {
         if now.saturating_sub(self.since) >= PATIENCE {
             self.stage = Stage::Gone;
@@ -275,7 +275,7 @@ impl Caller {
     }
 }
 
-/// How requests are read: none while more than so many octets wait to be sent.
+/// How requests are read: none while more than `max_pending` octets wait to be sent.
 fn config(max_pending: usize) -> Config {
     Config {
         limits: Limits::default(),

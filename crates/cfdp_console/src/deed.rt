@@ -33,7 +33,7 @@ impl Deed {
         Deed::Thaw,
     ];
 
-    /// What its path has in front of the id.
+    /// What its path has before the id.
     fn front(self) -> &'static [u8]
         ensures { result.now ≡ front_of self }
     {
@@ -45,7 +45,7 @@ impl Deed {
         }
     }
 
-    /// What its path has behind the id.
+    /// What its path has after the id.
     fn behind(self) -> &'static [u8]
         ensures { result.now ≡ behind_of self }
     {
@@ -57,7 +57,7 @@ impl Deed {
         }
     }
 
-    /// What its line has in front of the id.
+    /// What its line has before the id.
     fn words(self) -> &'static [u8]
         ensures { result.now ≡ words_of self }
     {
@@ -81,7 +81,7 @@ impl Deed {
         }
     }
 
-    /// The id in a path of this deed; `None` where it is none.
+    /// The id in a path of this deed; `None` if it is none.
     fn id_in(self, path: &[u8]) -> Option<&[u8]>
         ensures { IfSome result (λ id. (path.now ≡ path_of self id.now) × IsIdOf self id.now) }
     {
@@ -90,11 +90,11 @@ impl Deed {
     }
 }
 
-/// The line of the control address that a request to this path stands for, with this body.
+/// Returns the line of the control address that a request to this path with this body stands for.
 ///
 /// # Errors
 ///
-/// `NotFound` where the path is that of no deed, `BadBody` where a put doesn't say what it is to
+/// `NotFound` if the path is that of no deed, `BadBody` if a put doesn't say what it must
 /// say, and `NoMemory`.
 pub fn command_line(alloc: Global, path: &[u8], body: &[u8]) -> Result<Vec<u8>, Denial>
     ensures { IfOk result (λ line. Commands path.now body.now line.items) }
@@ -119,7 +119,7 @@ fn deed_of(path: &[u8]) -> Option<(Deed, &[u8])>
     None
 }
 
-/// Two, one behind the other.
+/// Two, one after the other.
 fn joined(alloc: Global, front: &[u8], behind: &[u8]) -> Result<Vec<u8>, AllocError>
     ensures { IfOk result (λ both. both.items ≡ front.now ++ behind.now) }
 {

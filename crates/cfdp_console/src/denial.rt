@@ -14,14 +14,14 @@ pub enum Denial {
     Foreign,
     /// It doesn't show the token.
     NoToken,
-    /// Its body doesn't say what it is to say.
+    /// Its body doesn't say what it must say.
     BadBody,
     /// There is no memory for it.
     NoMemory,
 }
 
 impl Denial {
-    /// The status of HTTP.
+    /// Returns the status of HTTP.
     pub fn status(self) -> StatusCode {
         match self {
             Denial::NotFound => StatusCode::NOT_FOUND,
@@ -33,7 +33,7 @@ impl Denial {
         }
     }
 
-    /// What it says, in one line.
+    /// Returns what it says, in one line.
     pub fn meaning(self) -> &'static str {
         match self {
             Denial::NotFound => "nothing at this path",

@@ -1,28 +1,31 @@
 //! What a station shows of itself, as JSON (RFC 8259).
 ghost use Rattle.std.specs.Prelude.{◌≡◌, IfOk};
 ghost use Rattle.serde_json.specs.View.{view};
-ghost use Rattle.cfdp_console.specs.Shown.{counters_data, dropped_data, link_data};
+ghost use Rattle.cfdp_console.specs.Shown.{counters_data, dropped_data, failed_data, link_data};
+ghost use Rattle.cfdp_console.specs.Shown.{note_data, phases_data, told_data};
 ghost use Rattle.cfdp_console.specs.Shown.{number_or_null, open_data, text_or_null, way_text};
 
 use crate::ledger::{Closed, Way};
 use crate::log_lines::LogLine;
 use crate::samples::Samples;
-use crate::shown::{Counters, Dropped, LinkStatus, Open, Shown};
+use crate::shown::{
+    Counters, Dropped, Failed, LinkStatus, NoteShown, Open, OpenPhases, Shown, Told,
+};
 use cfdp_header::TransactionId;
 use serde_json::{Map, Value, json};
 use std::alloc::{AllocError, Global};
 
-/// The most closed transactions, and the most lines of the log, that an answer has, and after so
-/// many octets of these it has no more of them: so it is made within a millisecond. Who asks for all
-/// goes on behind the last one.
+/// The most closed transactions, and the most lines of the log, that an answer has. After so many
+/// octets of lines it has no more of them, so it is made within a millisecond. Who asks for all
+/// goes on after the last one.
 const MOST_CLOSED: usize = 50;
 
 const MOST_LINES: usize = 200;
 
 const ENOUGH_OCTETS: usize = 32 * 1024;
 
-/// A number, or null where it isn't known.
-fn number(value: Option<u64>) -> Value
+/// Returns a number, or null if it isn't known.
+pub fn number(value: Option<u64>) -> Value
     ensures { view result ≡ number_or_null value }
 {
     match value {
@@ -31,7 +34,7 @@ fn number(value: Option<u64>) -> Value
     }
 }
 
-/// A text, or null where it isn't known.
+/// A text, or null if it isn't known.
 fn text(alloc: Global, value: &Option<String>) -> Result<Value, AllocError>
     ensures { IfOk result (λ it. view it ≡ text_or_null value.now) }
 {
@@ -41,7 +44,7 @@ fn text(alloc: Global, value: &Option<String>) -> Result<Value, AllocError>
     }
 }
 
-/// The word for which way a file goes.
+/// Returns the word for which way a file goes.
 pub fn way_word(way: Way) -> &'static str
     ensures { result.now ≡ way_text way }
 {
@@ -51,16 +54,18 @@ pub fn way_word(way: Way) -> &'static str
     }
 }
 
-/// The object of an open transaction.
+/// Returns the object of an open transaction.
 ///
 /// # Errors
 ///
-/// `AllocError` where there is no memory for it.
+/// `AllocError` if there is no memory for it.
 pub fn open_value(alloc: Global, it: &Open) -> Result<Value, AllocError>
     ensures { IfOk result (λ value. view value ≡ open_data it.now) }
 {
     let (source, destination) = (text(alloc, &it.source)?, text(alloc, &it.destination)?);
     json!(in alloc; {
+        "began": number(it.began),
+        "deadline": number(it.deadline),
         "destination": destination,
         "id": it.id.as_str(),
         "octets": number(it.octets),
@@ -73,11 +78,11 @@ pub fn open_value(alloc: Global, it: &Open) -> Result<Value, AllocError>
     })
 }
 
-/// The object of a link.
+/// Returns the object of a link.
 ///
 /// # Errors
 ///
-/// `AllocError` where there is no memory for it.
+/// `AllocError` if there is no memory for it.
 pub fn link_value(alloc: Global, link: &LinkStatus) -> Result<Value, AllocError>
     ensures { IfOk result (λ it. view it ≡ link_data link.now) }
 {
@@ -87,6 +92,8 @@ pub fn link_value(alloc: Global, link: &LinkStatus) -> Result<Value, AllocError>
         "carrier": link.carrier,
         "control_field": number(link.control_field),
         "missing": link.frames.missing,
+        "octets_received": link.octets_received,
+        "octets_sent": link.octets_sent,
         "received": link.frames.received,
         "sent": link.frames.sent,
         "silent": number(link.silent),
@@ -96,11 +103,11 @@ pub fn link_value(alloc: Global, link: &LinkStatus) -> Result<Value, AllocError>
     })
 }
 
-/// The object of what a station counted.
+/// Returns the object of what a station counted.
 ///
 /// # Errors
 ///
-/// `AllocError` where there is no memory for it.
+/// `AllocError` if there is no memory for it.
 pub fn counters_value(alloc: Global, counters: &Counters) -> Result<Value, AllocError>
     ensures { IfOk result (λ it. view it ≡ counters_data counters.now) }
 {
@@ -116,14 +123,76 @@ pub fn counters_value(alloc: Global, counters: &Counters) -> Result<Value, Alloc
         "pdus_sent": counters.pdus_sent,
         "puts_made": counters.puts_made,
         "puts_refused": counters.puts_refused,
+        "sends_failed": counters.sends_failed,
     })
 }
 
-/// The object of a cause by which something was dropped.
+/// Returns the object of how many transactions are open.
 ///
 /// # Errors
 ///
-/// `AllocError` where there is no memory for it.
+/// `AllocError` if there is no memory for it.
+pub fn phases_value(alloc: Global, phases: &OpenPhases) -> Result<Value, AllocError>
+    ensures { IfOk result (λ it. view it ≡ phases_data phases.now) }
+{
+    json!(in alloc; {
+        "cancelling": phases.cancelling,
+        "finishing": phases.finishing,
+        "receiving": phases.receiving,
+        "sending": phases.sending,
+    })
+}
+
+/// Returns the object of how many notes and errors there were.
+///
+/// # Errors
+///
+/// `AllocError` if there is no memory for it.
+pub fn told_value(alloc: Global, told: &Told) -> Result<Value, AllocError>
+    ensures { IfOk result (λ it. view it ≡ told_data told.now) }
+{
+    json!(in alloc; {"errors": told.errors, "notes": told.notes})
+}
+
+/// Returns the object of a condition by which transactions failed.
+///
+/// # Errors
+///
+/// `AllocError` if there is no memory for it.
+pub fn failed_value(alloc: Global, failed: &Failed) -> Result<Value, AllocError>
+    ensures { IfOk result (λ it. view it ≡ failed_data failed.now) }
+{
+    json!(in alloc; {
+        "code": failed.code,
+        "condition": failed.condition,
+        "count": failed.count,
+        "way": way_word(failed.way),
+    })
+}
+
+/// Returns the object of the last note on a topic.
+///
+/// # Errors
+///
+/// `AllocError` if there is no memory for it.
+pub fn note_value(alloc: Global, note: &NoteShown) -> Result<Value, AllocError>
+    ensures { IfOk result (λ it. view it ≡ note_data note.now) }
+{
+    json!(in alloc; {
+        "age": note.age,
+        "count": note.count,
+        "error": note.is_error,
+        "holds": note.holds,
+        "text": note.text.as_str(),
+        "topic": note.topic,
+    })
+}
+
+/// Returns the object of a cause by which something was dropped.
+///
+/// # Errors
+///
+/// `AllocError` if there is no memory for it.
 pub fn dropped_value(alloc: Global, dropped: &Dropped) -> Result<Value, AllocError>
     ensures { IfOk result (λ it. view it ≡ dropped_data dropped.now) }
 {
@@ -135,11 +204,11 @@ pub fn dropped_value(alloc: Global, dropped: &Dropped) -> Result<Value, AllocErr
     })
 }
 
-/// The object of a transaction that is over.
+/// Returns the object of a transaction that is over.
 ///
 /// # Errors
 ///
-/// `AllocError` where there is no memory for it.
+/// `AllocError` if there is no memory for it.
 pub fn closed_value(alloc: Global, closed: &Closed) -> Result<Value, AllocError> {
     let known = &closed.known;
     let (source, destination) = match &known.names {
@@ -155,29 +224,32 @@ pub fn closed_value(alloc: Global, closed: &Closed) -> Result<Value, AllocError>
     insert_text(alloc, &mut object, "source", source)?;
     insert_text(alloc, &mut object, "destination", destination)?;
     insert_text(alloc, &mut object, "way", Some(way_word(known.way)))?;
-    insert_text(alloc, &mut object, "why", Some(closed.why))?;
-    let complete = Value::Bool(closed.is_complete);
+    let ending = closed.ending;
+    insert_text(alloc, &mut object, "why", Some(ending.why))?;
+    insert_text(alloc, &mut object, "condition", Some(ending.condition))?;
+    let complete = Value::Bool(ending.is_complete);
     insert(alloc, &mut object, "complete", complete)?;
     for (name, value) in &[
         ("number", Some(closed.number)),
         ("size", known.size),
-        ("time", Some(closed.time)),
+        ("began", known.began),
+        ("time", Some(ending.time)),
     ] {
         insert(alloc, &mut object, name, number(*value))?;
     }
     Ok(object)
 }
 
-/// The two numbers of a transaction, as in `1:7`.
+/// Writes the two numbers of a transaction as a text, as in `1:7`.
 ///
 /// # Errors
 ///
-/// `AllocError` where there is no memory for it.
+/// `AllocError` if there is no memory for it.
 pub fn id_text(alloc: Global, id: TransactionId) -> Result<String, AllocError> {
     format!(in alloc; "{}:{}", id.source, id.number)
 }
 
-/// A text, or null where it isn't known.
+/// A text, or null if it isn't known.
 fn str_value(alloc: Global, value: Option<&str>) -> Result<Value, AllocError> {
     match value {
         Some(text) => Ok(Value::String(String::from_str(alloc, text)?)),
@@ -185,11 +257,11 @@ fn str_value(alloc: Global, value: Option<&str>) -> Result<Value, AllocError> {
     }
 }
 
-/// The object of `/status`.
+/// Returns the object of `/status`.
 ///
 /// # Errors
 ///
-/// `AllocError` where there is no memory for it.
+/// `AllocError` if there is no memory for it.
 pub fn status_value(alloc: Global, shown: Shown<'_>) -> Result<Value, AllocError> {
     let status = shown.status;
     let mut object = numbers_of(alloc, shown)?;
@@ -198,9 +270,24 @@ pub fn status_value(alloc: Global, shown: Shown<'_>) -> Result<Value, AllocError
     insert(alloc, &mut object, "link", link)?;
     let counters = counters_value(alloc, &status.counters)?;
     insert(alloc, &mut object, "counters", counters)?;
-    let dropped = dropped_values(alloc, status.dropped.as_slice())?;
-    insert(alloc, &mut object, "dropped", dropped)?;
+    let phases = phases_value(alloc, &status.phases)?;
+    insert(alloc, &mut object, "phases", phases)?;
+    let told = told_value(alloc, &status.told)?;
+    insert(alloc, &mut object, "told", told)?;
+    insert_text(alloc, &mut object, "version", Some(status.version))?;
+    insert_lists(alloc, &mut object, shown)?;
     Ok(object)
+}
+
+/// Adds what failed, what was noted and what was dropped to the object of `/status`.
+fn insert_lists(alloc: Global, object: &mut Value, shown: Shown<'_>) -> Result<(), AllocError> {
+    let status = shown.status;
+    let failed = failed_values(alloc, status.failed.as_slice())?;
+    insert(alloc, object, "failed", failed)?;
+    let notes = note_values(alloc, status.notes.as_slice())?;
+    insert(alloc, object, "notes", notes)?;
+    let dropped = dropped_values(alloc, status.dropped.as_slice())?;
+    insert(alloc, object, "dropped", dropped)
 }
 
 /// An object of the numbers that are always known of a station.
@@ -227,7 +314,12 @@ fn numbers_of(alloc: Global, shown: Shown<'_>) -> Result<Value, AllocError> {
 /// # Errors
 ///
 /// `AllocError` if there is no memory for it.
-fn insert(alloc: Global, object: &mut Value, name: &str, value: Value) -> Result<(), AllocError> {
+pub fn insert(
+    alloc: Global,
+    object: &mut Value,
+    name: &str,
+    value: Value,
+) -> Result<(), AllocError> {
     let name = String::from_str(alloc, name)?;
     if let Some(members) = object.as_object_mut() {
         members.insert(name, value)?;
@@ -250,6 +342,24 @@ fn insert_text(
     insert(alloc, object, name, text)
 }
 
+/// The array of the conditions by which transactions failed.
+fn failed_values(alloc: Global, failed: &[Failed]) -> Result<Value, AllocError> {
+    let mut values = Vec::new(alloc);
+    for it in failed {
+        values.push(failed_value(alloc, it)?)?;
+    }
+    Ok(Value::Array(values))
+}
+
+/// The array of notes for the operator.
+fn note_values(alloc: Global, notes: &[NoteShown]) -> Result<Value, AllocError> {
+    let mut values = Vec::new(alloc);
+    for it in notes {
+        values.push(note_value(alloc, it)?)?;
+    }
+    Ok(Value::Array(values))
+}
+
 /// The array of the causes by which something was dropped.
 fn dropped_values(alloc: Global, dropped: &[Dropped]) -> Result<Value, AllocError> {
     let mut values = Vec::new(alloc);
@@ -259,12 +369,12 @@ fn dropped_values(alloc: Global, dropped: &[Dropped]) -> Result<Value, AllocErro
     Ok(Value::Array(values))
 }
 
-/// The object of `/transactions`: those that are open, and the first ones that were closed behind
-/// this number.
+/// Returns the object of `/transactions`: those that are open, and the first ones that were closed
+/// after this number.
 ///
 /// # Errors
 ///
-/// `AllocError` where there is no memory for it.
+/// `AllocError` if there is no memory for it.
 pub fn transactions_value(
     alloc: Global,
     shown: Shown<'_>,
@@ -284,11 +394,25 @@ pub fn transactions_value(
     json!(in alloc; {"closed": closed, "open": open})
 }
 
-/// The object of `/log`: the first lines behind this number.
+/// Returns the object of `/files`: the names of files that may be sent.
 ///
 /// # Errors
 ///
-/// `AllocError` where there is no memory for it.
+/// `AllocError` if there is no memory for it.
+pub fn files_value(alloc: Global, files: &[String]) -> Result<Value, AllocError> {
+    let mut names = Vec::new(alloc);
+    for name in files {
+        names.push(Value::String(String::from_str(alloc, name.as_str())?))?;
+    }
+    let names = Value::Array(names);
+    json!(in alloc; {"files": names})
+}
+
+/// Returns the object of `/log`: the first lines after this number.
+///
+/// # Errors
+///
+/// `AllocError` if there is no memory for it.
 pub fn log_value(alloc: Global, shown: Shown<'_>, after: u64) -> Result<Value, AllocError> {
     let mut lines = Vec::new(alloc);
     let mut octets = 0usize;
@@ -307,11 +431,11 @@ fn line_value(alloc: Global, line: &LogLine) -> Result<Value, AllocError> {
     json!(in alloc; {"number": line.number, "text": line.text.as_str()})
 }
 
-/// The object of `/history`: what passed in each second, up to the one whose number it tells.
+/// Returns the object of `/history`: what passed in each second, up to the one whose number it has.
 ///
 /// # Errors
 ///
-/// `AllocError` where there is no memory for it.
+/// `AllocError` if there is no memory for it.
 pub fn history_value(alloc: Global, samples: &Samples) -> Result<Value, AllocError> {
     let mut sent = Vec::new(alloc);
     let mut received = Vec::new(alloc);

@@ -1,5 +1,6 @@
 //! What is known of the transactions of a station: those that are open, and the last that were
 //! closed.
+use crate::passed::Passed;
 use cfdp_header::TransactionId;
 use indexmap::IndexMap;
 use std::alloc::{AllocError, Global};
@@ -30,11 +31,11 @@ pub struct Names {
 }
 
 impl Names {
-    /// The same in memory of its own.
+    /// Copies both names into memory of their own.
     ///
     /// # Errors
     ///
-    /// `AllocError` where there is none.
+    /// `AllocError` if there is none.
     pub fn copy(&self, alloc: Global) -> Result<Names, AllocError> {
         Ok(Names {
             source: String::from_str(alloc, self.source.as_str())?,
@@ -51,11 +52,15 @@ pub struct Known {
     pub names: Option<Names>,
     /// Octets of the file.
     pub size: Option<u64>,
+    /// When it began, in milliseconds since 1970, if that is known.
+    pub began: Option<u64>,
     /// How many octets were read to be sent, or were written, up to the highest of them.
     pub octets: Option<u64>,
     pub is_suspended: bool,
     /// Whether its EOF was sent or came.
     pub has_eof: bool,
+    /// What passed of it over the link.
+    pub passed: Passed,
 }
 
 /// A transaction that is over.
@@ -65,15 +70,24 @@ pub struct Closed {
     pub number: u64,
     pub id: TransactionId,
     pub known: Known,
+    /// How it ended.
+    pub ending: Ending,
+}
+
+/// How a transaction ended.
+#[derive(Clone, Copy)]
+pub struct Ending {
     /// Whether the file lies at its receiver.
     pub is_complete: bool,
     /// What its condition says.
     pub why: &'static str,
-    /// When it was over, in milliseconds since 1970; 0 where the clock couldn't be read.
+    /// The standard's name of the condition.
+    pub condition: &'static str,
+    /// When it was over, in milliseconds since 1970; 0 if the clock couldn't be read.
     pub time: u64,
 }
 
-/// What is known of the transactions of a station. Where there is no memory, less is known.
+/// What is known of the transactions of a station. If there is no memory, less is known.
 #[derive(Drop)]
 pub struct Ledger {
     alloc: Global,
@@ -84,7 +98,7 @@ pub struct Ledger {
 }
 
 impl Ledger {
-    /// Before the first transaction of the entity `own`.
+    /// Returns a ledger before the first transaction of the entity `own`.
     pub fn new(alloc: Global, own: u64) -> Ledger {
         Ledger {
             alloc,
@@ -95,7 +109,7 @@ impl Ledger {
         }
     }
 
-    /// What is known of a transaction, also where it is one of the last that were closed.
+    /// Returns what is known of a transaction, also if it is one of the last that were closed.
     pub fn get(&self, id: TransactionId) -> Option<&Known> {
         match self.open.get(&id) {
             Some(known) => Some(known),
@@ -103,27 +117,34 @@ impl Ledger {
         }
     }
 
-    /// One of the last transactions that were closed.
+    /// Returns the transaction of this id, if it is one of the last that were closed.
     pub fn closed_one(&self, id: TransactionId) -> Option<&Closed> {
         self.closed.iter().find(|closed| closed.id == id)
     }
 
-    /// The last transactions that were closed, the first one first.
+    /// Returns the last transactions that were closed, the first one first.
     pub fn closed(&self) -> &VecDeque<Closed> {
         &self.closed
     }
 
-    /// The number of the one that was closed last; 0 where none was.
+    /// Returns the number of the one that was closed last; 0 if none was.
     pub fn closings(&self) -> u64 {
         self.closings
     }
 
-    /// Notes that a transaction began, of a file of these names, and of so many octets where that
-    /// is known.
-    pub fn begins(&mut self, id: TransactionId, names: Option<Names>, size: Option<u64>) {
+    /// Notes that a transaction began at this time, in milliseconds since 1970, of a file of these
+    /// names, and of so many octets if that is known.
+    pub fn begins(
+        &mut self,
+        id: TransactionId,
+        names: Option<Names>,
+        size: Option<u64>,
+        time: u64,
+    ) {
         if let Some(known) = self.known_mut(id) {
             known.names = names;
             known.size = size;
+            known.began = Some(known.began.unwrap_or(time));
         }
     }
 
@@ -134,7 +155,7 @@ impl Ledger {
         }
     }
 
-    /// Notes that a file of this name was read, up to this offset, to be sent. Where more than 64
+    /// Notes that a file of this name was read, up to this offset, to be sent. If more than 64
     /// transactions are open, that isn't looked for.
     pub fn reads(&mut self, source: &[u8], offset: u64) {
         if self.open.len() > MOST_FOLLOWED {
@@ -154,6 +175,23 @@ impl Ledger {
         }
     }
 
+    /// Returns what passed of a transaction that is open or is one of the last that were closed. If
+    /// nothing is known of it and it `is_open`, that is nothing yet; otherwise `None`.
+    pub fn passed_mut(&mut self, id: TransactionId, is_open: bool) -> Option<&mut Passed> {
+        if self.open.contains_key(&id) || is_open && self.closed_one(id).is_none() {
+            return Some(&mut self.known_mut(id)?.passed);
+        }
+        let place = self.closed.iter().position(|closed| closed.id == id)?;
+        Some(&mut self.closed.get_mut(place)?.known.passed)
+    }
+
+    /// Counts its EOFs, and its rounds of NAKs in a row, from 0 on again.
+    pub fn counts_anew(&mut self, id: TransactionId) {
+        if let Some(known) = self.open.get_mut(&id) {
+            known.passed.counts_anew();
+        }
+    }
+
     /// Notes whether the transaction is suspended.
     pub fn suspends(&mut self, id: TransactionId, is_suspended: bool) {
         if let Some(known) = self.known_mut(id) {
@@ -161,14 +199,14 @@ impl Ledger {
         }
     }
 
-    /// Notes that the transaction is over.
-    pub fn ends(&mut self, id: TransactionId, is_complete: bool, why: &'static str, time: u64) {
+    /// Notes that the transaction is over, and how it ended.
+    pub fn ends(&mut self, id: TransactionId, ending: Ending) {
         if self.closed_one(id).is_some() && !self.open.contains_key(&id) {
             return;
         }
         let known = match self.open.shift_remove(&id) {
             Some(known) => known,
-            None => nothing(self.own, id),
+            None => nothing(self.alloc, self.own, id),
         };
         self.closings = self.closings.saturating_add(1);
         if self.closed.len() >= MOST_CLOSED {
@@ -178,25 +216,23 @@ impl Ledger {
             number: self.closings,
             id,
             known,
-            is_complete,
-            why,
-            time,
+            ending,
         });
     }
 
-    /// What is known of a transaction, which is nothing where it is new; `None` where there is no
+    /// What is known of a transaction, which is nothing if it is new; `None` if there is no
     /// memory for it.
     fn known_mut(&mut self, id: TransactionId) -> Option<&mut Known> {
-        let own = self.own;
+        let (alloc, own) = (self.alloc, self.own);
         match self.open.entry(id) {
-            Ok(entry) => Some(entry.or_insert(nothing(own, id))),
+            Ok(entry) => Some(entry.or_insert(nothing(alloc, own, id))),
             Err(_) => None,
         }
     }
 }
 
 /// Nothing is known of this transaction, but which way its file goes.
-fn nothing(own: u64, id: TransactionId) -> Known {
+fn nothing(alloc: Global, own: u64, id: TransactionId) -> Known {
     Known {
         way: if id.source == own {
             Way::Sends
@@ -205,9 +241,11 @@ fn nothing(own: u64, id: TransactionId) -> Known {
         },
         names: None,
         size: None,
+        began: None,
         octets: None,
         is_suspended: false,
         has_eof: false,
+        passed: Passed::new(alloc),
     }
 }
 

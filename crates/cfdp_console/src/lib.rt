@@ -13,6 +13,7 @@ mod asking;
 mod caller;
 mod deed;
 mod denial;
+mod details;
 mod documents;
 mod guard;
 mod ledger;
@@ -21,6 +22,9 @@ mod look;
 mod metrics;
 mod octets;
 mod page;
+mod passed;
+mod ranges;
+mod rounds;
 mod samples;
 mod shown;
 
@@ -29,9 +33,15 @@ pub use asking::{Ask, judge};
 pub use caller::Caller;
 pub use denial::Denial;
 pub use guard::{Guard, is_own};
-pub use ledger::{Closed, Known, Ledger, Names, Way};
+pub use ledger::{Closed, Ending, Known, Ledger, Names, Way};
 pub use log_lines::{LogLine, LogLines};
 pub use look::Look;
 pub use page::PAGE;
+pub use passed::Passed;
+pub use ranges::Ranges;
+pub use rounds::{Nak, Round, Rounds};
 pub use samples::{FrameCounts, Samples};
-pub use shown::{Counters, Dropped, LinkStatus, Open, Shown, Status};
+pub use shown::{
+    Counters, Details, Dropped, Failed, LinkStatus, NoteShown, Open, OpenPhases, Parts, Shown,
+    Status, TimerShown, Told,
+};

@@ -16,7 +16,7 @@ pub struct LogLine {
     pub text: String,
 }
 
-/// The last lines of a log. Where there is no memory for one, it is left out.
+/// The last lines of a log. If there is no memory for one, it is left out.
 #[derive(Drop)]
 pub struct LogLines {
     alloc: Global,
@@ -27,7 +27,7 @@ pub struct LogLines {
 }
 
 impl LogLines {
-    /// Before the first line.
+    /// Returns an empty list, before the first line.
     pub fn new(alloc: Global) -> LogLines {
         LogLines {
             alloc,
@@ -37,12 +37,12 @@ impl LogLines {
         }
     }
 
-    /// The lines, the first one first.
+    /// Returns the lines, the first one first.
     pub fn lines(&self) -> &VecDeque<LogLine> {
         &self.lines
     }
 
-    /// The number of the last line; 0 where there is none.
+    /// Returns the number of the last line; 0 if there is none.
     pub fn count(&self) -> u64 {
         self.count
     }

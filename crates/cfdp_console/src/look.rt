@@ -4,30 +4,35 @@ use std::alloc::{AllocError, Global};
 /// What of a station can be looked at.
 #[derive(Drop)]
 pub enum Look {
-    /// The page, `/`: it has nothing of the station, and asks for all else.
+    /// The page, `/`: it has nothing of the station, and asks for everything else.
     Page,
-    /// The token that the page shows, `/token`, where it may.
+    /// The token that the page shows, `/token`, if it may.
     Token,
     /// The station and its link, `/status`.
     Status,
     /// What passed over the link in the last ten minutes, `/history`.
     History,
     /// The open transactions, and some that were closed, `/transactions?after=N`: these from the
-    /// next one behind number N on.
+    /// next one after number N on.
     Transactions(u64),
     /// A transaction that is open or is one of the last closed ones, `/transactions/ID`.
     Transaction(Vec<u8>),
-    /// Some lines of the log, `/log?after=N`: from the next one behind number N on.
+    /// The same with what of its file is held and what is missing, its NAKs and its timers,
+    /// `/transactions/ID/details`.
+    Details(Vec<u8>),
+    /// Some lines of the log, `/log?after=N`: from the next one after number N on.
     Log(u64),
     /// All numbers for Prometheus, `/metrics`.
     Metrics,
+    /// The names of files that may be sent, `/files`.
+    Files,
 }
 
-/// What is looked at by this path and query; `None` where there is nothing.
+/// Returns what is looked at by this path and query; `None` if there is nothing.
 ///
 /// # Errors
 ///
-/// `AllocError` where there is no memory for an id.
+/// `AllocError` if there is no memory for an id.
 pub fn look_at(
     alloc: Global,
     path: &[u8],
@@ -43,8 +48,16 @@ pub fn look_at(
         return Ok(after(query).map(Look::Log));
     }
     match path.strip_prefix(b"/transactions/") {
-        Some(id) => Ok(Some(Look::Transaction(Vec::from_slice(alloc, id)?))),
+        Some(rest) => Ok(Some(transaction_at(alloc, rest)?)),
         None => Ok(None),
+    }
+}
+
+/// What is looked at of a transaction by what follows `/transactions/` in a path.
+fn transaction_at(alloc: Global, rest: &[u8]) -> Result<Look, AllocError> {
+    match rest.strip_suffix(b"/details") {
+        Some(id) => Ok(Look::Details(Vec::from_slice(alloc, id)?)),
+        None => Ok(Look::Transaction(Vec::from_slice(alloc, rest)?)),
     }
 }
 
@@ -60,12 +73,14 @@ fn plain(path: &[u8]) -> Option<Look> {
         Some(Look::History)
     } else if path == b"/metrics".as_slice() {
         Some(Look::Metrics)
+    } else if path == b"/files".as_slice() {
+        Some(Look::Files)
     } else {
         None
     }
 }
 
-/// The number in `after=N`, which is 0 where there is no query; `None` where it is none.
+/// The number in `after=N`, which is 0 if there is no query; `None` if it is none.
 fn after(query: Option<&str>) -> Option<u64> {
     match query {
         None => Some(0),

@@ -1,7 +1,7 @@
 //! Texts that begin or end with certain octets.
 ghost use Rattle.std.specs.Prelude.{◌≡◌, ◌++◌, IfSome, IsTrue};
 
-/// What stands in a text behind these octets at its beginning.
+/// Returns what stands in a text after `front`, if the text begins with it.
 pub fn behind<'a>(text: &'a [u8], front: &[u8]) -> Option<&'a [u8]>
     ensures { IfSome result (λ rest. text.now ≡ front.now ++ rest.now) }
 {
@@ -12,7 +12,7 @@ pub fn behind<'a>(text: &'a [u8], front: &[u8]) -> Option<&'a [u8]>
     if begun == front { Some(rest) } else { None }
 }
 
-/// What stands in a text in front of these octets at its end.
+/// Returns what stands in a text before `end`, if the text ends with it.
 pub fn in_front_of<'a>(text: &'a [u8], end: &[u8]) -> Option<&'a [u8]>
     ensures { IfSome result (λ rest. text.now ≡ rest.now ++ end.now) }
 {
@@ -23,7 +23,7 @@ pub fn in_front_of<'a>(text: &'a [u8], end: &[u8]) -> Option<&'a [u8]>
     if ended == end { Some(rest) } else { None }
 }
 
-/// Whether a text is these two, one behind the other.
+/// Returns `true` if a text is these two, one after the other.
 pub fn is_joined(text: &[u8], front: &[u8], end: &[u8]) -> bool
     ensures { IsTrue result → text.now ≡ front.now ++ end.now }
 {

@@ -3,8 +3,8 @@
 /// What the page may do, as `Content-Security-Policy`: its own style and script run, by their
 /// checksums (SHA-256 of what stands between their tags), and it asks nobody but the console.
 pub const POLICY: &str = "default-src 'none'; connect-src 'self'; img-src data:; \
-    style-src 'sha256-ciEet665SB6eacwrvNPd1VaughUFKYuos5DUVB1DfVI='; \
-    script-src 'sha256-rN65vjt34m+ssfA0Yvn+1GlD1xq8JCj3rGyZkzCrnmw='; \
+    style-src 'sha256-qwU1T5+gkuc2Ak4cu5RWFZ3IRbRCVxYQ9wSnV8Nm0+o='; \
+    script-src 'sha256-7OwAPTrPlruDhnbm2vtt8G55p7rEfr4GmWRj/ZEr5eg='; \
     base-uri 'none'; form-action 'none'; frame-ancestors 'none'";
 
 /// The page, in HTML.
@@ -57,6 +57,9 @@ header {
   border-bottom: 1px solid var(--line);
 }
 header .fill { flex: 1; }
+#notes { border-color: var(--amber); padding: 0.6rem 1rem; }
+#notes li::before { content: "\26A0  "; color: var(--amber); }
+#notes li.bad::before { color: var(--red); }
 main {
   display: grid; gap: 1rem; padding: 1rem 1.1rem 2rem; max-width: 84rem; margin: 0 auto;
   grid-template-columns: minmax(0, 1.7fr) minmax(17rem, 1fr);
@@ -94,7 +97,7 @@ input[type="text"], input[type="password"], input[type="search"] {
   background: var(--back); border: 1px solid var(--dim); border-radius: 7px;
   min-height: 2.1rem; padding: 0.2rem 0.6rem; width: 100%; min-width: 0;
 }
-.figures { display: grid; grid-template-columns: repeat(5, minmax(0, 1fr)); gap: 1px;
+.figures { display: grid; grid-template-columns: repeat(4, minmax(0, 1fr)); gap: 1px;
   background: var(--line); border-top: 1px solid var(--line); border-radius: 0 0 10px 10px;
   overflow: hidden; }
 .figures > div { background: var(--card); padding: 0.55rem 0.9rem 0.65rem; }
@@ -134,6 +137,17 @@ li.suspended progress::-moz-progress-bar { background: var(--amber); }
 .size { min-width: 14rem; text-align: right; }
 .acts { display: flex; gap: 0.4rem; margin-left: auto; }
 .none { padding: 0.7rem 1rem 1rem; color: var(--dim); }
+main.one > section:not(#one, #notes, #ask) { display: none; }
+#one h3 { font-size: 0.9rem; font-weight: 650; margin: 0; padding: 0.9rem 1rem 0.3rem; }
+#one .figures { border-radius: 0; border-bottom: 1px solid var(--line); }
+#one .figures dd { font-size: 0.95rem; overflow-wrap: anywhere; }
+#one p { padding: 0.1rem 1rem; overflow-wrap: anywhere; }
+#parts { display: block; width: calc(100% - 2rem); height: 1.4rem; margin: 0 1rem 0.4rem;
+  border-radius: 5px; background: var(--track); }
+#parts .held { fill: var(--green); } #parts .sent { fill: var(--blue); }
+#parts .missing { fill: var(--red); } #parts .more { fill: var(--dim); }
+#one .scroll { max-height: none; border-top: 0; }
+a { color: var(--blue); }
 .scroll { max-height: 24rem; overflow: auto; border-top: 1px solid var(--line); }
 table { width: 100%; border-collapse: collapse; font-size: 0.9rem; }
 th, td { text-align: left; padding: 0.32rem 1rem; border-bottom: 1px solid var(--line);
@@ -164,10 +178,12 @@ td.time { white-space: nowrap; font-variant-numeric: tabular-nums; }
   .acts { margin-left: 0; width: 100%; }
   .acts button { flex: 1; min-height: 2.4rem; }
   .many { display: none; }
+  #one th, #one td { padding: 0.32rem 0.4rem; white-space: normal; }
   .figures { grid-template-columns: repeat(2, minmax(0, 1fr)); }
   #closed-box thead { position: absolute; left: -9999px; }
   #closed-box tr { display: flex; flex-wrap: wrap; gap: 0 0.8rem; padding: 0.4rem 0.9rem;
     border-bottom: 1px solid var(--line); }
+  #closed-box tr[hidden] { display: none; }
   #closed-box td { border: 0; padding: 0; }
   #closed-box td.file { flex: 1 0 100%; order: -1; font-weight: 600; }
   .bar { flex-wrap: wrap; gap: 0.15rem 0.7rem; }
@@ -198,6 +214,42 @@ td.time { white-space: nowrap; font-variant-numeric: tabular-nums; }
       <button class="main">Continue</button>
     </form>
   </section>
+  <section class="wide" id="notes" role="alert" aria-label="Notes that hold" hidden>
+    <ul id="held"></ul>
+  </section>
+  <section class="wide" id="one" tabindex="-1" aria-labelledby="one-title" hidden>
+    <div class="head"><h2 id="one-title">Transaction</h2>
+      <span class="tools"><a id="one-back" href="#">All transactions</a></span></div>
+    <p id="one-none" class="none" hidden>This transaction isn't open, and isn't one of the last 200
+      closed ones.</p>
+    <div id="one-body">
+      <dl class="figures" id="one-facts"></dl>
+      <h3 id="parts-title">What of the file is here</h3>
+      <svg id="parts" role="img" viewBox="0 0 1000 10" preserveAspectRatio="none"
+        aria-labelledby="parts-title"></svg>
+      <p id="one-held" class="num"></p>
+      <p id="one-missing" class="num"></p>
+      <h3>Timers</h3>
+      <p id="no-timers" class="none">None: it is over.</p>
+      <table id="timers" hidden>
+        <thead><tr><th scope="col">Waits for</th><th scope="col" class="num">Expires in</th>
+          <th scope="col" class="num">Sent</th><th scope="col" class="num">Again at most</th></tr>
+        </thead>
+        <tbody></tbody>
+      </table>
+      <h3 id="rounds-title">Rounds of NAKs</h3>
+      <p id="no-rounds" class="none">No NAK yet.</p>
+      <div class="scroll" tabindex="0" role="region" aria-labelledby="rounds-title"
+        id="rounds-box" hidden>
+        <table id="rounds">
+          <thead><tr><th scope="col" class="num">Round</th><th scope="col">Time</th>
+            <th scope="col" class="num many">NAKs</th><th scope="col" class="num many">Octets</th>
+            <th scope="col" class="num many">Ranges</th><th scope="col">Requested</th></tr></thead>
+          <tbody></tbody>
+        </table>
+      </div>
+    </div>
+  </section>
   <section aria-labelledby="link-title">
     <div class="head"><h2 id="link-title">Link</h2><span id="route" class="dim"></span></div>
     <figure>
@@ -216,7 +268,9 @@ td.time { white-space: nowrap; font-variant-numeric: tabular-nums; }
       <div><dt>resent</dt><dd id="f-again">-</dd></div>
       <div><dt>files sent</dt><dd id="f-files-sent">-</dd></div>
       <div><dt>files received</dt><dd id="f-files-came">-</dd></div>
-      <div><dt>files failed</dt><dd id="f-failed">-</dd></div>
+      <div><dt>sends failed</dt><dd id="f-sends-failed">-</dd></div>
+      <div><dt>receptions failed</dt><dd id="f-failed">-</dd></div>
+      <div><dt>cancelled</dt><dd id="f-cancelled">-</dd></div>
       <div><dt>puts refused</dt><dd id="f-refused">-</dd></div>
       <div><dt>control field</dt><dd id="f-control">-</dd></div>
     </dl>
@@ -226,7 +280,8 @@ td.time { white-space: nowrap; font-variant-numeric: tabular-nums; }
     <form id="put" class="put">
       <label class="line">File name in the outbox
         <input id="source" type="text" required autocapitalize="off" autocomplete="off"
-          spellcheck="false" title="Key: p"></label>
+          spellcheck="false" title="Key: p" list="files"></label>
+      <datalist id="files"></datalist>
       <label class="line">Destination name (optional)
         <input id="destination" type="text" autocapitalize="off" autocomplete="off"
           spellcheck="false"></label>
@@ -235,6 +290,12 @@ td.time { white-space: nowrap; font-variant-numeric: tabular-nums; }
         <button class="main">Send</button>
       </div>
     </form>
+    <div class="head"><h2>Failed transactions, by condition</h2></div>
+    <p id="no-fails" class="none">None failed.</p>
+    <table id="fails" hidden>
+      <thead><tr><th scope="col">Condition</th><th scope="col" class="num">Count</th></tr></thead>
+      <tbody></tbody>
+    </table>
     <div class="head"><h2>Dropped data, by cause</h2></div>
     <p id="no-drops" class="none">None dropped.</p>
     <table id="drops" hidden>
@@ -244,7 +305,9 @@ td.time { white-space: nowrap; font-variant-numeric: tabular-nums; }
   </section>
   <section class="wide" id="work" tabindex="-1" aria-labelledby="open-title">
     <div class="head"><h2 id="open-title">Open transactions</h2>
-      <span id="open-count" class="dim"></span></div>
+      <span id="open-count"></span>
+      <span class="tools"><label for="files-filter" class="dim">Filter</label>
+        <input id="files-filter" type="search" title="Key: t"></span></div>
     <p id="no-open" class="none">No open transactions.</p>
     <ul id="open" class="rows" hidden></ul>
   </section>
@@ -255,7 +318,8 @@ td.time { white-space: nowrap; font-variant-numeric: tabular-nums; }
     <div class="scroll" tabindex="0" role="region" aria-labelledby="closed-title"
       id="closed-box" hidden>
       <table>
-        <thead><tr><th scope="col">Time</th><th scope="col">Id</th><th scope="col">File</th>
+        <thead><tr><th scope="col">Time</th><th scope="col" class="num many">Took</th>
+          <th scope="col">Id</th><th scope="col">File</th>
           <th scope="col" class="num many">Octets</th><th scope="col">Outcome</th>
           <th scope="col" class="why">Why</th></tr></thead>
         <tbody id="closed"></tbody>
@@ -278,9 +342,12 @@ td.time { white-space: nowrap; font-variant-numeric: tabular-nums; }
 const at = (id) => document.getElementById(id);
 const SPAN = 600, CLOSED = 200, LINES = 1000;
 // What in a line tells of a fault, an incomplete file or a put that was refused.
-const BAD = new RegExp("(^| )(fault|abandoned|incomplete|failed:|change|line [0-9]+) "
-  + '|"event":"(fault|abandoned|put|change)"|:"(failed|incomplete)"');
+const BAD = new RegExp("(^| )(fault|abandoned|incomplete|failed:|change|error|line [0-9]+) "
+  + '|"event":"(fault|abandoned|put|change|error)"|:"(failed|incomplete)"');
+const INFORMS = ["authentication", "console", "control", "listening"];
+const CANCELLED = 15, STALE = 3000, PACE = 10, SURE = 4000;
 let token = null, status = null, before = null, samples = [], shownClosed = 0, shownLine = 0;
+let answeredAt = 0, rates = new Map();
 let isAsking = false, isRenewing = false, isWanted = false, isAnew = false, quiet = 0;
 
 function made(tag, text, className) {
@@ -346,9 +413,10 @@ function shows_status() {
   writes(at("title"), "Station " + status.station + " \u2192 peer " + status.peer);
   const is_silent = link.silent !== null && link.silent >= 10;
   const state = link.state === "frozen" ? "frozen" : is_silent ? "silent" : "up";
-  at("state").className = "pill is-" + state;
+  const is_noted = shows_notes();
+  at("state").className = "pill is-" + (is_noted && state === "up" ? "silent" : state);
   writes(at("state"), state === "frozen" ? "frozen" : state === "silent"
-    ? "link up, peer silent" : "link up");
+    ? "link up, peer silent" : is_noted ? "link up, see the notes" : "link up");
   writes(at("heard"), link.silent === null ? "" : "last received " + link.silent + " s ago");
   writes(at("clock"), clock(status.time) + " UTC");
   writes(at("route"), link.carrier + " to " + link.to
@@ -357,19 +425,49 @@ function shows_status() {
   const counters = status.counters;
   const figures = { "f-sent": link.sent, "f-came": link.received, "f-lost": link.missing,
     "f-again": counters.file_data_sent_again, "f-files-sent": counters.files_sent,
-    "f-files-came": counters.files_received, "f-failed": counters.files_failed,
+    "f-files-came": counters.files_received, "f-failed": failed("receives"),
+    "f-sends-failed": failed("sends"), "f-cancelled": cancelled(),
     "f-refused": counters.puts_refused };
   for (const [id, number] of Object.entries(figures)) writes(at(id), grouped(number));
   let dropped = 0;
   for (const it of status.dropped) dropped += it.count;
   writes(at("f-dropped"), grouped(dropped));
   at("f-lost").className = link.missing ? "bad" : "";
-  at("f-failed").className = counters.files_failed ? "bad" : "";
+  at("f-failed").className = failed("receives") ? "bad" : "";
+  at("f-sends-failed").className = failed("sends") ? "bad" : "";
   at("f-refused").className = counters.puts_refused ? "bad" : "";
   writes(at("f-control"), link.control_field === null ? "none"
     : link.control_field.toString(16).toUpperCase().padStart(8, "0"));
   shows_rates();
-  shows_drops();
+  shows_counts("drops", status.dropped, (it) => it.layer + " " + it.number + " " + it.cause);
+  const fails = status.failed.filter((it) => it.code !== CANCELLED);
+  shows_counts("fails", fails, (it) => (it.way === "sends" ? "send " : "reception ")
+    + it.code + " " + it.condition);
+}
+// How many transactions of one way failed: what a user cancelled didn't.
+function failed(way) {
+  let count = 0;
+  for (const it of status.failed) if (it.way === way && it.code !== CANCELLED) count += it.count;
+  return count;
+}
+function cancelled() {
+  let count = 0;
+  for (const it of status.failed) if (it.code === CANCELLED) count += it.count;
+  return count;
+}
+// Shows the notes that hold, except what each start says.
+function shows_notes() {
+  const all = status.notes.filter((it) => it.holds && !INFORMS.includes(it.topic));
+  const list = at("held");
+  while (list.children.length > all.length) list.lastChild.remove();
+  all.forEach((it, place) => {
+    const line = list.children[place] || list.appendChild(made("li"));
+    line.className = it.error ? "bad" : "";
+    writes(line, it.text + " (" + grouped(it.count) + (it.count === 1 ? " time, " : " times, ")
+      + it.age + " s ago)");
+  });
+  at("notes").hidden = all.length === 0;
+  return all.length > 0;
 }
 function shows_rates() {
   const last = samples[samples.length - 1] || { sent: 0, came: 0, lost: 0 };
@@ -380,10 +478,10 @@ function shows_rates() {
     + Math.round(last.sent) + " sent, " + Math.round(last.came) + " received, "
     + Math.round(last.lost) + " lost");
 }
-function shows_drops() {
-  const body = at("drops").tBodies[0], all = status.dropped;
-  at("drops").hidden = all.length === 0;
-  at("no-drops").hidden = all.length > 0;
+function shows_counts(id, all, words) {
+  const body = at(id).tBodies[0];
+  at(id).hidden = all.length === 0;
+  at("no-" + id).hidden = all.length > 0;
   while (body.rows.length > all.length) body.deleteRow(-1);
   all.forEach((it, place) => {
     let row = body.rows[place];
@@ -391,7 +489,7 @@ function shows_drops() {
       row = body.insertRow();
       row.append(made("td", "", "file"), made("td", "", "num"));
     }
-    writes(row.cells[0], it.layer + " " + it.number + " " + it.cause);
+    writes(row.cells[0], words(it));
     writes(row.cells[1], grouped(it.count));
   });
 }
@@ -468,11 +566,23 @@ function draws() {
 }
 
 // ---- transactions
+// The address of the page of a transaction.
+function link_to(id) {
+  const link = made("a", id, "num");
+  link.href = "#" + id;
+  link.setAttribute("aria-label", "Details of " + id);
+  return link;
+}
+function id_cell(id) {
+  const cell = made("td", undefined, "time");
+  cell.append(link_to(id));
+  return cell;
+}
 function open_row(it) {
   const row = made("li");
   row.dataset.id = it.id;
   const top = made("div", undefined, "top");
-  top.append(made("span", it.id, "dim num"), made("span", "", "name"), made("span", "", "dim way"),
+  top.append(link_to(it.id), made("span", "", "name"), made("span", "", "dim way"),
     made("span", "", "waits"));
   const acts = made("div", undefined, "acts");
   const hold = made("button", "", "small hold"), cancel = made("button", "Cancel", "small harm");
@@ -482,7 +592,14 @@ function open_row(it) {
     does("/transactions/" + it.id + "/" + word, it.id + ": " + word + " done").then(renews);
   });
   cancel.addEventListener("click", () => {
-    does("/transactions/" + it.id + "/cancel", it.id + ": cancel done").then(renews);
+    if (row.dataset.sure) {
+      does("/transactions/" + it.id + "/cancel", it.id + ": cancel done").then(renews);
+      return;
+    }
+    // What was transferred is lost: a second click, within some seconds, does it.
+    row.dataset.sure = "yes";
+    setTimeout(() => { delete row.dataset.sure; names_cancel(row); }, SURE);
+    names_cancel(row);
   });
   acts.append(hold, cancel);
   top.append(acts);
@@ -490,6 +607,12 @@ function open_row(it) {
   bar.append(progress, made("span", "", "share num"), made("span", "", "dim num size"));
   row.append(top, bar);
   return row;
+}
+function names_cancel(row) {
+  const cancel = row.querySelector(".harm"), it = row.dataset;
+  writes(cancel, it.sure ? "Really?" : "Cancel");
+  cancel.setAttribute("aria-label", (it.sure ? "Really cancel " : "Cancel ") + it.id + ", "
+    + it.name);
 }
 function shows_open(all) {
   const list = at("open"), rows = new Map();
@@ -505,7 +628,8 @@ function shows_open(all) {
     place = row;
     fills_row(row, it);
   }
-  for (const row of rows.values()) row.remove();
+  for (const [id, row] of rows) { row.remove(); rates.delete(id); }
+  filters_files();
   list.hidden = all.length === 0;
   at("no-open").hidden = all.length > 0;
   const shown = all.length < status.open ? ", " + all.length + " shown" : "";
@@ -517,12 +641,15 @@ function fills_row(row, it) {
   const name = (it.source || "name not yet known") + to;
   row.className = it.way + (it.suspended ? " suspended" : "");
   writes(row.querySelector(".name"), name);
-  writes(row.querySelector(".way"), it.phase);
-  writes(row.querySelector(".waits"), it.waits_for ? "waits for " + it.waits_for : "");
+  writes(row.querySelector(".way"), it.phase + since(it));
+  const deadline = it.deadline === null ? ""
+    : "; the peer gives up in " + grouped(it.deadline) + " units of time";
+  writes(row.querySelector(".waits"), it.waits_for ? "waits for " + it.waits_for + deadline : "");
   const hold = row.querySelector(".hold"), progress = row.querySelector("progress");
   writes(hold, it.suspended ? "Resume" : "Suspend");
   hold.setAttribute("aria-label", hold.textContent + " " + it.id + ", " + name);
-  row.querySelector(".harm").setAttribute("aria-label", "Cancel " + it.id + ", " + name);
+  row.dataset.name = name;
+  names_cancel(row);
   progress.setAttribute("aria-label", "Progress of " + it.id);
   const is_known = it.size !== null && it.octets !== null;
   if (is_known) {
@@ -533,7 +660,33 @@ function fills_row(row, it) {
     progress.removeAttribute("value");
     writes(row.querySelector(".share"), "-");
   }
-  writes(row.querySelector(".size"), grouped(it.octets) + " of " + grouped(it.size));
+  writes(row.querySelector(".size"), grouped(it.octets) + " of " + grouped(it.size)
+    + (it.suspended ? "" : pace(it)));
+}
+// When a transaction began, and for how long it has been open.
+function since(it) {
+  return it.began ? ", since " + clock(it.began) + " (" + span_of(it.began, status.time) + ")" : "";
+}
+function span_of(from, to) {
+  if (!from || !to) return "-";
+  const all = Math.max(0, Math.round((to - from) / 1000)), hours = Math.floor(all / 3600);
+  const two = (number) => String(number).padStart(2, "0");
+  return hours + ":" + two(Math.floor(all / 60) % 60) + ":" + two(all % 60);
+}
+// How fast a file goes, by its last ten seconds, and how long it still takes.
+function pace(it) {
+  const past = rates.get(it.id) || [], now = status.seconds;
+  if (it.octets === null) return "";
+  if (past.length === 0 || now > past[past.length - 1].second) {
+    past.push({ second: now, octets: it.octets });
+  }
+  while (past.length > PACE) past.shift();
+  rates.set(it.id, past);
+  const span = now - past[0].second, rate = span ? (it.octets - past[0].octets) / span : 0;
+  if (rate <= 0) return "";
+  const left = it.size === null ? "" : ", " + grouped(Math.ceil((it.size - it.octets) / rate))
+    + " s left";
+  return ", " + grouped(Math.round(rate)) + " octets/s" + left;
 }
 function adds_closed(all) {
   const body = at("closed");
@@ -542,16 +695,163 @@ function adds_closed(all) {
     shownClosed = it.number;
     const to = it.destination && it.destination !== it.source ? " \u2192 " + it.destination : "";
     const row = made("tr");
-    row.append(made("td", clock(it.time), "time"), made("td", it.id, "time"),
+    row.append(made("td", clock(it.time), "time"),
+      made("td", span_of(it.began, it.time), "num many"), id_cell(it.id),
       made("td", (it.source || "-") + to, "file"), made("td", grouped(it.size), "num many"),
-      made("td", it.complete ? (it.way === "sends" ? "sent" : "received") : "failed",
-        it.complete ? "good" : "bad"),
-      made("td", it.complete ? "" : it.why, "why"));
+      made("td", outcome(it), it.complete ? "good" : is_cancelled(it) ? "" : "bad"),
+      made("td", it.complete ? "" : it.condition + ": " + it.why, "why"));
     body.insertBefore(row, body.firstChild);
   }
   while (body.rows.length > CLOSED) body.deleteRow(-1);
+  filters_files();
   at("closed-box").hidden = body.rows.length === 0;
   at("no-closed").hidden = body.rows.length > 0;
+}
+
+function is_cancelled(it) { return it.condition === "CANCEL_REQUEST_RECEIVED"; }
+function outcome(it) {
+  if (it.complete) return it.way === "sends" ? "sent" : "received";
+  const way = it.way === "sends" ? "send " : "reception ";
+  return way + (is_cancelled(it) ? "cancelled" : "failed");
+}
+function words_of(row) {
+  const it = row.dataset;
+  return it.id ? it.id + " " + it.name + " " + row.className : row.textContent;
+}
+// Hides each transaction in whose line the filter's text isn't.
+function filters_files() {
+  const wanted = at("files-filter").value.toLowerCase();
+  for (const list of [at("open").children, at("closed").rows]) {
+    for (const row of list) row.hidden = !words_of(row).toLowerCase().includes(wanted);
+  }
+}
+
+// ---- one transaction
+const WAITS = { "eof-ack": "ACK of its EOF", nak: "data requested by NAKs",
+  "finished-ack": "ACK of its Finished", inactivity: "next PDU of the peer" };
+function wanted_one() {
+  const id = decodeURIComponent(location.hash.slice(1));
+  return /^[0-9]+:[0-9]+$/.test(id) ? id : null;
+}
+// Shows the page of the transaction that the address names, or all of them.
+function turns_page() {
+  const id = wanted_one(), is_new = at("one").dataset.id !== (id || "");
+  document.querySelector("main").classList.toggle("one", id !== null);
+  at("one").hidden = id === null;
+  at("one").dataset.id = id || "";
+  if (!is_new) return;
+  for (const name of ["timers", "rounds"]) at(name).tBodies[0].replaceChildren();
+  writes(at("one-title"), "Transaction " + (id || ""));
+  at("one-body").hidden = true;
+  at("one-none").hidden = true;
+  if (id) { at("one").focus(); renews(); } else draws();
+}
+async function takes_one() {
+  const id = wanted_one();
+  if (!id) return;
+  const answer = await asks("/transactions/" + id + "/details");
+  if (id !== wanted_one()) return;
+  at("one-none").hidden = answer.status !== 404;
+  at("one-body").hidden = !answer.ok;
+  if (answer.ok) shows_one(await answer.json());
+}
+function shows_one(it) {
+  const of = it.transaction, is_open = of.phase !== undefined;
+  const to = of.destination && of.destination !== of.source ? " \u2192 " + of.destination : "";
+  writes(at("one-title"), "Transaction " + of.id + ": " + (of.source || "name not yet known") + to);
+  shows_facts(facts_of(it, of, is_open));
+  shows_parts(it, of, is_open);
+  shows_rows("timers", it.timers || [], (row) => [WAITS[row.timer],
+    row.left === null ? "not armed" : grouped(row.left) + (row.left === 1 ? " unit" : " units"),
+    grouped(row.sent), grouped(row.limit)], ["", "num", "num", "num"]);
+  at("timers").hidden = !(it.timers || []).length;
+  at("no-timers").hidden = !at("timers").hidden;
+  const rounds = it.rounds ? it.rounds.last.slice().reverse() : [];
+  shows_rows("rounds", rounds, (row) => [grouped(row.number), clock(row.time), grouped(row.naks),
+    grouped(row.asked.octets), grouped(row.asked.count),
+    (row.metadata ? "Metadata " : "") + ranges_text(row.asked)],
+    ["num", "", "num many", "num many", "num many", ""]);
+  at("rounds-box").hidden = rounds.length === 0;
+  at("no-rounds").hidden = rounds.length > 0;
+}
+function facts_of(it, of, is_open) {
+  const again = it.sent_again, rounds = it.rounds;
+  const state = is_open ? of.phase + (of.suspended ? ", suspended" : "") : outcome(of);
+  return [["direction", of.way === "sends" ? "from here to the peer" : "from the peer to here"],
+    ["state", state + (is_open || of.complete ? "" : ", " + of.condition + ": " + of.why)],
+    ["began", clock(of.began)],
+    [is_open ? "open for" : "took", span_of(of.began, is_open ? status.time : of.time)],
+    ["octets of the file", grouped(of.size)],
+    [of.way === "sends" ? "sent up to" : "received up to", is_open ? grouped(of.octets) : "-"],
+    ["rounds of NAKs", rounds ? grouped(rounds.count) + ", NAKs " + grouped(rounds.naks) : "-"],
+    ["sent again", of.way === "sends" && again
+      ? grouped(again.octets) + " octets, " + grouped(again.pdus) + " PDUs" : "-"]];
+}
+function shows_facts(all) {
+  const list = at("one-facts");
+  all.forEach(([name, text], place) => {
+    const box = list.children[place] || list.appendChild(made("div"));
+    if (!box.children.length) box.append(made("dt"), made("dd"));
+    writes(box.children[0], name);
+    writes(box.children[1], text);
+  });
+}
+// Ranges in words: the end of each isn't in it.
+function ranges_text(ranges) {
+  const more = ranges.count > ranges.ranges.length ? " .." : "";
+  return ranges.ranges.map(([from, end]) => from + "-" + end).join(" ") + more;
+}
+function summary(word, ranges) {
+  const most = ranges.ranges.length;
+  const first = ranges.count > most ? ", the first " + most : "";
+  return word + ": " + grouped(ranges.octets) + " octets in " + grouped(ranges.count)
+    + (ranges.count === 1 ? " range" : " ranges") + first
+    + (ranges.count ? ": " + ranges_text(ranges) : "");
+}
+// The bar: what is held and missing, or what was sent and what the peer requested last.
+function shows_parts(it, of, is_open) {
+  const last = it.rounds && it.rounds.last[it.rounds.last.length - 1];
+  const is_held = it.held !== null && it.held !== undefined;
+  const asked = of.way === "sends" && is_open && last ? last.asked : null;
+  const missing = is_held ? it.missing : asked;
+  const held = is_held ? it.held.ranges : is_open && of.octets ? [[0, of.octets]]
+    : of.complete ? [[0, of.size]] : [];
+  const end = Math.max(1, of.size || 0, ...held.map((one) => one[1]));
+  const kind = of.way === "sends" ? "sent" : "held";
+  const bar = at("parts"), rects = [...held.map((one) => [kind, one]),
+    ...(missing ? missing.ranges : []).map((one) => ["missing", one]),
+    ...(is_held ? beyond(it, of.octets) : []).map((one) => ["more", one])];
+  bar.replaceChildren(...rects.map(([name, [from, to]]) => {
+    const rect = document.createElementNS("http://www.w3.org/2000/svg", "rect");
+    for (const [key, value] of Object.entries({ class: name, x: from / end * 1000,
+      width: Math.max(1, (to - from) / end * 1000), height: 10 })) rect.setAttribute(key, value);
+    return rect;
+  }));
+  writes(at("parts-title"), of.way === "sends" ? "What of the file was sent, and requested again"
+    : "What of the file is here, and what is missing");
+  writes(at("one-held"), is_held ? summary("held", it.held) : "");
+  writes(at("one-missing"), missing ? summary(is_held ? "missing" : "requested last", missing)
+    + (it.lacks_metadata ? "; Metadata" : "") : "");
+}
+// What lies behind the ranges that are told: held or missing, which isn't known.
+function beyond(it, octets) {
+  const last = (ranges) => ranges.count > ranges.ranges.length
+    ? ranges.ranges[ranges.ranges.length - 1][1] : octets;
+  const from = Math.min(last(it.held), last(it.missing));
+  return from < octets ? [[from, octets]] : [];
+}
+// Fills a table in place, so that what its user looks at stays.
+function shows_rows(id, all, cells, kinds) {
+  const body = at(id).tBodies[0];
+  while (body.rows.length > all.length) body.deleteRow(-1);
+  all.forEach((it, place) => {
+    const row = body.rows[place] || body.insertRow();
+    cells(it).forEach((text, column) => {
+      const cell = row.cells[column] || row.insertCell();
+      cell.className = kinds[column];
+      writes(cell, text);
+    });
+  });
 }
 
 // ---- the log
@@ -584,6 +884,7 @@ async function takes_all() {
     const answer = await asks("/status");
     if (!answer.ok) throw new Error("status " + answer.status);
     status = await answer.json();
+    answeredAt = performance.now();
     shows_token(false);
     if (is_anew()) await starts_anew();
     notes_sample();
@@ -594,13 +895,22 @@ async function takes_all() {
     shows_open(transactions.open);
     adds_closed(transactions.closed);
     adds_lines(log.lines);
+    await takes_one();
     // An answer has not all lines at once: the rest is asked for soon.
     if (shownClosed < status.closed || shownLine < status.lines) setTimeout(renews, 100);
   } catch (error) {
     at("state").className = "pill is-gone";
     writes(at("state"), isAsking ? "token required" : "no answer");
+    writes(at("heard"), "");
   }
   draws();
+}
+// What was shown last is no longer so: the station hasn't answered for three seconds.
+function looks_at_age() {
+  if (!status || isAsking || performance.now() - answeredAt < STALE) return;
+  at("state").className = "pill is-gone";
+  writes(at("state"), "no answer");
+  writes(at("heard"), "");
 }
 async function begins() {
   try { await takes_token(); }
@@ -608,6 +918,7 @@ async function begins() {
   await takes_history();
   await renews();
   setInterval(renews, 1000);
+  setInterval(looks_at_age, 500);
 }
 async function takes_history() {
   try {
@@ -620,6 +931,20 @@ async function takes_history() {
 }
 
 // ---- what the user does
+async function lists_files() {
+  try {
+    const answer = await asks("/files");
+    if (!answer.ok) return;
+    const names = (await answer.json()).files;
+    at("files").replaceChildren(...names.map((name) => {
+      const it = made("option");
+      it.value = name;
+      return it;
+    }));
+  } catch (error) { /* none is offered then */ }
+}
+at("source").addEventListener("focus", lists_files);
+at("files-filter").addEventListener("input", filters_files);
 at("put").addEventListener("submit", async (event) => {
   event.preventDefault();
   const source = at("source").value.trim(), destination = at("destination").value.trim();
@@ -665,11 +990,14 @@ document.addEventListener("keydown", (event) => {
   if (event.key === "Escape") { event.target.blur(); return; }
   if (is_typing) return;
   const doings = { p: () => at("source").focus(), f: () => at("freeze").click(),
-    d: () => at("form").click(), "/": () => at("filter").focus() };
+    d: () => at("form").click(), "/": () => at("filter").focus(),
+    t: () => at("files-filter").focus() };
   if (doings[event.key]) { event.preventDefault(); doings[event.key](); }
 });
 addEventListener("resize", draws);
+addEventListener("hashchange", turns_page);
 takes_form();
+turns_page();
 begins();
 </script>
 </body>

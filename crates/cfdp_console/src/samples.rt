@@ -32,7 +32,7 @@ impl FrameCounts {
     }
 }
 
-/// What passed in the last ten minutes, second by second. Where there is no memory for a second, it
+/// What passed in the last ten minutes, second by second. If there is no memory for a second, it
 /// is left out.
 #[derive(Drop)]
 pub struct Samples {
@@ -42,7 +42,7 @@ pub struct Samples {
 }
 
 impl Samples {
-    /// Before the first second.
+    /// Returns a list of no seconds, before the first one.
     pub fn new(alloc: Global) -> Samples {
         Samples {
             each: VecDeque::new(alloc),
@@ -51,17 +51,17 @@ impl Samples {
         }
     }
 
-    /// What passed in each second, the oldest first.
+    /// Returns what passed in each second, the oldest first.
     pub fn each(&self) -> &VecDeque<FrameCounts> {
         &self.each
     }
 
-    /// The second since the start that was noted last.
+    /// Returns the second since the start that was noted last.
     pub fn second(&self) -> u64 {
         self.second
     }
 
-    /// Notes what was counted up to this second since the start. Where seconds were left out, what
+    /// Notes what was counted up to this second since the start. If seconds were left out, what
     /// passed in them counts for the last one.
     pub fn notes(&mut self, second: u64, counted: FrameCounts) {
         if second <= self.second {

@@ -2,8 +2,9 @@
 use Rattle.std.proofs.Common.{◌≡◌, ℕ, List, [], ◌∷◌, true, false, refl, Some, None}
 use Rattle.std.specs.Prelude.{codes}
 use Rattle.cfdp_entity.specs.declared.request.Request.TheVariants as request
+use Rattle.percent_encoding.specs.Percent.{percent_decode}
 use Rattle.cfdp_report.specs.Words.{onto_first, parts}
-use Rattle.cfdp_control.specs.Asking.{Sends, Changes, Stops, StopsNow, Freezes, Lists, Rekeys, asked_by}
+use Rattle.cfdp_control.specs.Asking.{Sends, Changes, Stops, StopsNow, Freezes, Lists, Rekeys, asked_by, named_by}
 
 put : asked_by (codes "put a.txt b.txt") ≡ Some (Sends false (codes "a.txt") (codes "b.txt"))
 unfolding parts onto_first
@@ -13,7 +14,12 @@ put_first : asked_by (codes "put --first a b") ≡ Some (Sends true (codes "a") 
 unfolding parts onto_first
 put_first = refl
 
--- The file `--first` itself is named behind the option.
+-- A space is written as the report prints it; a `%` without two digits after it stands for itself.
+spelled : named_by (codes "a%20b%%3D%2") ≡ codes "a b%=%2"
+unfolding percent_decode
+spelled = refl
+
+-- The file `--first` itself is named after the option.
 named_first : asked_by (codes "put --first --first b") ≡ Some (Sends true (codes "--first") (codes "b"))
 unfolding parts onto_first
 named_first = refl

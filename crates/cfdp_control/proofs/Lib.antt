@@ -1,1 +1,2 @@
 mod AskingRows
+mod NamesRead

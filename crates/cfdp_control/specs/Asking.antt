@@ -1,5 +1,6 @@
 -- What a line asks of a station that runs.
 use Rattle.std.specs.Prelude.{◌≡◌, ℕ, Bool, true, false, List, codes, if◌then◌else◌, Option, Some, None, is_some, option_map, option_and_then, Result, Ok, Err, ⊤}
+use Rattle.percent_encoding.specs.Percent.{percent_decode}
 use Rattle.cfdp_header.specs.declared.value.TransactionId.{TransactionId}
 use Rattle.cfdp_entity.specs.declared.request.Request.{Request}
 use Rattle.cfdp_entity.specs.declared.request.Request.TheVariants as request
@@ -45,6 +46,11 @@ wanted asked.Counters = Counts
 wanted asked.Rekey = Rekeys
 wanted asked.Help = Helps
 
+-- The name that a word stands for, if it is a name as it is printed: an octet for each `%` with two
+-- hexadecimal digits after it, and all other octets as they are.
+abbrev pub named_by : List ℕ → List ℕ
+named_by word = percent_decode word
+
 -- ---- the first word
 
 abbrev pub verb_of : List ℕ → Option Verb
@@ -63,7 +69,7 @@ verb_of word =
     else if is word (codes "help") then Some verb.Help
     else None
 
--- ---- what the words behind it ask
+-- ---- what the words after it ask
 
 -- `put SRC DST`, `put --first SRC DST`
 abbrev pub put_of : List (List ℕ) → Option Wanted
@@ -89,7 +95,7 @@ stop_of words = if is_some (nothing_of words) then Some Stops
     else option_and_then (λ word. if is word (codes "now") then Some StopsNow else None)
     (one_of words)
 
--- a command without words behind it
+-- a command without words after it
 abbrev pub alone : Wanted → List (List ℕ) → Option Wanted
 alone it words = option_map (λ _. it) (nothing_of words)
 
@@ -112,7 +118,7 @@ abbrev pub asked_by : List ℕ → Option Wanted
 asked_by line = option_and_then (λ w. option_and_then (λ first. rest_of first w.1) (verb_of w.0))
     (next_word (words_of line))
 
--- ---- what was read is what this asks; where there was no memory nothing is said
+-- ---- what was read is what this asks; if there was no memory nothing is said
 
 abbrev pub Reads : Result Asked CommandError → Option Wanted → Type 0
 Reads (Ok it) meant = meant ≡ Some (wanted it)

@@ -1,8 +1,10 @@
 //! Why the system refused an address, in the words of an operator.
+ghost use Rattle.std.specs.Prelude.{◌≡◌, ◌⊎◌, ◌↔◌, IsTrue};
+
 use cfdp_report::cause_text;
 use std::io::ErrorKind;
 
-/// Why an address can't be used that was said on a command line.
+/// Returns why an address can't be used that was said on a command line.
 pub fn address_cause(kind: ErrorKind) -> &'static str {
     match kind {
         ErrorKind::InvalidInput | ErrorKind::InvalidData => {
@@ -13,4 +15,12 @@ pub fn address_cause(kind: ErrorKind) -> &'static str {
         }
         kind => cause_text(kind),
     }
+}
+
+/// Returns `true` if the system refused an address because no address is written so: a mistake of
+/// whoever gave it, which stays one however often it is tried.
+pub fn is_malformed(kind: ErrorKind) -> bool
+    ensures { IsTrue result ↔ ((kind ≡ ErrorKind.InvalidInput) ⊎ (kind ≡ ErrorKind.InvalidData)) }
+{
+    kind == ErrorKind::InvalidInput || kind == ErrorKind::InvalidData
 }

@@ -1,14 +1,16 @@
 //! The lines by which an operator commands a station that runs.
-ghost use Rattle.std.specs.Prelude.{◌≡◌, List, ℕ, IfOk, option_map};
+ghost use Rattle.std.specs.Prelude.{◌≡◌, ◌++◌, List, ℕ, IfOk, IsTrue, codes, not, option_map};
 ghost use Rattle.std.specs.Result.{result_ok};
 ghost use Rattle.std.specs.Str.{IsTrimAsciiEnd};
 ghost use Rattle.cfdp_report.specs.Words.{left};
-ghost use Rattle.cfdp_control.specs.Asking.{Reads, ReadsRest, Sends, asked_by, change_of, prompt_of};
+ghost use Rattle.cfdp_control.specs.Asking.{Reads, ReadsRest, Sends};
+ghost use Rattle.cfdp_control.specs.Asking.{asked_by, change_of, named_by, prompt_of};
 ghost use Rattle.cfdp_control.specs.Asking.{alone, put_of, rest_of, stop_of, verb_of, wanted};
 
 use cfdp_report::{LineError, Unread, Words, parse_asked, parse_id};
 use cfdp_service::{Command, PutNames};
 use cfdp_station::Request;
+use percent_encoding::percent_decode;
 use std::alloc::{AllocError, Global};
 use std::fmt;
 use strsim::levenshtein;
@@ -50,7 +52,7 @@ pub enum Verb {
 }
 
 impl Verb {
-    /// All of them, in the order in which they are told.
+    /// All of them, in the order in which they are printed.
     pub const ALL: [Verb; 12] = [
         Verb::Put,
         Verb::Cancel,
@@ -66,7 +68,7 @@ impl Verb {
         Verb::Help,
     ];
 
-    /// The word itself.
+    /// Returns the word itself.
     pub fn word(self) -> &'static str {
         match self {
             Verb::Put => "put",
@@ -84,7 +86,7 @@ impl Verb {
         }
     }
 
-    /// The whole command, with words in capitals for what the operator says.
+    /// Returns the whole command, with words in capitals for what the operator says.
     pub fn form(self) -> &'static str {
         match self {
             Verb::Put => "put [--first] SRC DST",
@@ -98,7 +100,7 @@ impl Verb {
         }
     }
 
-    /// What it does.
+    /// Returns what the command does, in words.
     pub fn meaning(self) -> &'static str {
         match self {
             Verb::Put => "send the file SRC as DST; --first: before waiting files",
@@ -136,7 +138,7 @@ impl fmt::Display for CommandHelp {
 pub enum CommandError {
     /// Its first word isn't one of a command. The command whose word is most like it, if one is.
     Unknown(Option<Verb>),
-    /// The words behind the first one of this command are wrong.
+    /// The words after the first one of this command are wrong.
     Malformed(Verb, LineError),
     /// There is no memory for what it says.
     NoMemory,
@@ -173,13 +175,52 @@ fn write_words<W: fmt::Write>(f: &mut fmt::Formatter<W>) -> fmt::Result {
     Ok(())
 }
 
+/// Returns the names that two words stand for, if each is a name as it is printed: `%` and two
+/// hexadecimal digits stand for an octet, and any other octet for itself, as does a `%` without two
+/// digits after it.
+///
+/// # Errors
+///
+/// `AllocError` if there is no memory for them.
+pub fn printed_names(alloc: Global, words: &PutNames) -> Result<PutNames, AllocError>
+    ensures source { IfOk result (λ names. names.source.items
+        ≡ named_by words.now.source.items) }
+    ensures destination { IfOk result (λ names. names.destination.items
+        ≡ named_by words.now.destination.items) }
+{
+    Ok(PutNames {
+        source: printed_name(alloc, words.source.as_slice())?,
+        destination: printed_name(alloc, words.destination.as_slice())?,
+    })
+}
+
+/// Returns the name that a word stands for.
+fn printed_name(alloc: Global, word: &[u8]) -> Result<Vec<u8>, AllocError>
+    ensures { IfOk result (λ name. name.items ≡ named_by word.now) }
+{
+    let mut name = Vec::new(alloc);
+    percent_decode(word).append_to(&mut name)?;
+    Ok(name)
+}
+
+/// Returns whether a line asks for an answer in JSON, and the command without that word.
+pub fn split_form(line: &[u8]) -> (bool, &[u8])
+    ensures json { IsTrue result.0 → line.now ≡ codes "--json " ++ result.1.now }
+    ensures text { IsTrue (not result.0) → line.now ≡ result.1.now }
+{
+    match line.strip_prefix(b"--json ".as_slice()) {
+        Some(command) => (true, command),
+        None => (false, line),
+    }
+}
+
 /// Reads a line, without its line feed, as a command: words with one space between. White space at
 /// its end doesn't count, so that it may end with a carriage return.
 ///
 /// # Errors
 ///
-/// `Unknown` where its first word isn't that of a command, also where there is none; `Malformed`
-/// where other words are wrong; `NoMemory` where there is none for its names.
+/// `Unknown` if its first word isn't that of a command, also if there is none; `Malformed`
+/// if other words are wrong; `NoMemory` if there is none for its names.
 pub fn parse_command(alloc: Global, line: &[u8]) -> Result<Asked, CommandError>
     ensures { (kept : List ℕ) × IsTrimAsciiEnd line.now kept × Reads result (asked_by kept) }
 {
@@ -334,7 +375,7 @@ fn unknown(alloc: Global, word: &[u8]) -> CommandError {
     }
 }
 
-/// The command whose word is most like this one, where at most two letters differ.
+/// The command whose word is most like this one, if at most two letters differ.
 fn nearest(alloc: Global, word: &[u8]) -> Result<Option<Verb>, AllocError> {
     let Ok(word) = str::from_utf8(word) else {
         return Ok(None);

@@ -1,11 +1,11 @@
 //! A connection over which lines come and are answered.
 use crate::line::{LineFault, text_of};
 use crate::line_buffer::LineBuffer;
+use crate::stream::Stream;
 use libc::net::{POLLIN, POLLOUT};
 use std::alloc::Global;
 use std::io::{ErrorKind, Read, Write};
-use std::net::{Shutdown, TcpStream};
-use std::os::fd::{AsRawFd, RawFd};
+use std::os::fd::RawFd;
 
 /// The octets that are read at once, at most.
 const MOST_READ: usize = 4096;
@@ -22,7 +22,7 @@ const IDLE: u64 = 600_000;
 /// After so many milliseconds in which nothing of its answers left, a connection is dropped.
 const STUCK: u64 = 30_000;
 
-/// For so many milliseconds what comes behind the last answer is thrown away, at most.
+/// For so many milliseconds what comes after the last answer is discarded, at most.
 const LEAVING: u64 = 2_000;
 
 /// How far a connection is.
@@ -32,7 +32,8 @@ enum Stage {
     Open,
     /// No more is read. It is left once all that came is answered.
     Ending,
-    /// All is answered, and it was told that nothing more comes. What comes is thrown away: where
+    /// All is answered, and its other end knows that nothing more comes. What comes is discarded:
+    /// if
     /// something lay in a socket that is closed, the answer would be lost at its other end.
     Leaving,
     /// It is over.
@@ -43,10 +44,10 @@ enum Stage {
 #[derive(Drop)]
 pub struct Connection {
     number: u64,
-    stream: TcpStream,
+    stream: Stream,
     lines: LineBuffer,
     stage: Stage,
-    // What is to be sent, and how many lines were taken that aren't answered yet.
+    // What must be sent, and how many lines were taken that aren't answered yet.
     answers: Vec<u8>,
     owed: u64,
     // When something came or left last, and when it came or was answered last, in milliseconds.
@@ -55,8 +56,8 @@ pub struct Connection {
 }
 
 impl Connection {
-    /// A connection of this number, that came at this time. The stream doesn't wait.
-    pub fn new(alloc: Global, number: u64, stream: TcpStream, now: u64) -> Connection {
+    /// Returns a connection of this number that came at this time. The stream doesn't wait.
+    pub fn new(alloc: Global, number: u64, stream: Stream, now: u64) -> Connection {
         Connection {
             number,
             stream,
@@ -69,23 +70,23 @@ impl Connection {
         }
     }
 
-    /// The number by which it is known.
+    /// Returns the number by which it is known.
     pub fn number(&self) -> u64 {
         self.number
     }
 
-    /// Whether it may still send lines.
+    /// Returns `true` if it may still send lines.
     pub fn is_open(&self) -> bool {
         self.stage == Stage::Open
     }
 
-    /// Whether it is over.
+    /// Returns `true` if it is over.
     pub fn is_gone(&self) -> bool {
         self.stage == Stage::Gone
     }
 
-    /// Since when it sends no whole line, or takes nothing of its answers, in milliseconds; `None`
-    /// where it may send no line any more, or is owed an answer.
+    /// Returns since when it sends no whole line, or takes nothing of its answers, in milliseconds;
+    /// `None` if it may send no line any more, or an answer is due.
     pub fn idle_since(&self) -> Option<u64> {
         if !self.is_open() || self.owed > 0 {
             None
@@ -98,7 +99,7 @@ impl Connection {
         }
     }
 
-    /// Its descriptor, and the events to wait for: none where it waits for an answer.
+    /// Returns its descriptor, and the events to wait for: none if it waits for an answer.
     pub fn watched(&self) -> (RawFd, i16) {
         let reads = match self.stage {
             Stage::Open => !self.lines.has_line(),
@@ -107,10 +108,10 @@ impl Connection {
         };
         let reading = if reads { POLLIN } else { 0 };
         let sending = if self.answers.is_empty() { 0 } else { POLLOUT };
-        (self.stream.as_raw_fd(), reading | sending)
+        (self.stream.fd(), reading | sending)
     }
 
-    /// Whether a line may be taken: one lies here, and its answers aren't left to wait.
+    /// Returns `true` if a line may be taken: one lies here, and its answers aren't left to wait.
     pub fn has_line(&self) -> bool {
         let is_whole = self.lines.has_line()
             || self.stage == Stage::Ending && !self.lines.is_empty();
@@ -158,12 +159,12 @@ impl Connection {
         }
     }
 
-    /// Ends at once behind this line, if there is room for it.
+    /// Ends at once after this line, if there is room for it.
     pub fn gives_way(&mut self, why: &str) {
         if self.answers.is_empty() {
             let _ = self.stream.write(why.as_bytes());
         }
-        let _ = self.stream.shutdown(Shutdown::Write);
+        let _ = self.stream.shuts();
         self.stage = Stage::Gone;
     }
 
@@ -172,7 +173,7 @@ impl Connection {
         self.stage = Stage::Gone;
     }
 
-    /// Does what can be done now: sends and reads, where something is to be had, and ends where it
+    /// Does what can be done now: sends and reads, if something is there, and ends if it
     /// is over.
     pub fn attend(&mut self, now: u64, is_stirred: bool) {
         if is_stirred {
@@ -203,7 +204,7 @@ impl Connection {
         }
     }
 
-    /// Reads what came, where no line waits.
+    /// Reads what came, if no line waits.
     fn reads(&mut self, now: u64) {
         if self.lines.has_line() {
             return;
@@ -222,7 +223,7 @@ impl Connection {
         }
     }
 
-    /// Throws away what came, until its other end is closed.
+    /// Discards what came, until its other end is closed.
     fn throws_away(&mut self) {
         let mut buffer = [0u8; MOST_READ];
         match self.stream.read(&mut buffer) {
@@ -239,7 +240,7 @@ impl Connection {
         }
     }
 
-    /// Goes on to the next stage, where it is time for that.
+    /// Goes on to the next stage, if it is time for that.
     fn ends(&mut self, now: u64) {
         let rests = now.saturating_sub(self.moved_at);
         let is_answered = self.answers.is_empty() && self.owed == 0;
@@ -254,10 +255,10 @@ impl Connection {
         }
     }
 
-    /// Tells its other end that nothing more comes.
+    /// Notifies its other end that nothing more comes.
     fn leaves(&mut self, now: u64) {
         self.moved_at = now;
-        self.stage = match self.stream.shutdown(Shutdown::Write) {
+        self.stage = match self.stream.shuts() {
             Ok(()) => Stage::Leaving,
             Err(_) => Stage::Gone,
         };

@@ -2,7 +2,7 @@
 use crate::line_buffer::Taken;
 use std::fmt;
 
-/// Who sent a line, and is to hear the answer.
+/// Who sent a line, and must get the answer.
 #[derive(Clone, Copy, PartialEq, Eq)]
 pub enum Speaker {
     /// Whoever writes to standard input.
@@ -44,11 +44,11 @@ impl fmt::Display for LineFault {
 /// What a line has that a web client sends first.
 const WEB: &str = " HTTP/1.";
 
-/// What was taken of a source, as the text of a line.
+/// Returns what was taken of a source, as the text of a line.
 ///
 /// # Errors
 ///
-/// The `LineFault` where it is none.
+/// The `LineFault` if it is none.
 pub(crate) fn text_of(taken: Taken) -> Result<String, LineFault> {
     let octets = match taken {
         Taken::Line(octets) => octets,

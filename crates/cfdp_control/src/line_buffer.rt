@@ -18,7 +18,7 @@ const MOST_KEPT: usize = MOST_LINE + 1;
 pub enum Taken {
     /// A line, without its line feed.
     Line(Vec<u8>),
-    /// The beginning of a line that is too long: it is let go, and so is its rest as it comes.
+    /// The beginning of a line that is too long: it is dropped, and so is its rest as it comes.
     TooLong,
 }
 
@@ -33,7 +33,7 @@ pub struct LineBuffer {
 }
 
 impl LineBuffer {
-    /// Nothing has come.
+    /// Returns an empty buffer.
     pub fn new(alloc: Global) -> LineBuffer {
         LineBuffer {
             alloc,
@@ -42,21 +42,21 @@ impl LineBuffer {
         }
     }
 
-    /// For how many octets there is room, until lines are taken.
+    /// Returns for how many octets there is room, until lines are taken.
     pub fn room(&self) -> usize
         ensures { result + vec_len self.now.octets ≡ 4097 }
     {
         MOST_KEPT - self.octets.len()
     }
 
-    /// Whether nothing lies here that wasn't taken.
+    /// Returns `true` if nothing lies here that wasn't taken.
     pub fn is_empty(&self) -> bool
         ensures { result ≡ (vec_len self.now.octets == 0) }
     {
         self.octets.is_empty()
     }
 
-    /// Whether something may be taken: a whole line, or one that is too long.
+    /// Returns `true` if something may be taken: a whole line, or one that is too long.
     pub fn has_line(&self) -> bool {
         self.octets.len() > MOST_LINE || self.octets.as_slice().contains(&b'\n')
     }
@@ -65,7 +65,7 @@ impl LineBuffer {
     ///
     /// # Errors
     ///
-    /// `AllocError` where there is no memory for them.
+    /// `AllocError` if there is no memory for them.
     pub fn add(&mut self, octets: &[u8]) -> Result<(), AllocError>
         requires { vec_len self.old.octets + length octets.now ≤ 4097 }
         ensures kept { OnOk result (self.old.is_skipping ≡ false →
@@ -82,11 +82,11 @@ impl LineBuffer {
         Ok(())
     }
 
-    /// Takes the next line; `None` where none is whole.
+    /// Takes the next line; `None` if none is whole.
     ///
     /// # Errors
     ///
-    /// `AllocError` where there is no memory for it: nothing was taken.
+    /// `AllocError` if there is no memory for it: nothing was taken.
     pub fn take(&mut self) -> Result<Option<Taken>, AllocError>
         ensures taken { IfOk result (λ taken. Takes self.old.octets.items taken
             self.new.octets.items) }
@@ -106,7 +106,7 @@ impl LineBuffer {
         Ok(Some(Taken::TooLong))
     }
 
-    /// Lets go of what lies here.
+    /// Drops what lies here.
     pub fn clear(&mut self)
         ensures { vec_len self.new.octets ≡ 0 }
     {

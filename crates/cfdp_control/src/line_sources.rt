@@ -1,39 +1,40 @@
 //! Where commands come from: lines, and the console.
-use crate::cause::address_cause;
+use crate::cause::{address_cause, is_malformed};
 use crate::connection::Connection;
 use crate::line::{LineFault, Speaker};
 use crate::standard_input::StandardInput;
+use crate::stream::{Listener, Stream, socket_path, unix_listener};
 use crate::web_door::WebDoor;
 use cfdp_console::{Answer, Ask};
 use cfdp_exchange::Watched;
+use cfdp_report::cause_text;
 use libc::net::POLLIN;
 use std::alloc::AllocError;
 use std::io::ErrorKind;
-use std::net::{SocketAddr, TcpListener, TcpStream, ToSocketAddrs};
-use std::os::fd::AsRawFd;
+use std::net::{SocketAddr, TcpListener, ToSocketAddrs};
 use std::time::Instant;
 use std::{fmt, io};
 
 /// The most connections that may send lines.
 const MOST_OPEN: usize = 8;
 
-/// The most connections, with those that are only told that there are enough, or that end.
+/// The most connections, with those that are only answered that there are enough, or that end.
 const MOST_CONNECTIONS: usize = 12;
 
 /// The most lines that are taken in a row, so that whoever takes them does something else between.
 const MOST_LINES: u32 = 16;
 
-/// For so many milliseconds no connection is taken after the system refused one, as where it has
+/// For so many milliseconds no connection is taken after the system refused one, as if it has
 /// no more descriptors.
 const AFTER_FAILURE: u64 = 1_000;
 
 /// A connection that has sent no whole line for so many milliseconds gives way to another one.
 const IDLE: u64 = 1_000;
 
-/// What a connection is told that is one too many, where none is idle.
+/// What a connection is answered that is one too many, if none is idle.
 const TOO_MANY: &str = "error: too many connections: 8 are open\n\n";
 
-/// What a connection is told that gives way.
+/// What a connection is answered that gives way.
 const GIVES_WAY: &str =
     "error: closed: of 8 connections this one was idle the longest, and a new one arrived\n\n";
 
@@ -42,8 +43,20 @@ const GIVES_WAY: &str =
 pub enum ControlError {
     /// Others than this machine could reach it, and whoever reaches it commands the station.
     NotLoopback,
+    /// No Unix socket can be had at the path.
+    Socket(io::Error),
     /// Something stands against it, as that it is in use.
     System(io::Error),
+}
+
+impl ControlError {
+    /// Returns `true` if no address is written so: it is a mistake of whoever gave it.
+    pub fn is_mistake(&self) -> bool {
+        match self {
+            ControlError::NotLoopback | ControlError::Socket(_) => false,
+            ControlError::System(error) => is_malformed(error.kind()),
+        }
+    }
 }
 
 impl From<io::Error> for ControlError {
@@ -66,6 +79,7 @@ impl fmt::Display for ControlError {
                 "must be an address of this machine alone, 127.0.0.1 or [::1], since whoever \
                  reaches it commands the station",
             ),
+            ControlError::Socket(error) => f.write_str(cause_text(error.kind())),
             ControlError::System(error) => f.write_str(address_cause(error.kind())),
         }
     }
@@ -78,7 +92,7 @@ pub struct LineSources<'a> {
     rt: &'a HostRuntime,
     start: Option<Instant>,
     standard: Option<StandardInput>,
-    listener: Option<TcpListener>,
+    listener: Option<Listener>,
     connections: Vec<Connection>,
     door: Option<WebDoor<'a>>,
     // How many connections there were so far, and until when none is taken.
@@ -90,14 +104,13 @@ pub struct LineSources<'a> {
 }
 
 impl<'a> LineSources<'a> {
-    /// The sources: standard input where it is asked for, a control address where one is given, and
-    /// a console where there is one.
-    /// It is to be asked for before other files are opened: a process that was given no standard
-    /// input has none then.
+    /// Opens the sources: standard input if it is asked for, a control address if one is given, and
+    /// a console if there is one. It must be called before other files are opened: a process that
+    /// was given no standard input has none then.
     ///
     /// # Errors
     ///
-    /// `ControlError` where the control address can't be had.
+    /// `ControlError` if the control address can't be had.
     pub fn new(
         rt: &'a HostRuntime,
         is_standard: bool,
@@ -124,21 +137,21 @@ impl<'a> LineSources<'a> {
         })
     }
 
-    /// The control address, with its port; `None` where there is none.
+    /// Returns the control address, with its port; `None` if there is none, or it is a Unix socket.
     pub fn control_address(&self) -> Option<SocketAddr> {
         match &self.listener {
-            Some(listener) => listener.local_addr().ok(),
+            Some(listener) => listener.tcp_address(),
             None => None,
         }
     }
 
-    /// The console, where there is one.
+    /// Returns the console, if there is one.
     pub fn door(&self) -> Option<&WebDoor<'a>> {
         self.door.as_ref()
     }
 
-    /// What the console is asked next, and by whom: it is to be answered. Behind one it is `None`
-    /// for two milliseconds, so that whoever asks does something else between.
+    /// Takes what the console is asked next, and by whom: it must be answered. After one it is
+    /// `None` for two milliseconds, so that whoever asks does something else between.
     pub fn next_ask(&mut self) -> Option<(Speaker, Ask)> {
         let now = self.now();
         let (number, ask) = self.door.as_mut()?.next_ask(now)?;
@@ -155,8 +168,8 @@ impl<'a> LineSources<'a> {
         }
     }
 
-    /// The next line, without its line feed, and who sent it: it is to be answered, also where it
-    /// is none. Lines are taken in turn from all that send some. After 16 lines in a row, and where
+    /// Takes the next line, without its line feed, and who sent it: it must be answered, also if it
+    /// is none. Lines are taken in turn from all that send some. After 16 lines in a row, and if
     /// none is there, it is `None`: whoever takes lines until then does something else between.
     pub fn next_line(&mut self) -> Option<(Speaker, Result<String, LineFault>)> {
         if self.taken == 0 {
@@ -174,8 +187,8 @@ impl<'a> LineSources<'a> {
         next
     }
 
-    /// Answers a line that was taken: with these lines, and `ok` behind them. For standard input it
-    /// gives back what the caller is to write to standard output.
+    /// Answers a line that was taken: with these lines, and `ok` after them. For standard input it
+    /// gives back what the caller must write to standard output.
     ///
     /// Each of the lines has its line feed, none of them is empty, and the first doesn't begin with
     /// `error: `.
@@ -189,7 +202,7 @@ impl<'a> LineSources<'a> {
     }
 
     /// Answers a line that was taken: with why nothing was done, in one line, without its end. For
-    /// standard input it gives back what the caller is to write to standard output.
+    /// standard input it gives back what the caller must write to standard output.
     pub fn refused<D: fmt::Display>(&mut self, to: Speaker, why: &D) -> Option<String> {
         let alloc = self.rt.alloc();
         if let Speaker::Web(number) = to {
@@ -209,7 +222,7 @@ impl<'a> LineSources<'a> {
         }
     }
 
-    /// Sends an answer, with an empty line behind it, to a connection; gives back that to standard
+    /// Sends an answer, with an empty line after it, to a connection; gives back that to standard
     /// input. To a connection that has gone nothing is said. One for which there is no memory goes.
     fn answered(&mut self, to: Speaker, text: Result<String, AllocError>) -> Option<String> {
         let number = match to {
@@ -232,8 +245,8 @@ impl<'a> LineSources<'a> {
         None
     }
 
-    /// What a wait is to look at, so that it ends once a line may have come. It stays so until the
-    /// next line is asked for.
+    /// Returns what a wait must look at, so that it ends once a line may have come. It stays so
+    /// until the next line is asked for.
     pub fn watched(&self) -> Watched {
         let mut watched = self.watched_lines();
         if let Some(door) = &self.door {
@@ -242,7 +255,7 @@ impl<'a> LineSources<'a> {
         watched
     }
 
-    /// The same for lines alone.
+    /// Returns what a wait for lines alone must look at.
     fn watched_lines(&self) -> Watched {
         let mut watched = Watched::nothing();
         if let Some(standard) = &self.standard {
@@ -253,7 +266,7 @@ impl<'a> LineSources<'a> {
         if let Some(listener) = &self.listener
             && self.hears(self.now())
         {
-            watched.watch(listener.as_raw_fd(), POLLIN);
+            watched.watch(listener.fd(), POLLIN);
         }
         for connection in self.connections.iter() {
             let (fd, events) = connection.watched();
@@ -263,7 +276,7 @@ impl<'a> LineSources<'a> {
         watched
     }
 
-    /// The milliseconds since the start; 0 where the clock can't be read.
+    /// Returns the milliseconds since the start; 0 if the clock can't be read.
     pub fn now(&self) -> u64 {
         match &self.start {
             Some(start) => match start.elapsed(self.rt) {
@@ -312,7 +325,7 @@ impl<'a> LineSources<'a> {
             return;
         }
         match listener.accept() {
-            Ok((stream, _)) => self.takes_in(stream, now),
+            Ok(stream) => self.takes_in(stream, now),
             Err(error) => {
                 if !is_passing(error.kind()) {
                     self.deaf_until = now.saturating_add(AFTER_FAILURE);
@@ -321,13 +334,12 @@ impl<'a> LineSources<'a> {
         }
     }
 
-    /// Has one more connection. Where eight may send lines already, the one of them that is idle
-    /// the longest is told so, and closed; where none is idle for a second, the new one is.
-    fn takes_in(&mut self, stream: TcpStream, now: u64) {
-        if stream.set_nonblocking(true).is_err() {
+    /// Has one more connection. If eight may send lines already, the one of them that is idle the
+    /// longest is closed, with a line that says so; if none is idle for a second, the new one is.
+    fn takes_in(&mut self, stream: Stream, now: u64) {
+        if stream.never_waits().is_err() {
             return;
         }
-        let _ = stream.set_nodelay(true);
         self.numbered = self.numbered.saturating_add(1);
         let mut connection = Connection::new(self.rt.alloc(), self.numbered, stream, now);
         if self.open_count() >= MOST_OPEN && !self.closes_idle(now) {
@@ -401,7 +413,7 @@ fn longest_idle(since: &[Option<u64>], latest: u64) -> Option<usize> {
     found
 }
 
-/// Whether a connection that wasn't taken for this cause says nothing of the next one.
+/// Returns `true` if a connection that wasn't taken for this cause says nothing of the next one.
 pub(crate) fn is_passing(kind: ErrorKind) -> bool {
     matches!(
         kind,
@@ -409,8 +421,11 @@ pub(crate) fn is_passing(kind: ErrorKind) -> bool {
     )
 }
 
-/// What takes connections at an address of this machine alone.
-fn listener(rt: &HostRuntime, address: &str) -> Result<TcpListener, ControlError> {
+/// What takes connections at an address of this machine alone, or at a Unix socket.
+fn listener(rt: &HostRuntime, address: &str) -> Result<Listener, ControlError> {
+    if let Some(path) = socket_path(address) {
+        return unix_listener(rt, path).map_err(ControlError::Socket);
+    }
     let Some(address) = address.to_socket_addrs(rt)?.next() else {
         return Err(ControlError::System(io::Error::from(ErrorKind::AddrNotAvailable)));
     };
@@ -419,5 +434,5 @@ fn listener(rt: &HostRuntime, address: &str) -> Result<TcpListener, ControlError
     }
     let listener = TcpListener::bind(rt, address)?;
     listener.set_nonblocking(true)?;
-    Ok(listener)
+    Ok(Listener::Tcp(listener))
 }

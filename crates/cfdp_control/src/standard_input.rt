@@ -13,7 +13,7 @@ const STANDARD_INPUT: RawFd = 0;
 /// The octets that are read at once, at most.
 const MOST_READ: usize = 512;
 
-/// Standard input, which is read only where that doesn't wait. Its end is no command.
+/// Standard input, which is read only if that doesn't wait. Its end is no command.
 #[derive(Drop)]
 pub struct StandardInput {
     lines: LineBuffer,
@@ -22,8 +22,8 @@ pub struct StandardInput {
 }
 
 impl StandardInput {
-    /// Before anything is read. Where the process was given no standard input it is at its end; so
-    /// this is to be asked before another file is opened, which may get its number.
+    /// Returns the source before anything is read. If the process was given no standard input it is
+    /// at its end; so this must be called before another file is opened, which may get its number.
     pub fn new(alloc: Global) -> StandardInput {
         let mut asked = [pollfd {
             fd: STANDARD_INPUT,
@@ -38,8 +38,9 @@ impl StandardInput {
         }
     }
 
-    /// Its descriptor, and the events to wait for: none where nothing more is read now. A terminal
-    /// isn't read while the process is in its background, since it would be stopped for that.
+    /// Returns its descriptor, and the events to wait for: none if nothing more is read now. A
+    /// terminal isn't read while the process is in its background, since it would be stopped for
+    /// that.
     pub fn watched(&self) -> (RawFd, i16) {
         let is_read = !self.is_ended && !self.lines.has_line() && !self.is_in_background();
         (STANDARD_INPUT, if is_read { POLLIN } else { 0 })
@@ -50,19 +51,19 @@ impl StandardInput {
         self.is_terminal && libc::tcgetpgrp(STANDARD_INPUT) != libc::getpgrp()
     }
 
-    /// Whether a line lies here that wasn't taken.
+    /// Returns `true` if a line lies here that wasn't taken.
     pub fn has_line(&self) -> bool {
         self.lines.has_line()
     }
 
-    /// Whether `poll` said in one of these places that something is to be read.
+    /// Returns `true` if `poll` said in one of these places that something can be read.
     pub fn is_ready(places: &[pollfd]) -> bool {
         places
             .iter()
             .any(|place| place.fd == STANDARD_INPUT && place.revents != 0)
     }
 
-    /// Reads what is there, where `poll` said that something is.
+    /// Reads what is there, if `poll` said that something is.
     pub fn reads(&mut self, rt: &HostRuntime) {
         let mut buffer = [0u8; MOST_READ];
         let room = self.lines.room().min(MOST_READ);
@@ -76,7 +77,7 @@ impl StandardInput {
         }
     }
 
-    /// The next line, if one is whole.
+    /// Takes the next line, if one is whole.
     pub fn next_line(&mut self) -> Option<Result<String, LineFault>> {
         match self.lines.take() {
             Ok(taken) => Some(text_of(taken?)),

@@ -19,12 +19,12 @@ use std::{fmt, io};
 /// For so many milliseconds no connection is taken after the system refused one.
 const AFTER_FAILURE: u64 = 1_000;
 
-/// For so many milliseconds nothing more is done for the console behind something that was done. So
+/// For so many milliseconds nothing more is done for the console after something that was done. So
 /// those who ask without a pause take a small part of the processor's time alone, and the system
 /// doesn't let the station wait for its turn.
 const PAUSE: u64 = 2;
 
-/// After so many milliseconds it is looked which connections are too slow, also where nothing came.
+/// After so many milliseconds it is looked which connections are too slow, also if nothing came.
 const BETWEEN_LOOKS: u64 = 100;
 
 /// Why no address of a console can be had.
@@ -94,7 +94,7 @@ pub struct WebDoor<'a> {
     rt: &'a HostRuntime,
     listener: TcpListener,
     pub(crate) guard: Guard,
-    // The token that the page is told; none where whoever looks has to know it.
+    // The token that the page is given; none if whoever looks must know it.
     told_token: Option<String>,
     visitors: Visitors<WebSocket>,
     deaf_until: u64,
@@ -104,17 +104,19 @@ pub struct WebDoor<'a> {
 }
 
 impl<'a> WebDoor<'a> {
-    /// The console at this address. Whoever asks has to show this token; without one, anybody on
-    /// this machine may look, and its page is told a token of its own.
+    /// Opens the console at this address. Whoever asks must show this token; without one, anybody
+    /// on this machine may look, and its page is given a token of its own. A proxy may ask for this
+    /// host, unless it is empty.
     ///
     /// # Errors
     ///
-    /// `DoorError` where the address can't be had, or isn't of this machine alone and no token is
+    /// `DoorError` if the address can't be had, or isn't of this machine alone and no token is
     /// given.
     pub fn new(
         rt: &'a HostRuntime,
         address: &str,
         token: Option<String>,
+        proxy_host: &str,
     ) -> Result<WebDoor<'a>, DoorError> {
         let listener = listener(rt, address, token.is_some())?;
         let is_open = token.is_none();
@@ -129,6 +131,7 @@ impl<'a> WebDoor<'a> {
             guard: Guard {
                 token: kept,
                 is_open,
+                proxy_host: Vec::from_slice(rt.alloc(), proxy_host.as_bytes())?,
             },
             told_token: if is_open { Some(token) } else { None },
             visitors: Visitors::new(rt.alloc()),
@@ -138,12 +141,12 @@ impl<'a> WebDoor<'a> {
         })
     }
 
-    /// What takes connections.
+    /// Returns the listener that takes connections.
     pub fn listener(&self) -> &TcpListener {
         &self.listener
     }
 
-    /// The token that the page is told.
+    /// Returns the token that the page is given.
     pub fn told_token(&self) -> Option<&str> {
         match &self.told_token {
             Some(token) => Some(token.as_str()),
@@ -151,8 +154,8 @@ impl<'a> WebDoor<'a> {
         }
     }
 
-    /// What a connection asks, and the number of that, which is to be answered. Behind a call that
-    /// did something it is `None` for two milliseconds, so that whoever asks does something else
+    /// Takes what a connection asks, with its number: it must be answered. After a call that did
+    /// something it is `None` for two milliseconds, so that whoever asks does something else
     /// between.
     pub fn next_ask(&mut self, now: u64) -> Option<(u64, Ask)>
         ensures { IfSome result (λ asked. MayBeAsked self.old.guard asked.1) }
@@ -177,7 +180,7 @@ impl<'a> WebDoor<'a> {
         self.visitors.answers(number, answer, now);
     }
 
-    /// Adds what a wait is to look at, so that it ends once something may have come.
+    /// Adds what a wait must look at, so that it ends once something may have come.
     pub fn watches(&self, watched: &mut Watched, now: u64) {
         if now < self.rests_until {
             watched.set_soon();
@@ -195,7 +198,7 @@ impl<'a> WebDoor<'a> {
         }
     }
 
-    /// Whether something is to be done: something came, or there is room for what waits, or it is
+    /// Whether something must be done: something came, or there is room for what waits, or it is
     /// time to look who is too slow.
     fn is_stirred(&self, now: u64) -> bool {
         let mut watched = Watched::nothing();
@@ -246,7 +249,7 @@ fn new_token(rt: &HostRuntime) -> io::Result<String> {
     Ok(format!(in rt.alloc(); "{:032x}", u128::from_le_bytes(octets))?)
 }
 
-/// What takes connections at this address: one of this machine alone where no token is wanted.
+/// What takes connections at this address: one of this machine alone if no token is asked for.
 fn listener(rt: &HostRuntime, address: &str, has_token: bool) -> Result<TcpListener, DoorError> {
     let Some(address) = address.to_socket_addrs(rt)?.next() else {
         return Err(DoorError::System(io::Error::from(ErrorKind::AddrNotAvailable)));

@@ -54,7 +54,7 @@ module _ {W : Type 0} (Steps : W → WireCall → W → Type 0) where
       let after : waiting_of new.conversion ≡ length left.rest = ap waiting_of left.now ∙ ap (λ (c : ConversionState). length c.queue) left.leaves.now in
       omega (arith, before, after)
 
-  -- what a call does, where PDUs are carried
+  -- what a call does, if PDUs are carried
   pub converted : (o : Option ConversionState) (call : WireCall) (old new : CarrierState W) → is_some o ≡ true
       → ((c : ConversionState) → Converts Steps c call old new) → CarriesAs Steps o call old new
   converted None call old new there does = absurd cc

@@ -16,7 +16,7 @@ use Rattle.cfdp_datagrams.specs.declared.carrier.datagram.PacketForm.{PacketForm
 use Rattle.cfdp_datagrams.specs.declared.carrier.datagram.PduCarrier.{PduCarrier}
 use Rattle.cfdp_datagrams.specs.declared.carrier.datagram.PduCarrier.TheVariants.{Packets, Pdus}
 
--- an unsegmented packet with a PDU behind its secondary header, which it doesn't have where that
+-- an unsegmented packet with a PDU after its secondary header, which it doesn't have if that
 -- has no octet (CCSDS 133.0-B-2, 4.1.3 and 4.1.4)
 abbrev pub carrying : PacketType → (apid count : ℕ) → (header pdu : List ℕ) → Parts
 carrying packet_type apid count header pdu = record {
@@ -70,7 +70,7 @@ pub record IsFirst (kind : PduCarrier) (config : StationConfig) (c : ConversionS
     pub peer_apid : c.peer_apid ≡ config.receives.apid
     pub down : c.down ≡ first_down config.receives 65536
 
--- The end of its lane took a frame of the station: the PDUs that it completes wait behind the
+-- The end of its lane took a frame of the station: the PDUs that it completes wait after the
 -- others.
 pub record TakesFrame (frame : List ℕ) (old new : ConversionState) : Type 0 where
   pub takes : LaneTakes frame (lane_up (lane_of old.up frame) old.up)
@@ -79,7 +79,7 @@ pub record TakesFrame (frame : List ℕ) (old new : ConversionState) : Type 0 wh
       ≡ lane_up (other_lane (lane_of old.up frame)) old.up
   pub rest : new ≡ record old { up = new.up; queue = new.queue }
 
--- the count of the packet behind a datagram's
+-- the count of the packet after a datagram's
 abbrev pub next_count : PduCarrier → ℕ → ℕ
 next_count (Packets form) count = (count + 1) % 16384
 next_count Pdus count = count

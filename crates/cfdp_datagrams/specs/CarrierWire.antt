@@ -17,7 +17,7 @@ pub record CarrierState (W : Type 0) : Type 0 where
   pub conversion : Option ConversionState
   pub has_leave : Bool
 
--- how PDUs are carried, where a datagram has one
+-- how PDUs are carried, if a datagram has one
 abbrev pub pdu_carrier : Carrier → Option PduCarrier
 pdu_carrier Frames = None
 pdu_carrier (Packets form) = Some (pdu_carriers.Packets form)
@@ -45,7 +45,7 @@ module _ {W : Type 0} (Steps : W → WireCall → W → Type 0) where
     pub asks : (new ≡ old) ⊎ AsksLeave old new
     pub leave : answer ≡ true → new.has_leave ≡ true
 
-  -- The first datagram that waited left, since the wire was ready, which has to be asked anew now.
+  -- The first datagram that waited left, since the wire was ready, which must be asked again now.
   pub record LeavesNext (old new : CarrierState W) : Type 0 where
     pub before : ConversionState
     pub after : ConversionState
@@ -99,7 +99,7 @@ module _ {W : Type 0} (Steps : W → WireCall → W → Type 0) where
   AsksWire came old new = Steps old.wire (Asked came) new.wire
       × (new.conversion ≡ old.conversion)
 
-  -- A frame comes; or nothing, where the wire says so; or a fault, which is the wire's, or stands
+  -- A frame comes; or nothing, if the wire says so; or a fault, which is the wire's, or stands
   -- for a datagram after which no frame comes. Nothing is sent, and no PDU leaves the queue.
   abbrev pub Brings : Result (Option (List ℕ)) WireFault → (c : ConversionState)
       → (old new : CarrierState W) → Type 0
@@ -107,7 +107,7 @@ module _ {W : Type 0} (Steps : W → WireCall → W → Type 0) where
   Brings (Ok None) c old new = AsksWire (Ok None) old new
   Brings (Err fault) c old new = AsksWire (Err fault) old new ⊎ BringsDatagram c old new
 
-  -- A frame may leave only where no datagram waits, and the wire was ready for one.
+  -- A frame may leave only if no datagram waits, and the wire was ready for one.
   pub record SaysReady (answer : Bool) (old new : CarrierState W) : Type 0 where
     pub sends : SendsOut old new
     pub rests : answer ≡ true → waiting_of new.conversion ≡ 0
@@ -129,7 +129,7 @@ module _ {W : Type 0} (Steps : W → WireCall → W → Type 0) where
       Steps old.wire (Rested is_open answer) new.wire × (new.conversion ≡ old.conversion)
       × (new.has_leave ≡ old.has_leave)
 
-  -- What a call does: where the datagrams are the frames, the wire of these does it.
+  -- What a call does: if the datagrams are the frames, the wire of these does it.
   abbrev pub CarriesAs : Option ConversionState → WireCall → (old new : CarrierState W) → Type 0
   CarriesAs None call old new = Steps old.wire call new.wire × (new.conversion ≡ None)
       × (new.has_leave ≡ old.has_leave)

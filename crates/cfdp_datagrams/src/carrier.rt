@@ -26,7 +26,8 @@ pub enum Carrier {
 }
 
 impl Carrier {
-    /// How a datagram has one PDU; `None` if it is a frame, which may have parts of several.
+    /// Returns how a datagram has one PDU; `None` if it is a frame, which may have parts of
+    /// several.
     pub fn of_pdus(self) -> Option<PduCarrier>
         ensures { result ≡ pdu_carrier self }
     {

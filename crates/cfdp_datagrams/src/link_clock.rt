@@ -5,7 +5,7 @@ use crate::pacer::SECOND;
 
 /// By how much the time of the link goes on at once, at most, in nanoseconds. More passes between
 /// two looks at the clock only if the process didn't run: it was stopped, or its machine slept.
-/// What the peer sent meanwhile couldn't come, so no timer is to expire for want of it.
+/// What the peer sent meanwhile couldn't come, so no timer may expire because of it.
 pub const MOST_STEP: u64 = 10 * SECOND;
 
 /// The time of a link, in nanoseconds. It goes with the clock of the machine, but stands still
@@ -22,8 +22,8 @@ impl LinkClock {
     /// At the start.
     pub const START: LinkClock = LinkClock { seen: 0, passed: 0 };
 
-    /// The time of the link, now that the clock shows this, and the link is down by plan or not. A
-    /// clock that goes back doesn't change it.
+    /// Returns the time of the link, now that the clock shows this, and the link is down by plan or
+    /// not. A clock that goes back doesn't change it.
     pub fn at(&mut self, now: u64, is_frozen: bool) -> u64
         ensures seen { self.new.seen ≡ max self.old.seen now }
         ensures passed { self.old.passed + MOST_STEP < 2 ^ 64 → self.new.passed ≡ self.old.passed

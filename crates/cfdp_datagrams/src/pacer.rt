@@ -19,7 +19,8 @@ pub struct Pacer {
 }
 
 impl Pacer {
-    /// At most so many frames a second, up to 1,000,000; with 0 any number.
+    /// Returns a pacer of at most `rate` frames a second, up to 1,000,000; if it is 0, of any
+    /// number.
     pub fn new(rate: u64) -> Pacer
         ensures frame_time { result.frame_time ≡ time_at rate }
         ensures slack { result.slack ≤ result.frame_time * (3 + rate / 250) }
@@ -32,7 +33,7 @@ impl Pacer {
         }
     }
 
-    /// How long it is from this time on until a frame may leave; 0 if one may now.
+    /// Returns how long it is from this time on until a frame may leave; 0 if one may now.
     pub fn wait(&self, now: u64) -> u64
         ensures wait { result ≡ self.now.due - self.now.slack - now }
         ensures may { (result ≡ 0) ↔ (self.now.due ≤ now + self.now.slack) }
@@ -40,8 +41,8 @@ impl Pacer {
         self.due.saturating_sub(self.slack).saturating_sub(now)
     }
 
-    /// Notes that a frame leaves at this time: the next one is due a frame's time behind it, or
-    /// behind the time for which it was due, whichever comes last.
+    /// Notes that a frame leaves at this time: the next one is due a frame's time after it, or
+    /// after the time for which it was due, whichever comes last.
     pub fn passes(&mut self, now: u64)
         ensures { max self.old.due now + self.old.frame_time < 2 ^ 64 →
             self.old.due ≤ now + self.old.slack → Leaves now self.old self.new }
@@ -50,7 +51,7 @@ impl Pacer {
     }
 }
 
-/// However many frames leave, each when it might, the last one does so no sooner behind the first
+/// However many frames leave, each when it might, the last one does so no sooner after the first
 /// than all between them take at the rate, except for the slack.
 pub fn a_rate_is_kept()
     ensures { KeepsRate }

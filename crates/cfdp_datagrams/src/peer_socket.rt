@@ -32,8 +32,8 @@ const MOST_TURN_TIME: u64 = 10 * MILLISECOND;
 /// The longest wait, in nanoseconds, if timers run in milliseconds: so late one fires at most.
 const MOST_REST: u64 = 50 * MILLISECOND;
 
-/// By how much the time of a station may lag while datagrams wait in the socket: what
-/// came in time is taken before a timer expires for want of it.
+/// By how much the time of a station may lag while datagrams wait in the socket: what came in time
+/// is taken before a timer expires because of it.
 const MOST_LAG: u64 = 2 * SECOND;
 
 /// If so many datagrams came in a turn before none was left, the peer sends many, and more come
@@ -57,7 +57,7 @@ pub enum Unit {
 }
 
 impl Unit {
-    /// How many nanoseconds it has.
+    /// Returns how many nanoseconds it has.
     fn nanoseconds(self) -> u64
         ensures { 0 < result }
     {
@@ -67,8 +67,8 @@ impl Unit {
         }
     }
 
-    /// How long a wait lasts at most that begins at this time: the times at which it ends lie a
-    /// second apart, or 50 milliseconds.
+    /// Returns how long a wait lasts at most that begins at this time: the times at which it ends
+    /// lie a second apart, or 50 milliseconds.
     fn longest_wait(self, now: u64) -> u64
         ensures { 0 < result }
     {
@@ -87,7 +87,8 @@ const MOST_PACKET: usize = 4203;
 pub struct Pace {
     /// The most frames in a second; 0 for any number.
     pub rate: u64,
-    /// After so many seconds in which nothing came and nothing was open it is silent; with 0 never.
+    /// After this number of seconds in which nothing came and nothing was open it is silent; if it
+    /// is 0, never.
     pub idle: u64,
     /// The frames that it sends, and those that it takes.
     pub sends: LinkConfig,
@@ -108,7 +109,7 @@ pub struct Pace {
 /// second is over by its clock. A frame that the system has no room for is kept, and none may leave
 /// until it has gone.
 ///
-/// While the link is down by plan nothing leaves, what comes is thrown away, and the time that the
+/// While the link is down by plan nothing leaves, what comes is discarded, and the time that the
 /// station gets stands still.
 #[derive(Drop)]
 pub struct PeerSocket<'a, 'n> {
@@ -170,7 +171,7 @@ impl From<AllocError> for Unusable {
 }
 
 impl<'a, 'n> PeerSocket<'a, 'n> {
-    /// A socket at the first address, whose peer is at the second one.
+    /// Returns a socket at the first address, whose peer is at the second one.
     ///
     /// # Errors
     ///
@@ -222,33 +223,33 @@ impl<'a, 'n> PeerSocket<'a, 'n> {
         })
     }
 
-    /// The address of the socket, with its port.
+    /// Returns the address of the socket, with its port.
     ///
     /// # Errors
     ///
-    /// That of the system.
+    /// The error of the system.
     pub fn local_address(&self) -> io::Result<SocketAddr> {
         self.socket.local_addr()
     }
 
-    /// Whether the link is down by plan.
+    /// Returns `true` if the link is down by plan.
     fn is_frozen(&self) -> bool {
         self.exchange.is_frozen.get()
     }
 
-    /// The time of the link, in nanoseconds.
+    /// Returns the time of the link, in nanoseconds.
     fn link_time(&mut self) -> u64 {
         let now = self.since_start();
         self.link_time_at(now)
     }
 
-    /// The time of the link, in nanoseconds, at this time since the start.
+    /// Returns the time of the link, in nanoseconds, at this time since the start.
     fn link_time_at(&mut self, now: u64) -> u64 {
         let is_frozen = self.is_frozen();
         self.clock.at(now, is_frozen)
     }
 
-    /// The time in nanoseconds since the start.
+    /// Returns the time in nanoseconds since the start.
     fn since_start(&self) -> u64 {
         nanoseconds(self.rt, self.start, self.blocked_until)
     }
@@ -346,7 +347,7 @@ impl<'a, 'n> PeerSocket<'a, 'n> {
         let _ = self.has_gone(answer);
     }
 
-    /// Whether enough was taken in this turn, at this time.
+    /// Returns `true` if enough was taken in this turn, at this time.
     fn has_enough(&self, now: u64) -> bool {
         self.came >= MOST_IN_TURN
             || self.came > 0 && now.saturating_sub(self.came_first) >= MOST_TURN_TIME
@@ -371,7 +372,7 @@ impl<'a, 'n> PeerSocket<'a, 'n> {
         self.came = self.came.saturating_add(1);
     }
 
-    /// Nothing waits in the socket, or enough was taken in this turn: the next one begins.
+    /// Ends a turn: nothing waits in the socket, or enough was taken in this turn.
     fn ends_turn(&mut self, is_drained: bool) {
         self.is_drained = is_drained;
         self.comes_more = is_drained && self.came >= MANY;
@@ -402,7 +403,7 @@ impl<'a, 'n> PeerSocket<'a, 'n> {
         }
     }
 
-    /// How long it waits, in nanoseconds, and for what of its socket.
+    /// Returns how long it waits, in nanoseconds, and for what of its socket.
     fn awaits(&mut self) -> (u64, i16) {
         let now = self.since_start();
         if self.is_frozen() {
@@ -421,8 +422,9 @@ impl<'a, 'n> PeerSocket<'a, 'n> {
         }
     }
 
-    /// The system, asked at this time, gave no datagram, for this cause. If nothing waits in the
-    /// socket and nothing was sent or came in this turn, it waits before it is asked once more.
+    /// Notes that the system, asked at this time, gave no datagram, for this cause. If nothing
+    /// waits in the socket and nothing was sent or came in this turn, it waits before it is asked
+    /// once more.
     ///
     /// # Errors
     ///
@@ -451,8 +453,8 @@ impl<'a, 'n> PeerSocket<'a, 'n> {
         Err(WireFault)
     }
 
-    /// Whether nothing waited in the socket when the turn before ended, and nothing was sent since:
-    /// it waits then, and doesn't ask once more whether something does.
+    /// Returns `true` if nothing waited in the socket when the turn before ended, and nothing was
+    /// sent since: it waits then, and doesn't ask once more whether something does.
     fn may_wait(&self) -> bool {
         self.is_drained && !self.has_sent && self.came == 0
     }
@@ -467,8 +469,8 @@ impl<'a, 'n> PeerSocket<'a, 'n> {
         self.has_sent = true;
     }
 
-    /// Whether transaction numbers are wanted and may be reserved now: if they couldn't be, that is
-    /// tried once a second.
+    /// Returns `true` if transaction numbers are wanted and may be reserved now: if they couldn't
+    /// be, that is tried once a second.
     fn may_add_numbers(&self) -> bool {
         self.exchange.wants_numbers.get() && self.since_start() >= self.numbers_due
     }
@@ -506,15 +508,15 @@ impl<'a, 'n> PeerSocket<'a, 'n> {
         let _ = thread::sleep(self.rt, Duration::from_millis(AFTER_FAILURE));
     }
 
-    /// How long it is until a frame may leave; 0 if one may now.
+    /// Returns how long it is until a frame may leave; 0 if one may now.
     fn until_ready(&self, now: u64) -> u64 {
         self.pacer
             .wait(now)
             .max(self.blocked_until.saturating_sub(now))
     }
 
-    /// What came of a datagram at this time: whether it is for the station. A beacon isn't, and
-    /// nothing is while the link is down by plan.
+    /// Notes a datagram that came at this time. Returns whether it is for the station. A beacon
+    /// isn't, and nothing is while the link is down by plan.
     fn hears(&mut self, datagram: &[u8], now: u64) -> bool {
         if self.is_frozen() {
             self.exchange.gaps.throws_away();
@@ -553,7 +555,7 @@ fn send_past_reports(
     (socket.send(octets), reports)
 }
 
-/// The time in nanoseconds since the start; the last one if the clock can't be read.
+/// Returns the time in nanoseconds since the start; the last one if the clock can't be read.
 fn nanoseconds(rt: &HostRuntime, start: Instant, last: u64) -> u64 {
     match start.elapsed(rt) {
         Ok(since) => u64::try_from(since.as_nanos()).unwrap_or(u64::MAX),
@@ -561,12 +563,12 @@ fn nanoseconds(rt: &HostRuntime, start: Instant, last: u64) -> u64 {
     }
 }
 
-/// The octets of each frame of a link, with its fields.
+/// Returns the octets of each frame of a link, with its fields.
 pub fn frame_len(link: &LinkConfig) -> usize {
     link.lane(Lane::Directives).frame_len()
 }
 
-/// The octets of the longest datagram that leaves.
+/// Returns the octets of the longest datagram that leaves.
 fn most_octets(pace: &Pace) -> usize {
     match pace.carrier {
         Carrier::Frames => frame_len(&pace.sends).max(frame_len(&pace.receives)),
@@ -574,8 +576,9 @@ fn most_octets(pace: &Pace) -> usize {
     }
 }
 
-/// Whether a datagram is of the link. A frame looks like one that carries packets: it has the
-/// length and one of both channels. Else there is a PDU in it that is for the station.
+/// Returns `true` if a datagram is of the link. A frame looks like one that carries packets: it has
+/// the length and one of both channels. Otherwise there must be a PDU in it that is for the
+/// station.
 fn is_of_link(datagram: &[u8], pace: &Pace) -> bool {
     if let Some(carrier) = pace.carrier.of_pdus() {
         return carrier.pdu_in(pace.receives.apid, datagram).is_ok();
@@ -610,7 +613,7 @@ fn ask_for_room(socket: &UdpSocket, pace: &Pace) {
     let _ = unsafe { net::setsockopt(fd, SOL_SOCKET, SO_SNDBUF, &value, 4) };
 }
 
-/// The first address of these words.
+/// Returns the first address of these words.
 fn peer_address(rt: &HostRuntime, to: &str) -> io::Result<SocketAddr> {
     match to.to_socket_addrs(rt)?.next() {
         Some(address) => Ok(address),
@@ -657,9 +660,9 @@ impl Wire for PeerSocket<'_, '_> {
 }
 
 impl PeerWire for PeerSocket<'_, '_> {
-    /// The whole seconds since the start, or milliseconds, in which the link wasn't down by plan
-    /// and the process ran. While datagrams wait in the socket it is the time at which none did, at
-    /// most two seconds late. If the clock can't be read it stands still.
+    /// Returns the whole seconds since the start, or milliseconds, in which the link wasn't down by
+    /// plan and the process ran. While datagrams wait in the socket it is the time at which none
+    /// did, at most two seconds late. If the clock can't be read it stands still.
     fn now(&mut self) -> u64 {
         let drained = self.drained.max(self.link_time().saturating_sub(MOST_LAG));
         self.told = self.told.max(drained / self.pace.unit.nanoseconds());

@@ -3,7 +3,7 @@ ghost use Rattle.std.specs.Prelude.{◌≡◌, ◌+◌, ◌-◌, ◌<◌, ◌≤
 
 use std::io::ErrorKind;
 
-/// So many reports in a row mean that the peer can't be reached.
+/// After this number of reports in a row the peer can't be reached.
 pub const MOST_REPORTS: u32 = 8;
 
 /// A report is in a row with the one before if at most so many datagrams were sent in between, and
@@ -86,7 +86,7 @@ impl Reports {
     }
 }
 
-/// Whether the network reports this error, by an ICMP message.
+/// Returns `true` if the network reports this error, by an ICMP message.
 pub fn is_report(kind: ErrorKind) -> bool {
     matches!(
         kind,

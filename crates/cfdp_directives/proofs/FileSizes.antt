@@ -9,13 +9,13 @@ unfolding size_limit
 limit_fits true = omega arith
 limit_fits false = omega arith
 
--- that of a large file is the greatest
+-- the size of a large file is the greatest
 pub limit_most : (large : Bool) → size_limit large ≤ size_limit true
 unfolding size_limit
 limit_most true = omega arith
 limit_most false = omega arith
 
--- that of a file that isn't large is the least
+-- the size of a file that isn't large is the least
 pub limit_least : (large : Bool) → size_limit false ≤ size_limit large
 unfolding size_limit
 limit_least true = omega arith

@@ -114,7 +114,7 @@ accepted h (Ack of condition status) d p =
     let long : ltb (length d) 1 ≡ false = le-ltb _ _ (let r = p.1.size_octets in omega arith) in
     rw (p.0, long, p.1.code) (ack_accepted of condition status d p.1)
 
--- what is wrong behind a header is wrong with the data field
+-- what is wrong after a header is wrong with the data field
 pub behind_header : (h : Header) (t : List ℕ) → SpellsHeader h t →
     pdu_fault t ≡ content_fault (fss h) (type_bit h.pdu_type) h.segment_metadata (before_crc h.crc (drop (header_len h.id_width h.number_width) t))
 behind_header h t q =
@@ -172,7 +172,7 @@ same_code acknowledged.Finished acknowledged.Finished e = refl
 same_code acknowledged.Eof acknowledged.Finished e = absurd cc
 same_code acknowledged.Finished acknowledged.Eof e = absurd cc
 
--- a file-size field has an octet at least
+-- a file-size field has at least one octet
 some : (large : Bool) → 1 ≤ file_size_octets large
 some true = omega arith
 some false = omega arith

@@ -1,4 +1,4 @@
--- Options, one behind the other.
+-- Options, one after the other.
 use Rattle.std.proofs.Common.{◌≡◌, ℕ, zero, suc, ◌+◌, ◌*◌, ◌%◌, ◌<◌, ◌≤◌, Bool, true, false, cond, leb, List, [], ◌∷◌, ◌++◌, length, get_or, take, drop, Option, Some, None, refl, sym, ap, ◌∙◌, arith, length-drop, length-append, append-nil}
 use Rattle.std.proofs.lemmas.Bool.{le-leb, lt-leb, leb-true}
 use Rattle.std.proofs.lemmas.List.{take_at, drop_at, take-append-drop, length-take-le}
@@ -31,7 +31,7 @@ some_map : {A B : Type 0} (f : A → B) (o : Option A) → is_some (option_map f
 some_map f None = refl
 some_map f (Some x) = refl
 
--- the options behind the first one
+-- the options after the first one
 pub one_more : (bytes : List ℕ) → 2 ≤ length bytes → get_or bytes 1 0 ≤ length (drop 2 bytes) → is_some (tlvs_of (drop (get_or bytes 1 0) (drop 2 bytes))) ≡ is_some (tlvs_of bytes)
 one_more [] h k = absurd (omega arith)
 one_more (a ∷ []) h k = absurd (omega arith)
@@ -152,6 +152,6 @@ length-location entity width ts e =
 pub location_len : (entity width : ℕ) → length (flat_map tlv (fault_location entity width ∷ [])) ≡ 2 + width
 location_len entity width = length-location entity width (fault_location entity width ∷ []) refl
 
--- a field of whole octets behind others
+-- a field of whole octets after others
 pub field_behind : (n w : ℕ) (o : List ℕ) → field (drop n o) 0 w ≡ field o (8 * n) w
 field_behind n w o = let place : 8 * n + 0 ≡ 8 * n = omega arith in field-drop n o 0 w ∙ ap (λ (at : ℕ). field o at w) place

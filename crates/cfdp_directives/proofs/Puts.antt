@@ -1,4 +1,4 @@
--- Exported: laws of what was heard and told, as more is heard and told.
+-- Exported: laws of what was received and indicated, as more is received and indicated.
 use Rattle.std.proofs.Common.{◌≡◌, ℕ, ◌+◌, ◌<◌, Bool, cond, List, [], ◌∷◌, ◌++◌, length, Option, refl, ◌∙◌, arith, length-append}
 use Rattle.std.specs.Prelude.{Any, Contains, count_by}
 use Rattle.std.proofs.lemmas.List.{get_or_append_left, get_or-append-add}
@@ -34,18 +34,18 @@ Any-one P x p = (0, x, omega arith, refl, p)
 
 -- ---- some PDU
 
--- more PDUs are heard
+-- more PDUs are received
 pub SomePdu-append_left : (P : Header → Content → Type 0) (old new : List (List ℕ)) → SomePdu P old → SomePdu P (old ++ new)
 SomePdu-append_left P old new a = Any-append_left (λ text. (h : Header) × ((v : Content) × (SpellsPdu h v text × P h v))) old new a
 
 pub SomePdu-append_right : (P : Header → Content → Type 0) (old new : List (List ℕ)) → SomePdu P new → SomePdu P (old ++ new)
 SomePdu-append_right P old new a = Any-append_right (λ text. (h : Header) × ((v : Content) × (SpellsPdu h v text × P h v))) old new a
 
--- the PDU heard last
+-- the PDU received last
 pub SomePdu-last : (P : Header → Content → Type 0) (old : List (List ℕ)) (text : List ℕ) (h : Header) (v : Content) → SpellsPdu h v text → P h v → SomePdu P (old ++ text ∷ [])
 SomePdu-last P old text h v s p = SomePdu-append_right P old (text ∷ []) (Any-one (λ text. (h : Header) × ((v : Content) × (SpellsPdu h v text × P h v))) text (h, (v, (s, p))))
 
--- what was heard in full stays so
+-- what was received in full stays so
 pub HeardInFull-append : (put : Put) (old new : List (List ℕ)) → HeardInFull put old → HeardInFull put (old ++ new)
 HeardInFull-append put old new heard = record {
   metadata = SomePdu-append_left (IsMetadataOf put) old new heard.metadata;
@@ -61,7 +61,7 @@ completions-append own old new = flat_map-append (completion own) old new
 pub count_by-append : {X : Type 0} (p : X → Bool) (xs ys : List X) → count_by p (xs ++ ys) ≡ count_by p xs + count_by p ys
 count_by-append p xs ys = sum_by-append (λ x. cond (p x) 1 0) xs ys
 
--- how often a transaction was told finished
+-- how often a transaction was indicated finished
 pub finished-append : (id : TransactionId) (old new : List Indication) → count_by (is_finished id) (old ++ new) ≡ count_by (is_finished id) old + count_by (is_finished id) new
 finished-append id old new = count_by-append (is_finished id) old new
 

@@ -1,4 +1,5 @@
--- Pairs of offsets, one behind the other: in fields of w octets, and of a large file or of one that isn't.
+-- Pairs of offsets, one after the other: in fields of w octets, and of a large file or of one that
+-- isn't.
 use Rattle.std.proofs.Common.{◌≡◌, ℕ, Bool, true, false, zero, suc, add-one, ◌+◌, ◌*◌, ◌/◌, ◌%◌, ◌<◌, ◌≤◌, List, [], ◌∷◌, ◌++◌, length, take, drop, slice_index_or, refl, sym, ap, ◌∙◌, arith, length-drop, length-append, append_assoc}
 use Rattle.std.proofs.lemmas.List.{take-append-drop, drop-drop, nil_from_length, drop_more}
 use Rattle.std.proofs.lemmas.List.Concat.{flat_map-cons}
@@ -74,7 +75,7 @@ pairs_count_at w (suc n) o = ap suc (pairs_count_at w n (drop (2 * w) o))
 pub pairs_count : (large : Bool) (o : List ℕ) → length (pairs_read large o) ≡ length o / pair_octets large
 pairs_count large o = pairs_count_at (file_size_octets large) (length o / pair_octets large) o
 
--- one more pair than behind the first
+-- one more pair than after the first
 one_less : (large : Bool) (o : List ℕ) → length o % pair_octets large ≡ 0 → 0 < length o → length o / pair_octets large ≡ suc (length (drop (pair_octets large) o) / pair_octets large)
 one_less true o whole h = omega (arith, length-drop 16 o)
 one_less false o whole h = omega (arith, length-drop 8 o)
@@ -85,7 +86,7 @@ pub first_pair : (large : Bool) (o : List ℕ) → length o % pair_octets large 
 unfolding pairs_of
 first_pair large o whole h = ap (λ (n : ℕ). pairs_of (file_size_octets large) n o) (one_less large o whole h)
 
--- the pair at a place, and those behind it
+-- the pair at an index, and the pairs after it
 pair_at_in : (w n i : ℕ) (o : List ℕ) → i < n → drop i (pairs_of w n o) ≡ (field (drop (2 * w * i) o) 0 (8 * w), field (drop w (drop (2 * w * i) o)) 0 (8 * w)) ∷ drop (suc i) (pairs_of w n o)
 unfolding pairs_of
 pair_at_in w zero i o h = absurd (omega (arith, h))
@@ -124,7 +125,7 @@ pub pairs_whole : (large : Bool) (o : List ℕ) → length o % pair_octets large
 pairs_whole true o whole = omega (arith, pairs_count true o)
 pairs_whole false o whole = omega (arith, pairs_count false o)
 
--- a field behind so many octets
+-- a field after so many octets
 pub behind_one : (w : ℕ) (o : List ℕ) → field (drop 1 o) 0 w ≡ field o 8 w
 behind_one w o = field_behind 1 w o
 

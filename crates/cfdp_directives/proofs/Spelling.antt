@@ -249,7 +249,7 @@ spelled h v can =
       content = subst (λ (t : List ℕ). Says h v t) (sym place) (said h v can.content can.kind can.no_segment_metadata);
     }
 
--- octets that stayed behind a header also stay behind its data field
+-- octets that stayed after a header also stay after its data field
 pub behind_data : (out middle front : List ℕ) (at len end : ℕ) → drop at middle ≡ drop at out → length front ≡ length (take (at + len) middle) → at + len ≤ length middle → end ≡ at + len →
     drop end (front ++ drop (at + len) middle) ≡ drop end out
 behind_data out middle front at len end stayed size room ends =

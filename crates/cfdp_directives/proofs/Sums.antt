@@ -71,7 +71,7 @@ one_word (a ∷ b ∷ c ∷ d ∷ e ∷ word) h = absurd (omega arith)
 abbrev words_sum : List (List ℕ) → ℕ
 words_sum words = sum_by (λ word. sum_at 0 word) words
 
--- one word more
+-- one more word
 pub word_more : (old i sum m : ℕ) (words : List (List ℕ)) → i < length words → sum ≡ (old + words_sum (take i words)) % 2 ^ 32 → length (get_or words i []) ≡ 4 → m
     ≡ from_be_bytes w32 (get_or words i [])
     → (sum + m) % 2 ^ 32 ≡ (old + words_sum (take (i + 1) words)) % 2 ^ 32
@@ -80,7 +80,7 @@ word_more old i sum m words h e four k =
     let same : sum_at 0 (get_or words i []) ≡ m = one_word (get_or words i []) four ∙ sym k in
     rw (e, cut, same) (omega arith)
 
--- whole words, and the octets behind them
+-- whole words, and the octets after them
 cut_words : (k : ℕ) (bytes : List ℕ) → k * 4 ≤ length bytes → sum_at 0 bytes ≡ words_sum (first_chunks 4 k bytes) + sum_at 0 (drop (k * 4) bytes)
 cut_words zero bytes h = sym (zero-add (sum_at 0 bytes))
 cut_words (suc k) bytes h =
@@ -96,7 +96,7 @@ cut_words (suc k) bytes h =
     let behind : sum_at 0 (drop (k * 4) back) ≡ sum_at 0 (drop (suc k * 4) bytes) = ap (sum_at 0) rest in
     sym (ap (sum_at 0) whole) ∙ omega (arith, joined, place, ih, first, behind)
 
--- octets up to where a word begins, or up to the end, and those behind them
+-- octets up to where a word begins, or up to the end, and the octets after them
 cut_front : (offset n : ℕ) (bytes : List ℕ) → (offset + n) % 4 ≡ 0 → n ≤ length bytes → sum_at offset bytes ≡ sum_at offset (take n bytes) + sum_at 0 (drop n bytes)
 cut_front offset n bytes at h =
     let front = take n bytes in
@@ -112,7 +112,7 @@ cut_all : (offset n : ℕ) (bytes : List ℕ) → length bytes ≤ n → sum_at 
 unfolding sum_at
 cut_all offset n bytes h = rw (take_all n bytes h, drop_all n bytes h) (sym (add-zero (sum_at offset bytes)))
 
--- octets up to where a word begins, whole words, and the octets behind them
+-- octets up to where a word begins, whole words, and the octets after them
 pub by_words : (offset n k : ℕ) (bytes : List ℕ) → (n < length bytes → (offset + n) % 4 ≡ 0) → k * 4 ≤ length (drop n bytes) → sum_at offset (take n bytes)
     + (words_sum (first_chunks 4 k (drop n bytes)) + sum_at 0 (drop (k * 4) (drop n bytes))) ≡ sum_at offset bytes
 by_words offset n k bytes at within =

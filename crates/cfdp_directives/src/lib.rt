@@ -1,5 +1,6 @@
 //! The PDUs of CFDP, class 2: file data, Metadata, EOF, Finished, ACK, NAK, Prompt and Keep Alive
-//! (CCSDS 727.0-B-5, 5.2 and 5.3), the checksum of a file, and what an entity tells its user.
+//! (CCSDS 727.0-B-5, 5.2 and 5.3), the checksum of a file, and what an entity indicates to its
+//! user.
 //!
 //! ```
 //! match cfdp_directives::decode(octets) {

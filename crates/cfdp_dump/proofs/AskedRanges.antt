@@ -3,7 +3,7 @@ use Rattle.std.proofs.Common.{◌≡◌, ◌<◌, ◌+◌, ℕ, List, [], ◌∷
 use Rattle.std.specs.List.{flat_map}
 use Rattle.std.proofs.lemmas.List.{take_more, drop_more, flat_map_more}
 
--- what is behind the first of what is left
+-- what is after the first of what is left
 pub rest_behind : {X : Type 0} (xs : List X) (i : ℕ) (x : X) (rest : List X) → i < length xs → drop i xs ≡ x ∷ rest → drop (i + 1) xs ≡ rest
 rest_behind xs i x rest within left = ap (drop 1) (sym (drop_more xs i x within) ∙ left)
 

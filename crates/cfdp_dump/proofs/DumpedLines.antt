@@ -32,7 +32,7 @@ unfolding lines
 lines-empty [] none = refl
 lines-empty (octet ∷ text) none = absurd (omega (arith, none))
 
--- a text is cut behind its first line
+-- a text is cut after its first line
 pub cut_at_line_feed : (text line rest : List ℕ) → text ≡ line ++ 10 ∷ rest → All (λ octet. octet ≢ 10) line → lines text ≡ line ∷ lines rest
 cut_at_line_feed text line rest cut none = rw cut (lines-ended line rest none)
 

@@ -1,4 +1,4 @@
--- What stands in front of a gap in a text.
+-- What stands before a gap in a text.
 use Rattle.std.proofs.Common.{◌≡◌, ◌<◌, ◌≤◌, ◌+◌, ◌-◌, ℕ, nat_eq, true, false, List, [], ◌∷◌, ◌++◌, length, take, drop, refl, sym, ◌∙◌, ap, subst, arith, append-nil, slice_index}
 use Rattle.std.specs.List.{starts_with}
 use Rattle.std.proofs.lemmas.List.{append_assoc, drop_all, drop_more, length-drop, take_all, take_more}
@@ -13,11 +13,11 @@ gap-behind : (gap : List ℕ) (octet : ℕ) (rest : List ℕ) → starts_with na
 unfolding up_to
 gap-behind gap octet rest other = rw other refl
 
--- what is behind so many octets, as a slice of the text
+-- what is after so many octets, as a slice of the text
 whole : (text : List ℕ) (n : ℕ) → take (length text - n) (drop n text) ≡ drop n text
 whole text n = let all : length (drop n text) ≡ length text - n = length-drop n text in take_all (length text - n) (drop n text) (omega (arith, all))
 
--- one is found behind so many octets
+-- one is found after so many octets
 pub up_to-found : (gap text : List ℕ) (n : ℕ) → up_to gap text ≡ take n text ++ up_to gap (drop n text)
     → starts_with nat_eq (take (length text - n) (drop n text)) gap ≡ true → take n text ≡ up_to gap text
 up_to-found gap text n so there =

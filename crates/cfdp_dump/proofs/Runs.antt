@@ -36,7 +36,7 @@ use Rattle.cfdp_dump.specs.declared.dump.remark.Remark.TheVariants.{BadCapture, 
 use Rattle.cfdp_dump.specs.Dump.Units.{TellsAs, TellsCarried, TellsDeep, TellsItem, TellsRun, TellsUnfollowed, TellsUnit, WritesMore, WritesRun, WritesUnit}
 use Rattle.cfdp_dump.specs.declared.dump.DumpRequest.{DumpRequest}
 
--- ---- one thing is told
+-- ---- one thing is shown
 pub one_told : (request : DumpRequest) (one : Told) (old new : Option (List ℕ)) → WritesLine (TellsTold request one) old new → WritesLines (TellsTold request) (one ∷ []) old new
 one_told request one old new line = lines-more (TellsTold request) [] one old old new (lines-none (TellsTold request) old) line
 
@@ -85,7 +85,7 @@ module _ {A : Type 0} (P : List Channel → A → List Told → List Channel →
     written = lines_joined (TellsTold request) before.tolds one.tolds old between new before.written one.written;
   }
 
--- ---- units behind others
+-- ---- units after others
 module _ {A : Type 0} (P : List Channel → A → List Told → List Channel → Type 0) where
   run_joined : (before : List Channel) (xs ys : List A) (tolds : List Told) (mid : List Channel) (more : List Told) (after : List Channel)
       → TellsRun P before xs tolds mid → TellsRun P mid ys more after → TellsRun P before (xs ++ ys) (tolds ++ more) after
@@ -139,7 +139,7 @@ piece_bad request channels before digits (Ok x) old new wrote =
     })
 
 -- ---- lines, front first
--- of the lines in front of what is left all pieces are told that are whole
+-- of the lines before what is left all pieces are shown that are whole
 pub record LinesFront (request : DumpRequest) (text rest : List ℕ) (begun : Option (List ℕ)) (after : List Channel) (old new : Option (List ℕ)) : Type 0 where
   pub front : List Piece
   pub cut : pieces request.by_tools None (lines text) ≡ front ++ pieces request.by_tools begun (lines rest)

@@ -1,4 +1,4 @@
--- Lines that are written, one for each of what is told.
+-- Lines that are written, one for each of what is shown.
 use Rattle.std.proofs.Common.{◌≡◌, ◌∙◌, ap, ℕ, List, [], ◌∷◌, ◌++◌, Option, Result, Ok, Err, sym, subst}
 use Rattle.std.proofs.lemmas.List.{append_assoc}
 use Rattle.std.specs.List.{AllZip, flat_map}
@@ -37,7 +37,7 @@ module _ {A : Type 0} (P : A → List ℕ → Type 0) where
   AllZip-joined (a ∷ xs) zs [] ws all more = absurd all
   AllZip-joined (a ∷ xs) zs (b ∷ ys) ws all more = (all.0, AllZip-joined xs zs ys ws all.1 more)
 
-  -- behind lines that were written others are
+  -- after lines that were written others are
   pub lines_joined : (xs zs : List A) (old mid new : Option (List ℕ)) → WritesLines P xs old mid → WritesLines P zs mid new → WritesLines P (xs ++ zs) old new
   lines_joined xs zs old mid new before more = record {
     texts = before.texts ++ more.texts;
@@ -46,7 +46,7 @@ module _ {A : Type 0} (P : A → List ℕ → Type 0) where
         (Appends-trans old mid new (flat_map as_line before.texts) (flat_map as_line more.texts) before.written more.written);
   }
 
-  -- lines that were written stay so where what the writer holds is kept
+  -- lines that were written stay so if what the writer holds is kept
   pub lines_kept : (xs : List A) (old mid new : Option (List ℕ)) → WritesLines P xs old mid → Keeps mid new → WritesLines P xs old new
   lines_kept xs old mid new all kept = record {
     texts = all.texts;
@@ -61,7 +61,7 @@ pub line_is_written : {E : Type 0} (P : List ℕ → Type 0) (r : Result (Unit {
 line_is_written P (Ok x) text old new such written = record { text = text; such = such; written = written }
 line_is_written P (Err e) text old new such written = tt
 
--- the same where an end stands behind the text
+-- the same if an end stands after the text
 pub line_with_end : {E : Type 0} (P : List ℕ → Type 0) (r : Result (Unit {0}) E) (text end said : List ℕ) (old new : Option (List ℕ))
     → P (text ++ end) → said ≡ end → OnOk r (Appends old new (text ++ (said ++ 10 ∷ []))) → OnOk r (WritesLine P old new)
 line_with_end P (Ok x) text end said old new such same written = record {
@@ -81,12 +81,12 @@ line_behind P Q (Ok x) front old mid new such before line = record {
 }
 line_behind P Q (Err e) front old mid new such before line = tt
 
--- what a call writes stands behind what was written before
+-- what a call writes stands after what was written before
 pub appends_behind : {E : Type 0} (r : Result (Unit {0}) E) (a b c : Option (List ℕ)) (bs cs : List ℕ) → Appends a b bs → OnOk r (Appends b c cs) → OnOk r (Appends a c (bs ++ cs))
 appends_behind (Ok x) a b c bs cs p q = Appends-trans a b c bs cs p q
 appends_behind (Err e) a b c bs cs p q = tt
 
--- what was written stays so where what the writer holds is kept
+-- what was written stays so if what the writer holds is kept
 pub appends_flushed : {E : Type 0} (r : Result (Unit {0}) E) (a b c : Option (List ℕ)) (bs : List ℕ) → Appends a b bs → Keeps b c → OnOk r (Appends a c bs)
 appends_flushed (Ok x) a b c bs wrote kept = Appends-kept a b c bs wrote kept
 appends_flushed (Err e) a b c bs wrote kept = tt

@@ -1,4 +1,4 @@
--- The options of a PDU, told one by one.
+-- The options of a PDU, shown one by one.
 use Rattle.std.proofs.Common.{◌≡◌, ℕ, List, [], ◌∷◌, ◌++◌, Option, Some, MatchOption, sym, ap, subst, ◌∙◌, append_assoc, Bor}
 use Rattle.std.specs.List.{flat_map}
 use Rattle.cfdp_directives.specs.Pdu.Tlv.{Tlv}

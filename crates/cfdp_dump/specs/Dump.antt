@@ -23,20 +23,20 @@ unfoldable pub lines : List ℕ → List (List ℕ)
 lines [] = []
 lines (octet ∷ rest) = if octet == 10 then [] ∷ lines rest else onto_first octet (lines rest)
 
--- This is told of a piece.
+-- This is shown of a piece.
 abbrev pub TellsPiece : DumpRequest → List Channel → Piece → List told.Told → List Channel → Type 0
 TellsPiece request channels (Octets octets) tolds after =
     TellsUnit request channels octets tolds after
 TellsPiece request channels (Bad before digits) tolds after =
     TellsOne (BadHex before digits) channels tolds after
 
--- All of these pieces was told, behind frames of these channels.
+-- All of these pieces was written, after frames of these channels.
 abbrev pub WritesPieces : DumpRequest → List Piece → (before after : List Channel)
     → (old new : Option (List ℕ)) → Type 0
 WritesPieces request ps before after old new =
     WritesMore (TellsPiece request) request before ps after old new
 
--- All of a capture was told: what it spells to its end, or to what can't be read.
+-- All of a capture was shown: what it spells to its end, or to what can't be read.
 pub record WritesCapture (request : DumpRequest) (start : CaptureState) (file : List ℕ)
     (old new : Option (List ℕ)) : Type 0 where
   pub items : List ItemText
@@ -45,32 +45,32 @@ pub record WritesCapture (request : DumpRequest) (start : CaptureState) (file : 
   pub after : List Channel
   pub written : WritesRun (TellsItem (length file) request) request items after old new
 
--- All was told that the lines of a text spell.
+-- All that the lines of a text spell was shown.
 pub record WritesText (request : DumpRequest) (text : List ℕ) (old new : Option (List ℕ))
     : Type 0 where
   pub after : List Channel
   pub written : WritesRun (TellsPiece request) request
       (pieces request.by_tools None (lines text)) after old new
 
--- A file is read as a capture where it begins as one, else as lines.
+-- A file is read as a capture if it begins as one, otherwise as lines.
 abbrev pub WritesFile : DumpRequest → (file : List ℕ) → (old new : Option (List ℕ)) → Type 0
 WritesFile request file old new =
     MatchOption (start_of file) (WritesText request file old new)
     (λ start. WritesCapture request start file old new)
 
--- how many octets a file has at most: 64 MiB as a capture or as tools write it, else 1 MiB
+-- how many octets a file has at most: 64 MiB as a capture or as tools write it, otherwise 1 MiB
 abbrev pub most_octets : DumpRequest → (file : List ℕ) → ℕ
 most_octets request file =
     if request.by_tools || is_some (start_of file) then 67108864 else 1048576
 
--- A file isn't too long to be read, where it is known.
+-- A file isn't too long to be read, if it is known.
 abbrev pub IsShort : DumpRequest → Option (List ℕ) → Type 0
 IsShort request left = IfSome left (λ file. length file ≤ most_octets request file)
 
 -- How a dump ends, by what the reader has left and what the writer holds before and after. Complete
--- says that all was told. Where the lines couldn't be read, or are too many, nothing is
--- written. Where a line couldn't be written, or there was no memory for it, all had been read; of
--- what was written nothing is said, as no writer says what it took of a text before it failed.
+-- says that all was shown. If the lines couldn't be read, or are too many, nothing is written. If a
+-- line couldn't be written, or there was no memory for it, all had been read; of what was written
+-- nothing is said, as no writer says what it took of a text before it failed.
 abbrev pub EndsDump : DumpRequest → (left old new : Option (List ℕ)) → Exit → Type 0
 EndsDump request left old new Complete = IsShort request left
     × IfSome left (λ file. WritesFile request file old new)

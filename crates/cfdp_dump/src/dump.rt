@@ -43,7 +43,7 @@ const MAX_FILE: usize = 67_108_864;
 /// The longest input that is digits alone, in octets: 1 MiB.
 const MAX_DIGITS: usize = 1_048_576;
 
-/// What the lines of a dump are to spell.
+/// What the lines of a dump must spell.
 #[derive(Clone, Copy)]
 pub enum DumpKind {
     /// PDUs.
@@ -52,24 +52,24 @@ pub enum DumpKind {
     Frames,
 }
 
-/// What lines are to be told.
+/// What the lines are that a dump reads, and how it must show them.
 #[derive(Clone, Copy)]
 pub struct DumpRequest {
     /// What the lines are.
     pub kind: DumpKind,
-    /// What frames are made of: their packet zone has 16 to 2,040 octets, and their insert zone up
-    /// to 64.
+    /// What frames are made of: their packet zone must have 16 to 2,040 octets, and their insert
+    /// zone at most 64.
     pub shape: FrameShape,
-    /// How they are told.
+    /// How they are shown.
     pub form: DumpForm,
-    /// Whether what frames carry is told, too: their packets, and the PDUs in these.
+    /// Whether what frames carry is shown, too: their packets, and the PDUs in these.
     pub deep: bool,
     /// Whether lines are read as tools write them that show octets.
     pub by_tools: bool,
 }
 
-/// Reads a file to its end, and writes what it spells: a capture if it begins as one, else lines of
-/// hexadecimal digits.
+/// Reads a file to its end, and writes what it spells: a capture if it begins as one, otherwise
+/// lines of hexadecimal digits.
 ///
 /// For each line it writes one that says what the line spells, or with fields a line for each and
 /// an empty one. A line is pairs of digits, of either case, and ends with a line feed, which the
@@ -81,8 +81,8 @@ pub struct DumpRequest {
 /// Of a capture it does the same for the payload of each UDP datagram, or for what was captured
 /// as it is, and names what it can't read.
 ///
-/// Frames have the packet zone and the fields of `shape`, and are told whatever their spacecraft
-/// and channel. Of PDUs `shape` says nothing. Where `deep` is true, behind a frame stands what it
+/// Frames have the packet zone and the fields of `shape`, and are shown whatever their spacecraft
+/// and channel. Of PDUs `shape` says nothing. If `deep` is true, after a frame stands what it
 /// carries, by the frames before it.
 ///
 /// The answer is `Complete` whatever the lines say, once all have left the buffer. It is `Device`
@@ -127,7 +127,7 @@ pub fn dump_lines<R: Read + Drop, W: Write>(
     }
 }
 
-/// What failed where the output was not written to its end.
+/// Returns what failed if the output was not written to its end.
 fn write_fault(error: &io::Error) -> Fault
     ensures { (result ≡ Fault.NoMemory) ⊎ (result ≡ Fault.Unwritable) }
 {
@@ -145,11 +145,11 @@ fn is_short(alloc: Global, request: DumpRequest, file: &[u8]) -> bool
     request.by_tools || file.len() <= MAX_DIGITS || Capture::of(alloc, file).is_some()
 }
 
-/// Writes what a file spells: a capture, where it begins as one, else lines.
+/// Writes what a file spells: a capture, if it begins as one, otherwise lines.
 ///
 /// # Errors
 ///
-/// That of the writer, or `OutOfMemory`.
+/// The error of the writer, or `OutOfMemory`.
 fn write_dump<W: Write>(
     alloc: Global,
     request: DumpRequest,
@@ -170,7 +170,7 @@ fn write_dump<W: Write>(
 ///
 /// # Errors
 ///
-/// That of the writer, or `OutOfMemory`.
+/// The error of the writer, or `OutOfMemory`.
 fn write_lines<W: Write>(
     alloc: Global,
     request: DumpRequest,
@@ -195,7 +195,7 @@ fn write_lines<W: Write>(
     write_ended(request, begun, &mut channels, out)
 }
 
-/// The first line of a text, without its line feed, and the text behind it.
+/// Returns the first line of a text, without its line feed, and the text after it.
 fn cut_line(text: &[u8]) -> (&[u8], &[u8])
     requires { 0 < length text.now }
     ensures lines { dumps.lines text.now ≡ result.0.now ∷ dumps.lines result.1.now }
@@ -212,7 +212,7 @@ fn cut_line(text: &[u8]) -> (&[u8], &[u8])
 ///
 /// # Errors
 ///
-/// That of the writer, or `OutOfMemory`.
+/// The error of the writer, or `OutOfMemory`.
 fn write_ended<W: Write>(
     request: DumpRequest,
     ended: Option<Vec<u8>>,
@@ -233,7 +233,7 @@ fn write_ended<W: Write>(
 ///
 /// # Errors
 ///
-/// That of the writer, or `OutOfMemory`.
+/// The error of the writer, or `OutOfMemory`.
 fn write_piece<W: Write>(
     request: DumpRequest,
     piece: Option<Piece<'_>>,
@@ -251,12 +251,12 @@ fn write_piece<W: Write>(
     }
 }
 
-/// Writes that what stands behind so many octets of a line isn't pairs of hexadecimal digits, and
-/// where.
+/// Writes that what stands after so many octets of a line isn't pairs of hexadecimal digits, and at
+/// which column.
 ///
 /// # Errors
 ///
-/// That of the writer.
+/// The error of the writer, if it fails.
 fn write_bad_hex<W: Write>(
     request: DumpRequest,
     before: u8,
@@ -270,8 +270,8 @@ fn write_bad_hex<W: Write>(
     writeln!(out, "{}{place}{}", Refusal::Hex, request.form.end())
 }
 
-/// The octets that the hexadecimal digits of a text spell, in either case, with spaces between
-/// words that may begin with `0x`. `None` where it has anything else.
+/// Returns the octets that the hexadecimal digits of a text spell, in either case, with spaces
+/// between words that may begin with `0x`. Returns `None` if it has anything else.
 fn parse_hex(alloc: Global, text: &[u8]) -> Result<Option<Vec<u8>>, AllocError>
     ensures { IfOk result (λ octets. option_map (λ v. v.items) octets ≡ hex_octets text.now) }
 {
@@ -279,7 +279,7 @@ fn parse_hex(alloc: Global, text: &[u8]) -> Result<Option<Vec<u8>>, AllocError>
     parse_digits(alloc, digits.as_slice())
 }
 
-/// The words of a text without the spaces between, and without `0x` where one begins so.
+/// Returns the words of a text without the spaces between, and without `0x` if one begins so.
 fn digits_of(alloc: Global, line: &[u8]) -> Result<Vec<u8>, AllocError>
     ensures { IfOk result (λ digits. digits.items ≡ rows.digits_of line.now) }
 {
@@ -293,7 +293,7 @@ fn digits_of(alloc: Global, line: &[u8]) -> Result<Vec<u8>, AllocError>
     Ok(digits)
 }
 
-/// A word without `0x` in front.
+/// Returns a word without the `0x` that it may begin with.
 fn bare(word: &[u8]) -> &[u8]
     ensures { result.now ≡ rows.bare word.now }
 {
@@ -304,8 +304,8 @@ fn bare(word: &[u8]) -> &[u8]
     }
 }
 
-/// The octets that pairs of hexadecimal digits spell, in either case. `None` where there is
-/// anything else.
+/// Returns the octets that pairs of hexadecimal digits spell, in either case. Returns `None` if
+/// there is anything else.
 fn parse_digits(alloc: Global, digits: &[u8]) -> Result<Option<Vec<u8>>, AllocError>
     ensures { IfOk result (λ octets. option_map (λ v. v.items) octets
         ≡ result_ok (decode_of digits.now)) }

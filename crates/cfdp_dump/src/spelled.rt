@@ -82,8 +82,8 @@ pub fn write_frame<W: Write>(
     }
 }
 
-/// The frame of this shape that the octets are, of the link that its own header names, and its
-/// fields.
+/// Returns the frame of this shape that the octets are, of the link that its own header names, and
+/// its fields.
 ///
 /// # Errors
 ///
@@ -114,7 +114,7 @@ fn read_frame(octets: &[u8], shape: FrameShape) -> Result<(FrameLine, FrameParts
     Ok((frame, parts_of(octets, shape.fields)))
 }
 
-/// The channel that the header of a frame of this shape names.
+/// Returns the channel that the header of a frame of this shape names.
 fn own_channel(octets: &[u8], shape: FrameShape) -> ChannelConfig
     requires { 6 ≤ length octets.now }
     ensures { result ≡ channel_in octets.now shape }
@@ -128,7 +128,7 @@ fn own_channel(octets: &[u8], shape: FrameShape) -> ChannelConfig
     }
 }
 
-/// The fields of a frame beside its M_PDU.
+/// Returns the fields of a frame beside its M_PDU.
 fn parts_of(octets: &[u8], fields: FrameFields) -> FrameParts<'_>
     requires { 6 + extra fields ≤ length octets.now }
     ensures insert { result.insert.now ≡ insert_in fields octets.now }

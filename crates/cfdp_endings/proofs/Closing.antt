@@ -1,4 +1,4 @@
--- Where each fault ends its transaction, all records are closed in the end, and may be let go.
+-- If each fault ends its transaction, all records are closed in the end, and may be discarded.
 use Rattle.std.proofs.Common.{◌≡◌, ℕ, zero, suc, ◌≤◌, not, cond, Bool, true, false, List, [], ◌∷◌, slice_get, Option, Some, None, refl, sym, ap, subst, ◌∙◌, arith}
 use Rattle.std.proofs.lemmas.Bool.{false≢true, cond_both}
 use Rattle.indexmap.specs.IndexMap.{set_value_at}
@@ -124,7 +124,7 @@ rounds-awake laws policy (suc n) old new is ends t run all =
     let one = round-less old run.0 (gives-up old.table.policy here) t run.1 in
     rounds-awake laws policy n run.0 new (one.1 ∙ is) ends (Rattle.cfdp_endings.proofs.Rounds.round-timely laws old run.0 run.1 t) run.2 (round-awake old run.0 here run.1 all)
 
--- ---- what is closed may be let go
+-- ---- what is closed may be discarded
 seen-closed : (limits : Limits) (s : Seen) → seen_left limits s ≡ 0 → Awake s → is_closed (phase_of s) ≡ true
 seen-closed limits (Sends x) h awake = ap (λ p. is_closed (phase_told p)) (alone.left-closed limits x h (not-true x.suspended awake))
 seen-closed limits (Receives r m) h awake = ap (λ p. is_closed (public_phase p)) (receives.left-closed limits r h (not-true r.suspended awake))

@@ -95,7 +95,7 @@ some_is : {X : Type 0} (x y : X) → Some x ≡ Some y → y ≡ x
 some_is x y e = cc
 
 -- ---- a sender
--- also where the outbox fails
+-- even if the outbox fails
 pub record Falls (file : List ℕ) (x : SenderState) (d : SenderDue) : Type 0 where
   pub done : sender_dues (sender_sends Done file x d).sender < sender_dues x
   pub refused : sender_dues (sender_sends Refused file x d).sender < sender_dues x
@@ -177,7 +177,7 @@ module _ (file : List ℕ) (x : SenderState) where
   sender-falls Refused d inside e = (falls d inside e).refused
 
 -- ---- a receiver
--- where the last of the pairs of a NAK ends
+-- the end of the last of the pairs of a NAK
 ends-further : (passes : ℕ → Bool) (from limit end n : ℕ) (rs : List (ℕ × ℕ)) → (from < end) × (end ≤ limit) → AllRangesIn passes from limit rs → (from < last_end end (take n rs))
     × (last_end end (take n rs) ≤ limit)
 ends-further passes from limit end zero rs b h = b

@@ -147,7 +147,7 @@ run-lowers policy (i ∷ is) m files old new g run =
     let later = run-lowers policy is a.octets a.files a.receiver new g run.1 in
     omega (arith, first, later)
 
--- ---- where none is left
+-- ---- if none is left
 over-at : (limits : Limits) (s : Bool) (p : ReceiverPhase) (e : Option Ending) (r : ReceiverState) → receiver_left limits (at s p e r) ≡ 0 → (receiver_open (at s p e r) ≡ false) × (s ≡ false → p ≡ Closed)
 over-at limits true p e r h = (refl, λ awake. absurd (true≢false awake))
 over-at limits false Closed e r h = (refl, λ awake. refl)
@@ -179,7 +179,7 @@ most-at limits false Finishing e r = omega arith
 pub most : (limits : Limits) (r : ReceiverState) → receiver_left limits r ≤ (limits.nak + 1) + (limits.finished + 1)
 most limits r = most-at limits r.suspended r.phase r.ending r
 
--- ---- what its user is told
+-- ---- what is indicated
 abbrev Tells : ReceiverState → ReceiverAfter → Type 0
 Tells r a = receiver_open a.receiver ≡ false → TellsEnd r.addressing.id a.told
 
@@ -229,7 +229,7 @@ step-told policy stored Cancels m files r alone is_open = absurd alone
 step-told policy stored Suspends m files r alone is_open = absurd alone
 step-told policy stored Resumes m files r alone is_open = absurd alone
 
--- ---- where no handler suspends it
+-- ---- if no handler suspends it
 abbrev Awake : ReceiverState → Type 0
 Awake r = r.suspended ≡ false
 

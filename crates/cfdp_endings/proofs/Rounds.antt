@@ -229,7 +229,7 @@ pub rounds-less : MachineLaws → (n : ℕ) (old new : EntityState) → GivesUp 
     n + records_left old.table.policy.limits new.table.records ≤ records_left old.table.policy.limits old.table.records
 rounds-less laws n old new g t run = rounds-by laws old.table.policy n old new refl g t run
 
--- ---- where none is left
+-- ---- if none is left
 seen-over : (limits : Limits) (s : Seen) → seen_left limits s ≡ 0 → seen_open s ≡ false
 seen-over limits (Sends x) h = alone.left-over limits x h
 seen-over limits (Receives r m) h = receives.left-over limits r h
@@ -300,7 +300,7 @@ entry-goes st place e t at is_open = elim (seen-goes e.1 (owe-at st.records plac
   | inr waits ↦ inr (waits.0, t.timed.armed e.0 waits.0 (ap (waits_for waits.0) (at-own st.records place e t.distinct at) ∙ waits.1))
 ]
 
--- where it rests, nothing is due
+-- if it rests, nothing is due
 rests-none : (next : Option ℕ) → record_turn next ≡ Rests → next ≡ None
 rests-none None h = refl
 rests-none (Some place) h = absurd cc

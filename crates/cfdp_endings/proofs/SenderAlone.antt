@@ -28,7 +28,7 @@ use Rattle.cfdp_sender.specs.Inputs.{SenderInput, Sends, HearsAck, HearsNak, Hea
 use Rattle.cfdp_endings.specs.Limits.{tries_left, is_ignored, ends_it, TellsEnd}
 use Rattle.cfdp_endings.specs.Sender.{sender_open, owes_eof, owes_eof_in, SenderGoesOn, SenderAlone, expiry, expiries, SenderRuns, SenderGivesUp, SenderEnds, left_in, sender_left}
 
--- ---- what a cancelled sender owes
+-- ---- what a cancelled sender must still send
 abbrev Owes : SenderState → Type 0
 Owes x = owes_eof x ≡ true
 
@@ -298,7 +298,7 @@ run-lowers policy file (i ∷ is) old new g run =
     let later = run-lowers policy file is (sender_step policy file i old).sender new g run.1 in
     omega (arith, first, later)
 
--- ---- where none is left
+-- ---- if none is left
 over-at : (limits : Limits) (s : Bool) (p : SenderPhase) (k : Bool) (x : SenderState) → sender_left limits (at s p k x) ≡ 0 → (sender_open (at s p k x) ≡ false) × (s ≡ false → p ≡ Closed)
 over-at limits true p k x h = (refl, λ awake. absurd (true≢false awake))
 over-at limits false Closed k x h = (refl, λ awake. refl)
@@ -330,7 +330,7 @@ most-at limits false Cancelling k x = omega arith
 pub most : (limits : Limits) (x : SenderState) → sender_left limits x ≤ 2 * (limits.eof + 1)
 most limits x = most-at limits x.suspended x.phase x.acknowledged x
 
--- ---- what its user is told
+-- ---- what is indicated
 handled-told : (h : Handler) (condition : ℕ) (ignored x : SenderState) → sender_open ignored ≡ true → sender_open (handled h condition ignored x) ≡ false →
     TellsEnd x.addressing.id (fault_told h x.addressing.id condition)
 handled-told Cancel condition ignored x i over = absurd (true≢false over)
@@ -390,7 +390,7 @@ step-told policy file Suspends x alone is_open = absurd alone
 step-told policy file Resumes x alone is_open = absurd alone
 step-told policy file (Prompts keep_alive) x alone is_open = absurd alone
 
--- ---- where no handler suspends it
+-- ---- if no handler suspends it
 abbrev Awake : SenderState → Type 0
 Awake x = x.suspended ≡ false
 

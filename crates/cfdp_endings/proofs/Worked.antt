@@ -23,7 +23,7 @@ use Rattle.cfdp_endings.specs.Receiver.{receiver_left, receiver_open}
 
 -- once each is sent again
 abbrev policy : Policy
-policy = record { limits = record { eof = 1; nak = 1; finished = 1 }; times = default_times; handlers = record { ack = Cancel; nak = Cancel; inactivity = Cancel } }
+policy = record { limits = record { eof = 1; nak = 1; finished = 1 }; times = default_times; handlers = record { ack = Cancel; nak = Cancel; inactivity = Cancel }; most_gaps = None }
 
 -- ---- a sender of an empty file, whose EOF was sent and isn't acknowledged
 abbrev waiting : SenderState → SenderState
@@ -84,9 +84,9 @@ lacking r = record r {
 receiver-left : (r : ReceiverState) → receiver_left policy.limits (lacking r) ≡ 4
 receiver-left r = refl
 
--- ---- where inactivity is ignored, each of its expiries begins the count of NAKs anew
+-- ---- if inactivity is ignored, each of its expiries begins the count of NAKs again
 abbrev ignoring : Policy
-ignoring = record { limits = record { eof = 1; nak = 1; finished = 1 }; times = default_times; handlers = record { ack = Cancel; nak = Cancel; inactivity = Ignore } }
+ignoring = record { limits = record { eof = 1; nak = 1; finished = 1 }; times = default_times; handlers = record { ack = Cancel; nak = Cancel; inactivity = Ignore }; most_gaps = None }
 
 -- the NAK's timer expires, its NAK is sent, and Inactivity expires
 abbrev around : ReceiverState → ReceiverState

@@ -24,7 +24,7 @@ abbrev pub one_if : Bool → ℕ
 one_if b = if b then 1 else 0
 
 -- of a sender: a Prompt, Metadata, at most one PDU for each octet that was asked for and for each
--- that wasn't sent yet, EOF, and the EOF that cancels where a read fails
+-- that wasn't sent yet, EOF, and the EOF that cancels if a read fails
 abbrev pub file_dues : SenderState → ℕ
 file_dues x = one_if (is_some x.prompt_due) + one_if x.metadata_due + count_below x.asked x.size
     + (x.size - x.sent) + one_if (x.eof_due || not x.eof_taken) + 1
@@ -38,7 +38,7 @@ sender_dues_in sending.Closed file eof_due = 0
 abbrev pub sender_dues : SenderState → ℕ
 sender_dues x = one_if (is_some x.ack_due) + sender_dues_in x.phase (file_dues x) x.eof_due
 
--- of a receiver: NAKs from an offset on, each of which but the last moves that offset on
+-- of a receiver: NAKs from an offset on; each except the last moves that offset on
 abbrev pub nak_dues : Option ℕ → (limit : ℕ) → ℕ
 nak_dues (Some from) limit = limit - from + 1
 nak_dues None limit = 0

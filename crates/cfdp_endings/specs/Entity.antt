@@ -1,4 +1,4 @@
--- An entity of which nothing is heard: what is open in its table, and for how long.
+-- An entity that hears nothing: what is open in its table, and for how long.
 use Rattle.std.specs.Prelude.{◌≡◌, ◌⊎◌, ℕ, zero, suc, ◌+◌, ◌*◌, max, not, Bool, true, false, List, [], ◌∷◌, slice_get, Some, if◌then◌else◌}
 use Rattle.std.specs.List.{IsDistinct}
 use Rattle.std.specs.Map.{keys_of}
@@ -23,7 +23,7 @@ use Rattle.cfdp_endings.specs.Sender.{sender_open, sender_left, owes_eof, Sender
 use Rattle.cfdp_endings.specs.Receiver.{receiver_open, receiver_left, ReceiverGivesUp, ReceiverEnds}
 
 -- ---- a record
--- whether it is open: neither closed nor suspended
+-- `true` if it is open: neither closed nor suspended
 abbrev pub seen_open : Seen → Bool
 seen_open (Sends x) = sender_open x
 seen_open (Receives r m) = receiver_open r
@@ -33,7 +33,7 @@ abbrev pub seen_left : Limits → Seen → ℕ
 seen_left limits (Sends x) = sender_left limits x
 seen_left limits (Receives r m) = receiver_left limits r
 
--- What it waits to be answered, an EOF that cancels or a Finished, is due or was sent; and what a
+-- What it must get an answer to, an EOF that cancels or a Finished, is due or was sent; and what a
 -- sender has due is in its file.
 abbrev pub IsOwing : Seen → Type 0
 IsOwing (Sends x) = (owes_eof x ≡ true) × IsInFile x
@@ -65,14 +65,14 @@ AllOwe [] = Unit {0}
 AllOwe (e ∷ es) = IsOwing e.1 × AllOwe es
 
 -- ---- a table
--- Each transaction has one record, the timers that are armed are those that records wait for, and
--- what a record waits to be answered is due or was sent.
+-- Each transaction must have one record, the timers that are armed are those that records wait for,
+-- and if a record waits for an answer to something, that is due or was sent.
 pub record IsTimely (st : TableState) : Type 0 where
   pub distinct : IsDistinct same_id (keys_of st.records)
   pub timed : AreTimed st
   pub owing : AllOwe st.records
 
--- An entity whose configuration is valid, and whose table is so and does as it is configured.
+-- An entity whose configuration must be valid, and whose table is so and does as it is configured.
 pub record IsLively (e : EntityState) : Type 0 where
   pub config : IsConfig e.config
   pub policy : e.table.policy ≡ e.config.policy
@@ -82,7 +82,7 @@ pub record IsLively (e : EntityState) : Type 0 where
 abbrev pub EntryGoesOn : TableState → Entry → Type 0
 EntryGoesOn st e = (has_due e ≡ true) ⊎ ((k : Kind) × (is_armed e.0 k st ≡ true))
 
--- Neither limits nor inactivity are ignored.
+-- Neither limits nor inactivity may be ignored.
 pub record GivesUp (policy : Policy) : Type 0 where
   pub sends : SenderGivesUp policy
   pub receives : ReceiverGivesUp policy
@@ -93,8 +93,8 @@ abbrev pub AreServed : List Stored → (old new : EntityState) → Type 0
 AreServed [] old new = new ≡ old
 AreServed (stored ∷ more) old new = AreServed more (served stored (turn old) old) new
 
--- It was told a time by which some timer's deadline had come, and then polled until nothing was
--- due. It heard nothing, and its user asked nothing of it.
+-- It was given a time by which some timer's deadline must have come, and then polled until nothing
+-- was due. It heard nothing, and its user asked nothing of it.
 pub record IsRound (old new : EntityState) : Type 0 where
   pub now : ℕ
   pub timer : Timer
@@ -111,7 +111,7 @@ abbrev pub AreRounds : ℕ → (old new : EntityState) → Type 0
 AreRounds zero old new = new ≡ old
 AreRounds (suc n) old new = (mid : EntityState) × IsRound old mid × AreRounds n mid new
 
--- ---- where all is over
+-- ---- if all is over
 -- None of these records is suspended.
 abbrev pub is_awake : Seen → Bool
 is_awake (Sends x) = not x.suspended
@@ -121,12 +121,12 @@ abbrev pub AllAwake : List Entry → Type 0
 AllAwake [] = Unit {0}
 AllAwake (e ∷ es) = (is_awake e.1 ≡ true) × AllAwake es
 
--- Each fault of a limit, and of inactivity, ends its transaction.
+-- Each fault of a limit, and of inactivity, must end its transaction.
 pub record Ends (policy : Policy) : Type 0 where
   pub sends : SenderEnds policy
   pub receives : ReceiverEnds policy
 
--- Each of these records is closed, and may be let go.
+-- Each of these records is closed, and may be discarded.
 abbrev pub AllOver : List Entry → Type 0
 AllOver records = (place : ℕ) (e : Entry) → slice_get records place ≡ Some e
     → over_in (slice_get records place) ≡ Some e.0

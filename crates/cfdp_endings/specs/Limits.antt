@@ -1,4 +1,4 @@
--- How long a machine goes on that nobody answers: what both machines have in common.
+-- How long a machine goes on if nobody answers it: what both machines have in common.
 use Rattle.std.specs.Prelude.{◌≡◌, ◌⊎◌, ℕ, ◌+◌, ◌-◌, Bool, true, false, List, [], ◌∷◌}
 use Rattle.cfdp_header.specs.declared.value.TransactionId.{TransactionId}
 use Rattle.cfdp_directives.specs.declared.user.handler.Handler.{Handler}
@@ -11,14 +11,14 @@ use Rattle.cfdp_directives.specs.declared.user.indication.Indication.TheVariants
 abbrev pub tries_left : (count limit : ℕ) → ℕ
 tries_left count limit = limit - count + 1
 
--- whether a fault with this handler is only indicated, and the transaction goes on as before
+-- `true` if a fault with this handler is only indicated, and the transaction goes on as before
 abbrev pub is_ignored : Handler → Bool
 is_ignored Cancel = false
 is_ignored Suspend = false
 is_ignored Ignore = true
 is_ignored Abandon = false
 
--- whether a fault with this handler ends the transaction
+-- `true` if a fault with this handler ends the transaction
 abbrev pub ends_it : Handler → Bool
 ends_it Cancel = true
 ends_it Suspend = false

@@ -1,4 +1,4 @@
--- A receiver of whose transaction nothing is heard: what may happen to it, and how long.
+-- A receiver that hears nothing of its transaction: what may happen to it, and how long.
 use Rattle.std.specs.Prelude.{◌≡◌, ◌⊎◌, ℕ, ◌+◌, ◌&&◌, not, Bool, true, false, List, [], ◌∷◌, is_some, Some, if◌then◌else◌}
 use Rattle.cfdp_header.specs.Files.{FileMap}
 use Rattle.cfdp_timers.specs.declared.kind.Kind.{Kind}
@@ -20,7 +20,7 @@ is_unclosed Receiving = true
 is_unclosed Finishing = true
 is_unclosed Closed = false
 
--- whether it is open: neither closed nor suspended
+-- `true` if it is open: neither closed nor suspended
 abbrev pub receiver_open : ReceiverState → Bool
 receiver_open r = not r.suspended && is_unclosed r.phase
 
@@ -29,7 +29,7 @@ abbrev pub ReceiverGoesOn : ReceiverState → Type 0
 ReceiverGoesOn r = (is_some (receiver_due r) ≡ true) ⊎ ((k : Kind) × (waits k r ≡ true))
 
 -- ---- alone
--- All that happens to a receiver that hears nothing, and of which its user asks nothing: the PDU
+-- All that happens to a receiver if it hears nothing and its user asks nothing of it: the PDU
 -- that is due is sent, and a timer that it waits for expires.
 abbrev pub ReceiverAlone : Policy → ReceiverInput → ReceiverState → Type 0
 ReceiverAlone policy (Takes d) r = receiver_due r ≡ Some d
@@ -45,8 +45,8 @@ abbrev pub expiries : List ReceiverInput → ℕ
 expiries [] = 0
 expiries (i ∷ is) = expiry i + expiries is
 
--- These happened to it, one after another, while it was alone. How the inbox answers is nothing to
--- any of them.
+-- These happened to it, one after another, while it was alone. How the inbox answers changes none
+-- of them.
 abbrev pub ReceiverRuns : Policy → List ReceiverInput → OctetMap → FileMap →
     (old new : ReceiverState) → Type 0
 ReceiverRuns policy [] m files old new = new ≡ old
@@ -54,19 +54,19 @@ ReceiverRuns policy (i ∷ is) m files old new = ReceiverAlone policy i old
     × ReceiverRuns policy is (receiver_step Done i m files old).octets
     (receiver_step Done i m files old).files (receiver_step Done i m files old).receiver new
 
--- Neither of the faults that a receiver has a handler for is ignored.
+-- No fault for which a receiver has a handler may be ignored.
 pub record ReceiverGivesUp (policy : Policy) : Type 0 where
   pub nak : is_ignored policy.handlers.nak ≡ false
   pub inactivity : is_ignored policy.handlers.inactivity ≡ false
 
--- Both end the transaction.
+-- Each of these faults must end the transaction.
 pub record ReceiverEnds (policy : Policy) : Type 0 where
   pub nak : ends_it policy.handlers.nak ≡ true
   pub inactivity : ends_it policy.handlers.inactivity ≡ true
 
 -- ---- how long
--- While it receives: the tries of its NAK once an EOF was heard, and before that one expiry of
--- Inactivity. Where that cancels, the tries of its Finished come on top.
+-- While it receives: the tries of its NAK if an EOF was heard, and before that one expiry of
+-- Inactivity. If that cancels, the tries of its Finished come on top.
 abbrev pub left_in : ReceiverPhase → (ended : Bool) → (naks finished : ℕ) → Limits → ℕ
 left_in Receiving ended naks finished limits =
     (if ended then tries_left naks limits.nak else 1) + tries_left 0 limits.finished

@@ -1,4 +1,4 @@
--- A sender of whose transaction nothing is heard: what may happen to it, and how long.
+-- A sender that hears nothing of its transaction: what may happen to it, and how long.
 use Rattle.std.specs.Prelude.{◌≡◌, ◌⊎◌, ℕ, ◌+◌, ◌&&◌, ◌||◌, not, Bool, true, false, List, [], ◌∷◌, is_some, Some, if◌then◌else◌}
 use Rattle.cfdp_timers.specs.declared.kind.Kind.{Kind}
 use Rattle.cfdp_directives.specs.declared.user.limits.Limits.{Limits}
@@ -17,11 +17,11 @@ is_unclosed Sending = true
 is_unclosed Cancelling = true
 is_unclosed Closed = false
 
--- whether it is open: neither closed nor suspended
+-- `true` if it is open: neither closed nor suspended
 abbrev pub sender_open : SenderState → Bool
 sender_open x = not x.suspended && is_unclosed x.phase
 
--- whether an EOF is due or was sent, where the transaction was cancelled
+-- `true` if an EOF is due or was sent, or if the transaction wasn't cancelled
 abbrev pub owes_eof_in : SenderPhase → (due taken : Bool) → Bool
 owes_eof_in Cancelling due taken = due || taken
 owes_eof_in _ due taken = true
@@ -34,8 +34,8 @@ abbrev pub SenderGoesOn : SenderState → Type 0
 SenderGoesOn x = (is_some (sender_due x) ≡ true) ⊎ ((k : Kind) × (sender_waits k x ≡ true))
 
 -- ---- alone
--- All that happens to a sender that hears nothing, and of which its user asks nothing: the PDU that
--- is due is sent, also where the outbox fails to give its octets, and a timer that it waits for
+-- All that happens to a sender if it hears nothing and its user asks nothing of it: the PDU that
+-- is due is sent, even if the outbox fails to give its octets, and a timer that it waits for
 -- expires.
 abbrev pub SenderAlone : SenderInput → SenderState → Type 0
 SenderAlone (Sends stored d) x = sender_due x ≡ Some d
@@ -58,19 +58,19 @@ SenderRuns policy file [] old new = new ≡ old
 SenderRuns policy file (i ∷ is) old new =
     SenderAlone i old × SenderRuns policy file is (sender_step policy file i old).sender new
 
--- Neither of the faults that a sender has a handler for is ignored.
+-- No fault for which a sender has a handler may be ignored.
 pub record SenderGivesUp (policy : Policy) : Type 0 where
   pub ack : is_ignored policy.handlers.ack ≡ false
   pub inactivity : is_ignored policy.handlers.inactivity ≡ false
 
--- Both end the transaction.
+-- Each of these faults must end the transaction.
 pub record SenderEnds (policy : Policy) : Type 0 where
   pub ack : ends_it policy.handlers.ack ≡ true
   pub inactivity : ends_it policy.handlers.inactivity ≡ true
 
 -- ---- how long
--- While it sends: the tries of its EOF, or one expiry of Inactivity once that was acknowledged.
--- Where that cancels, the tries of the EOF that says so come on top.
+-- While it sends: the tries of its EOF, or one expiry of Inactivity if that was acknowledged.
+-- If that cancels, the tries of the EOF that says so come on top.
 abbrev pub left_in : SenderPhase → (acknowledged : Bool) → (count limit : ℕ) → ℕ
 left_in Sending acknowledged count limit =
     (if acknowledged then 1 else tries_left count limit) + tries_left 0 limit

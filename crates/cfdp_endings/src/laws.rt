@@ -48,8 +48,8 @@ ghost use Rattle.cfdp_endings.specs.Dues.{ArePolls, entity_dues};
 use cfdp_receiver::a_finished_says_what_was_indicated;
 use cfdp_sender::what_is_due_is_in_the_file;
 
-/// A sender that is open, that is neither closed nor suspended, has a PDU due or waits for a timer.
-/// So it is of every sender, once it is opened, and whatever happens to it.
+/// If a sender is open, that is neither closed nor suspended, it has a PDU due or waits for a
+/// timer. This holds of every sender, once it is opened, and whatever happens to it.
 pub fn a_sender_is_never_silent()
     ensures goes_on { (x : SenderState) → owes_eof x ≡ true → sender_open x ≡ true
         → SenderGoesOn x }
@@ -60,9 +60,9 @@ pub fn a_sender_is_never_silent()
         → owes_eof y ≡ true }
 {}
 
-/// A sender that hears nothing more ends by its limits: once as many timers have expired as
-/// `sender_left` says, it is closed or suspended, and closed where no handler suspends it. Its user
-/// is told so. At most that takes twice the tries of an EOF.
+/// If a sender hears nothing more, it ends by its limits: once as many timers have expired as
+/// `sender_left` says, it is closed or suspended, and closed if no handler suspends it. That
+/// is indicated. At most that takes twice the tries of an EOF.
 pub fn a_sender_ends_by_its_limits()
     ensures lowers { (policy : Policy) (file : List ℕ) (input : SenderInput) (x : SenderState) →
         SenderGivesUp policy → SenderAlone input x
@@ -88,8 +88,8 @@ pub fn a_sender_ends_by_its_limits()
         sender_left limits x ≤ 2 * (limits.eof + 1) }
 {}
 
-/// A receiver that is open, that is neither closed nor suspended, has a PDU due or waits for a
-/// timer. So it is of every receiver, once it is opened, and whatever happens to it.
+/// If a receiver is open, that is neither closed nor suspended, it has a PDU due or waits for a
+/// timer. This holds of every receiver, once it is opened, and whatever happens to it.
 pub fn a_receiver_is_never_silent()
     ensures goes_on { (r : ReceiverState) → owes_finished r ≡ true → receiver_open r ≡ true
         → ReceiverGoesOn r }
@@ -104,9 +104,9 @@ pub fn a_receiver_is_never_silent()
     a_finished_says_what_was_indicated();
 }
 
-/// A receiver that hears nothing more ends by its limits: once as many timers have expired as
-/// `receiver_left` says, it is closed or suspended, and closed where no handler suspends it. Its
-/// user is told so. At most that takes the tries of a NAK and those of a Finished.
+/// If a receiver hears nothing more, it ends by its limits: once as many timers have expired as
+/// `receiver_left` says, it is closed or suspended, and closed if no handler suspends it. That
+/// is indicated. At most that takes the tries of a NAK and those of a Finished.
 pub fn a_receiver_ends_by_its_limits()
     ensures lowers { (policy : Policy) (stored : Stored) (input : ReceiverInput) (m : OctetMap)
         (files : FileMap) (r : ReceiverState) →
@@ -138,8 +138,8 @@ pub fn a_receiver_ends_by_its_limits()
         receiver_left limits r ≤ (limits.nak + 1) + (limits.finished + 1) }
 {}
 
-/// Of each record of an entity that is open, that is neither closed nor suspended, a PDU is due, or
-/// a timer of its transaction is armed. So it is of a new entity, and whatever happens to it:
+/// If a record of an entity is open, that is neither closed nor suspended, a PDU of it is due, or
+/// a timer of its transaction is armed. This holds of a new entity, and whatever happens to it:
 /// whatever it hears, what it has no memory for, and whatever its user asks.
 pub fn an_entity_is_never_silent()
     ensures goes_on { (e : EntityState) (place : ℕ) (d : Entry) → IsLively e
@@ -166,7 +166,7 @@ pub fn an_entity_is_never_silent()
         → IsLively old → IsLively new }
     ensures some { (old new : EntityState) → ForgetsSome old new → IsLively old
         → IsLively new }
-    // Files and indications are nothing to it.
+    // Files and indications change nothing for it.
     ensures alike { (old new : EntityState) → new.config ≡ old.config
         → new.table.records ≡ old.table.records → new.table.armed ≡ old.table.armed
         → new.table.policy ≡ old.table.policy → IsLively old → IsLively new }
@@ -175,10 +175,10 @@ pub fn an_entity_is_never_silent()
     what_is_due_is_in_the_file();
 }
 
-/// An entity that hears nothing more ends all that is open, by its limits: after as many rounds as
-/// `records_left` says no record is open. In each round it is told a time by which a timer's
-/// deadline has come, and then polled until nothing is due. There are no more rounds than the
-/// records that are open times `most_left`.
+/// If an entity hears nothing more, it ends all that is open, by its limits: after as many rounds
+/// as `records_left` says no record is open. In each round it must be given a time by which a
+/// timer's deadline has come, and must then be polled until nothing is due. There are no more
+/// rounds than the records that are open times `most_left`.
 pub fn an_entity_alone_ends()
     ensures round { (old new : EntityState) → GivesUp old.config.policy → IsLively old
         → IsRound old new → 1 + records_left old.config.policy.limits new.table.records
@@ -189,8 +189,8 @@ pub fn an_entity_alone_ends()
     ensures ends { (n : ℕ) (old new : EntityState) → GivesUp old.config.policy → IsLively old
         → AreRounds n old new → records_left old.config.policy.limits old.table.records ≤ n
         → NoneOpen new.table.records }
-    // Where each fault ends its transaction and none was suspended, all records are closed then, and
-    // once nothing is due each may be let go.
+    // If each fault ends its transaction and none was suspended, all records are closed then, and
+    // if nothing is due, each may be discarded.
     ensures closes { (n : ℕ) (old new : EntityState) → Ends old.config.policy → IsLively old
         → AllAwake old.table.records → AreRounds n old new
         → records_left old.config.policy.limits old.table.records ≤ n → turn new ≡ Rests
@@ -203,8 +203,8 @@ pub fn an_entity_alone_ends()
     what_is_due_is_in_the_file();
 }
 
-/// An entity that is polled comes to rest: each poll that finds something due lowers how many PDUs
-/// may still leave, also where the outbox fails. That rises only where a PDU is heard, a timer
+/// If an entity is polled, it comes to rest: each poll that finds something due lowers how many
+/// PDUs may still leave, even if the outbox fails. That rises only if a PDU is heard, a timer
 /// expires, or the user asks for something.
 pub fn polls_come_to_rest()
     ensures poll { (stored : Stored) (e : EntityState) → IsLively e → turn e ≢ Rests

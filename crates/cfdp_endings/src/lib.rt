@@ -1,4 +1,4 @@
-//! What is open ends, complete or by its limits, and never in silence, also where the peer answers
+//! What is open ends, complete or by its limits, and never in silence, even if the peer answers
 //! no more: laws of both machines, of a table of records, and of an entity.
 //!
 //! Tested by `lonely.rows` in `tests/rows/`.

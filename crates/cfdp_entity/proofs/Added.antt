@@ -51,7 +51,7 @@ module _ (sources : FileMap) (name octets : List ℕ) (free : map.get sources na
   ready-kept staged roomy [] all = tt
   ready-kept staged roomy (e ∷ es) all = (record-kept staged e.0 e.1 all.0, all.1, ready-kept staged roomy es all.2)
 
--- Nor does it where it may not have been added.
+-- Nor does it if the file wasn't added, perhaps.
 pub whole-added : {T E : Type 0} (r : Result T E) (desk : DeskState) (new : FileMap) (failures : ℕ) (name octets : List ℕ) (es : List (TransactionId × Record)) (flags : List Bool) →
     map.get desk.sources name ≡ None → OnOk r (new ≡ map.insert desk.sources name octets) → OnErr r (new ≡ desk.sources) → IsWhole desk es flags
     → IsWhole (record desk { sources = new; outbox_failures = failures }) es flags

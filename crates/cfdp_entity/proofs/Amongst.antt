@@ -1,4 +1,4 @@
--- What a table and an entity keep stays where the PDUs heard are among others, in whatever order.
+-- What a table and an entity keep stays if the PDUs heard are among others, in whatever order.
 use Rattle.std.proofs.Common.{ℕ, List, Option}
 use Rattle.std.specs.Prelude.{Contains}
 use Rattle.cfdp_header.specs.declared.value.TransactionId.{TransactionId}

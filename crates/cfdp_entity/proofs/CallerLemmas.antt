@@ -36,7 +36,7 @@ same_id-symm a b e = elim (same_id b a) as (λ t. same_id b a ≡ t → t ≡ fa
   | false ↦ λ h. refl
 ] refl
 
--- the record at a place is the one written there
+-- the record at an index is the one written there
 pub step-own : (xs : List Entry) (place : ℕ) (e : Entry) (s : Seen) → IsDistinct same_id (keys_of xs) → slice_get (keys_of xs) place ≡ Some e.0 → record_of e.0 (set_value_at xs place s) ≡ Some s
 step-own [] place e s apart at = absurd (cc)
 step-own (x ∷ xs) zero e s apart at =
@@ -74,7 +74,7 @@ none_second : {X : Type 0} (x y : Option X) → option_or x y ≡ None → y ≡
 none_second None y h = h
 none_second (Some a) y h = absurd (cc)
 
--- where there is no next, no record has something due
+-- if there is no next, no record has something due
 pub nothing-due : (from : ℕ) (records : List Entry) → next_due from records ≡ None → (k : ℕ) (d : Entry) → k < length records → has_due (get_or records k d) ≡ false
 nothing-due from records none = λ k d low.
     let none_at : position has_due records ≡ None = none_second (option_map (λ i. from + i) (position has_due (drop from records))) (position has_due records) none in

@@ -1,4 +1,4 @@
--- Exported: what a step of the record at a place does to the entries.
+-- Exported: what a step of the record at an index does to the entries.
 use Rattle.std.proofs.Common.{◌<◌, arith, length-append, ◌≡◌, ◌≢◌, ℕ, zero, suc, ◌≤◌, Bool, true, false, ◌&&◌, ◌==◌, List, [], ◌∷◌, ◌++◌, map, length, cond, slice_get, Some, None, Result, Ok, Err, IfOk, OnErr, refl, sym, ap, subst, ◌∙◌}
 use Rattle.std.specs.Prelude.{IsSome, Vec, unwrap_or, slice_set}
 use Rattle.std.specs.declared.alloc.Global.{Global}
@@ -89,7 +89,7 @@ module _ (old new : Staged) (sources : FileMap) (id : TransactionId) (keep : Oth
       let here : new e.0 ≡ old e.0 = keep e.0 (λ h. differ id e.0 apart.0 (sym h)) in
       (ready-moved old new sources e.0 e.1 here all.0, all.1, ready-others roomy es apart.1 all.2)
 
-  -- a record written at the place of the transaction is the only one that looks other than before
+  -- a record written at the index of the transaction is the only one that looks other than before
   pub seen-set : (es : List (TransactionId × Record)) (i : ℕ) (r : Record) → IsDistinct same_id (keys_of es) → slice_get (keys_of es) i ≡ Some id
       → entries_seen new (set_value_at es i r) ≡ set_value_at (entries_seen old es) i (seen (new id) r)
   unfolding entries_seen
@@ -116,7 +116,7 @@ module _ (old new : Staged) (sources : FileMap) (id : TransactionId) (keep : Oth
       let here : new e.0 ≡ old e.0 = keep e.0 (differ e.0 id other) in
       (ready-moved old new sources e.0 e.1 here all.0, all.1, ready-set roomy es n r (IsDistinct-tail same_id e.0 (keys_of es) apart) at is_ready all.2)
 
--- what is at a place
+-- what is at an index
 pub seen_at : (staged : Staged) (es : List (TransactionId × Record)) (i : ℕ) (id : TransactionId) (r : Record) → slice_get (keys_of es) i ≡ Some id → slice_get (values_of es) i ≡ Some r
     → slice_get (entries_seen staged es) i ≡ Some (id, seen (staged id) r)
 unfolding entries_seen
@@ -133,7 +133,7 @@ unfolding IsReadyRecord
 own-id staged sources id (held.Sends x) is_ready = is_ready.0
 own-id staged sources id (held.Receives r) is_ready = is_ready.0
 
--- the record at a place: its key, that it is ready, and the room of its timers
+-- the record at an index: its key, that it is ready, and the room of its timers
 pub ready_at : (staged : Staged) (sources : FileMap) (roomy : set.FinSet id_cmp) (es : List (TransactionId × Record)) (i : ℕ) (r : Record) → slice_get (values_of es) i ≡ Some r
     → AllReady staged sources roomy es → ((slice_get (keys_of es) i ≡ Some (id_of r)) × IsReadyRecord staged sources (id_of r) r) × (set.contains roomy (id_of r) ≡ true)
 unfolding AllReady
@@ -164,18 +164,18 @@ below_length [] i x at = absurd (cc)
 below_length (e ∷ es) zero x at = omega arith
 below_length (e ∷ es) (suc n) x at = let l = below_length es n x at in omega arith
 
--- where no record is, no step is made
+-- if there is no record, no step is made
 pub no_entry : (staged : Staged) (es : List (TransactionId × Record)) (i : ℕ) → None ≡ slice_get (values_of es) i → slice_get (entries_seen staged es) i ≡ None
 unfolding entries_seen
 no_entry staged [] i none = refl
 no_entry staged (e ∷ es) zero none = absurd (cc)
 no_entry staged (e ∷ es) (suc n) none = no_entry staged es n none
 
--- what is told stands behind what was let go, too
+-- what is indicated stands after what was discarded, too
 told-behind : (past before told now : List Indication) → now ≡ before ++ told → past ++ now ≡ (past ++ before) ++ told
 told-behind past before told now is = ap (λ l. past ++ l) is ∙ sym (append_assoc past before told)
 
--- ---- a step of the record at a place
+-- ---- a step of the record at an index
 module _ (past : List Indication) (old : DeskState) (es : List (TransactionId × Record)) (flags : List Bool) (place : ℕ) where
   -- none is there
   pub state-nowhere : (step : DeskState → Seen → After) → None ≡ slice_get (values_of es) place
@@ -261,7 +261,7 @@ module _ (past : List Indication) (old : DeskState) (es : List (TransactionId ×
         outbox = asked.outbox;
       }
 
-      -- where a PDU found no memory, only its record may have changed
+      -- if a PDU found no memory, only its record may have changed
       pub lacks-there : (v : Content) → Keeps v r r_now old new → LacksMemory place v (roomy_of past old es) (roomy_of past new fs)
       lacks-there v keeps = record {
         spoiled = record {
@@ -346,7 +346,7 @@ module _ (past : List Indication) (old new : DeskState) (es fs : List (Transacti
       (ready-others old.staged new.staged old.sources id widens.others new.effects.timers.roomy es (absent-apart es id absent)
       (ready-roomier old.staged old.sources old.effects.timers.roomy new.effects.timers.roomy widens.roomier es whole.ready))
 
-  -- where the record found no memory
+  -- if the record found no memory
   pub whole-kept : IsWhole new fs flags
   whole-kept = subst (λ l. IsWhole new l flags) (sym same) (record {
     distinct = whole.distinct;
@@ -372,7 +372,7 @@ module _ (past : List Indication) (old new : DeskState) (es fs : List (Transacti
     outbox = widens.outbox;
   }
 
-  -- where it was added
+  -- if it was added
   module _ (r : Record) (gs : List (TransactionId × Record)) (added : gs ≡ fs ++ (id, r) ∷ []) (after : After) (opens : Opens id after r old new) where
     seen-added : entries_seen new.staged gs ≡ entries_seen old.staged es ++ (id, seen (new.staged id) r) ∷ []
     unfolding entries_seen
@@ -403,7 +403,7 @@ module _ (past : List Indication) (old new : DeskState) (es fs : List (Transacti
           policy = widens.policy i;
         }
 
--- ---- room was made for what a step tells
+-- ---- room was made for what a step says
 module _ (past : List Indication) (desk : DeskState) (told : Vec Indication Global) (same : told.items ≡ desk.effects.told.items) (es : List (TransactionId × Record)) where
   abbrev pub roomed : DeskState
   roomed = record desk { effects = record desk.effects { told = told } }

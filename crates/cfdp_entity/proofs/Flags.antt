@@ -16,11 +16,11 @@ pub length-flags : (n : ℕ) (words : List ℕ) → length (flags_in n words) �
 unfolding flags_in
 length-flags n words = length-map-range_with_len (is_set words) 0 n
 
--- a place of the flags, by their view
+-- an index of the flags, by their view
 pub low-place : (n : ℕ) (words : List ℕ) (flags : List Bool) (place : ℕ) → flags_in n words ≡ flags → place < length flags → place < n
 low-place n words flags place is low = let same = ap length is in let len = length-flags n words in omega arith
 
--- ---- one place
+-- ---- one index
 
 pub place-bit : (words : List ℕ) (k w b : ℕ) → k / 64 ≡ w → k % 64 ≡ b → is_set words k ≡ (bit_at (get_or words w 0) b == 1)
 place-bit words k w b row column = λ i. bit_at (get_or words (row i) 0) (column i) == 1
@@ -60,7 +60,7 @@ module _ (n : ℕ) (words : List ℕ) (some : ℕ) (is : IsIndexed n words some)
       (λ l. get_or_past (flags_in n words) k false (let len = length-flags n words in omega arith) ∙ sym (is.rest k l))
       (cases_lt k n)
 
-  -- ---- one place more
+  -- ---- one index more
 
   pub more-indexed : n < 4096 → IsIndexed (n + 1) words some
   more-indexed room = record { few = omega arith; whole = is.whole; rest = λ k l. is.rest k (omega arith); marked = is.marked; skipped = is.skipped }
@@ -72,7 +72,7 @@ module _ (n : ℕ) (words : List ℕ) (some : ℕ) (is : IsIndexed n words some)
   pub pushed : (due : Bool) → slice_set (flags_in (n + 1) words) n due ≡ flags_in n words ++ due ∷ []
   pushed due = ap (λ flags. slice_set flags n due) more-flags ∙ set_at (flags_in n words) false [] due n (length-flags n words)
 
-  -- ---- the first place that is set
+  -- ---- the first index that is set
 
   module _ (from : ℕ) where
     place-found : (place : ℕ) → from ≤ place → is_set words place ≡ true → ((k : ℕ) → from ≤ k → k < place → is_set words k ≡ false) → (place < n)
@@ -128,7 +128,7 @@ module _ (n : ℕ) (words : List ℕ) (some : ℕ) (is : IsIndexed n words some)
         place-found (64 * (from / 64) + b) (omega arith) (place-bit words (64 * (from / 64) + b) (from / 64) b (omega arith) (omega arith) ∙ ap (λ x. x == 1) here)
         (λ k low l. clear-bit words k (from / 64) (omega arith) (before (k % 64) (omega arith) (omega arith)))
 
--- ---- one place set or cleared
+-- ---- one index set or cleared
 
 some-bit : (x m : ℕ) → m ≡ cond (not (x == 0)) 1 0 → (m ≡ 1 → 0 < x) × (m ≡ 0 → x ≡ 0)
 some-bit zero m is = (λ one. absurd (omega arith), λ _. refl)
@@ -190,7 +190,7 @@ module _ (n : ℕ) (words : List ℕ) (some : ℕ) (is : IsIndexed n words some)
         (λ apart. flag-is n after marks set-indexed k ∙ other-set k apart ∙ sym (get_or-set_other (flags_in n words) place k due false apart ∙ flag-is n words some is k))
         (cases_eq k place))
 
--- ---- one place less
+-- ---- one index less
 pub shorter-flags : (n : ℕ) (words : List ℕ) → flags_in (n + 1) words ≡ flags_in n words ++ is_set words n ∷ []
 unfolding flags_in
 shorter-flags n words = map-range_with_len_more (is_set words) 0 n n (omega arith)

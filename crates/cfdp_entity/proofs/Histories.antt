@@ -173,7 +173,7 @@ module _ (laws : Machines) where
     takes-so stored sources (Sends x) = sender-takes stored (octets_in sources x.source) x (sender_due x) refl
     takes-so stored sources (Receives r m) = receiver-takes r m (receiver_due r)
 
-    -- where there was no memory
+    -- if there was no memory
     same-so : (s t : Seen) → t ≡ s → Behaves s (no_step files t)
     same-so s t is = subst (λ u. Behaves s (no_step files u)) (sym is) (rests files s)
 
@@ -191,7 +191,7 @@ module _ (laws : Machines) where
     spoils-so (Eof condition checksum size tlvs) (Sends x) t h = same-so (Sends x) t h
     spoils-so (Prompt keep_alive) (Sends x) t h = same-so (Sends x) t h
 
--- ---- the record at a place
+-- ---- the record at an index
 pub keeps-set : (xs : List Entry) (place : ℕ) (e : Entry) (s : Seen) → slice_get xs place ≡ Some e → GoesOn e.1 s → KeepsRecords xs (set_value_at xs place s)
 keeps-set [] place e s at on p d h = absurd cc
 keeps-set (x ∷ xs) zero e s at on zero d h =
@@ -219,7 +219,7 @@ kept-behind (x ∷ xs) ys (suc n) e at = kept-behind xs ys n e at
 pub keeps-push : (xs ys : List Entry) → KeepsRecords xs (xs ++ ys)
 keeps-push xs ys = λ p d h. (d.1, (kept-behind xs ys p d h, goes_on-itself d.1))
 
--- every other place is as it was
+-- every other index is as it was
 pub other-place : (xs : List Entry) (place other : ℕ) (s : Seen) → other ≢ place → slice_get (set_value_at xs place s) other ≡ slice_get xs other
 other-place [] place other s apart = refl
 other-place (x ∷ xs) zero zero s apart = absurd (apart refl)
@@ -281,14 +281,14 @@ distinct-push [] id s apart none = (tt, tt)
 distinct-push (x ∷ xs) id s apart none = (all-push id x.0 s xs apart.0 (same_id-symm id x.0 none.0), distinct-push xs id s apart.1 none.1)
 
 -- ---- the invariant over one step
--- no more may be told of a transaction than its record lets be told
+-- no more may be indicated of a transaction than its record allows
 may-same : (gone : TransactionId → Bool) (id : TransactionId) (xs ys : List Entry) → open_of (record_of id ys) ≡ open_of (record_of id xs) → may_finish gone id ys ≡ may_finish gone id xs
 may-same gone id xs ys same = ap (λ n. cond (gone id) 0 n) same
 
 may-known : (gone : TransactionId → Bool) (id : TransactionId) (xs : List Entry) → gone id ≡ false → may_finish gone id xs ≡ open_of (record_of id xs)
 may-known gone id xs unknown = ap (λ b. cond b 0 (open_of (record_of id xs))) unknown
 
--- a transaction that has a record wasn't let go
+-- a transaction that has a record wasn't discarded
 known-at : (gone : TransactionId → Bool) (xs : List Entry) (id : TransactionId) (s : Seen) → ((q : TransactionId) → gone q ≡ true → record_of q xs ≡ None) → record_of id xs ≡ Some s → gone id ≡ false
 known-at gone xs id s apart there = by (gone id) refl
   where
@@ -379,7 +379,7 @@ module _ (gone : TransactionId → Bool) (xs : List Entry) (told : List Indicati
           let all = was.once q in
           omega (arith, split, nothing, now, all)
 
--- ---- a record that is let go
+-- ---- a record that is discarded
 all-left : (P : TransactionId → Type 0) (xs : List Entry) (place : ℕ) → AllByRecursion P (keys_of xs) → AllByRecursion P (keys_of (remove xs place))
 all-left P [] zero all = all
 all-left P [] (suc n) all = all
@@ -477,7 +477,7 @@ module _ (gone : TransactionId → Bool) (f : Entry → After) (behaves : (e : E
   kept-at : Kept gone st (step_at f place st)
   kept-at = kept-of (slice_get st.records place) refl
 
--- a place without a record takes none
+-- an index without a record takes none
 pub set-nowhere : (xs : List Entry) (place : ℕ) (s : Seen) → slice_get xs place ≡ None → set_value_at xs place s ≡ xs
 set-nowhere [] place s none = refl
 set-nowhere (x ∷ xs) zero s none = absurd cc
@@ -557,7 +557,7 @@ module _ (laws : Machines) (openings : Openings) (gone : TransactionId → Bool)
   kept-step (Tells now) st may other = record { records = keeps-all st.records; once = λ w. w }
   kept-step (Fires timers) st may other = kept-fired timers st
 
--- nothing opens what was let go, where nothing was
+-- nothing opens what was discarded, if nothing was
 pub opens-any : (s : TableStep) → OpensOther none_gone s
 opens-any (Hears stored place large v) = tt
 opens-any (Spoils place v noted) = tt

@@ -1,4 +1,4 @@
--- A table without the record at a place.
+-- A table without the record at an index.
 use Rattle.std.proofs.Common.{◌≡◌, ℕ, zero, suc, ◌+◌, ◌≤◌, Bool, true, false, not, cond, ◌&&◌, ◌||◌, List, [], ◌∷◌, ◌++◌, map, length, get_or, remove, slice_get, Some, None, refl, sym, ap, subst, ◌∙◌, arith}
 use Rattle.std.specs.FinSet as set
 use Rattle.std.specs.List.{IsDistinct, AllByRecursion, position_or_len}
@@ -22,7 +22,7 @@ use Rattle.cfdp_forgotten.specs.Forgotten.{IdSet}
 use Rattle.cfdp_entity.specs.Entity.{AreFree, AreUnforgotten, own_id}
 use Rattle.cfdp_entity.proofs.CallerLemmas.{same_id-symm}
 use Rattle.cfdp_entity.proofs.Histories.{no-record}
-use Rattle.cfdp_entity.proofs.Numbers.{none-past}
+use Rattle.cfdp_entity.proofs.PutNumbers.{none-past}
 use Rattle.cfdp_entity.proofs.Places.{keys-seen, position-none}
 
 abbrev Records : Type 0
@@ -84,7 +84,7 @@ pub seen-left : (staged : Staged) (es : Records) (place : ℕ) → entries_seen 
 unfolding entries_seen
 seen-left staged es place = map-left (entry_seen staged) es place
 
--- which transaction's record is at a place, by the table that is seen
+-- which transaction's record is at an index, by the table that is seen
 pub at-view : (past : List Indication) (desk : DeskState) (es : Records) (place : ℕ) (id : TransactionId) (v : Roomy) → roomy_of past desk es ≡ v
     → slice_get (keys_of v.state.records) place ≡ Some id → slice_get (keys_of es) place ≡ Some id
 at-view past desk es place id v is at = ap (λ ks. slice_get ks place) (sym (keys-seen desk.staged es)) ∙ ap (λ (w : Roomy). slice_get (keys_of w.state.records) place) is ∙ at
@@ -155,7 +155,7 @@ key-there P [] place id all at = absurd cc
 key-there P (x ∷ xs) zero id all at = let is : x.0 ≡ id = cc in subst P is all.0
 key-there P (x ∷ xs) (suc n) id all at = key-there P xs n id all.1 at
 
--- a number that has no record is none of those that are let go
+-- a number that has no record is none of those that are discarded
 pub unforgotten-left : (entity next : ℕ) (xs : Entries) (place : ℕ) (id : TransactionId) (before now : IdSet) → slice_get (keys_of xs) place ≡ Some id → AreFree entity next xs → now ≡ set.insert before id →
     AreUnforgotten entity next before → AreUnforgotten entity next now
 unfolding AreFree AreUnforgotten
@@ -164,7 +164,7 @@ unforgotten-left entity next xs place id before now at free is none = λ n l.
     ap (λ (s : IdSet). set.contains s (own_id entity n)) is ∙ set.contains-insert id_total before id (own_id entity n)
     ∙ (λ i. (sym (id_eq (own_id entity n) id) ∙ apart) i || none n l i)
 
--- ---- the record of a transaction that has a place
+-- ---- the record of a transaction that has an index
 pub entry-there : (xs : Entries) (id : TransactionId) (place : ℕ) → place_of id xs ≡ Some place → (s : Seen) × (slice_get xs place ≡ Some (id, s))
 entry-there [] id place is = absurd cc
 entry-there (x ∷ xs) id place is =

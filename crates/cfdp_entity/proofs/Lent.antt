@@ -97,6 +97,6 @@ turn-len Rests reads old new shows = refl
 pub turn-len-lent : (reads : Bool) (old new : EntityState) → ShowsIf reads old.table new.table → turn_len (turn old) (entity_lent new old) ≡ turn_len (turn old) old
 turn-len-lent reads old new shows = turn-len (turn old) reads old new shows
 
--- ---- where the table stays, nothing was read
+-- ---- if the table stays, nothing was read
 pub same-lent : (old new : Counted) → new.state.table ≡ old.state.table → counted_lent new old ≡ old
 same-lent old new same = λ i. record old { state = record old.state { table = record old.state.table { sources = (same i).sources; stands = (same i).stands } } }

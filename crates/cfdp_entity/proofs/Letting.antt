@@ -1,4 +1,4 @@
--- Records that are let go one after another, and indications.
+-- Records that are discarded one after another, and indications.
 use Rattle.std.proofs.Common.{◌≡◌, ◌⊎◌, inl, inr, ℕ, zero, suc, ◌≤◌, List, [], ◌∷◌, ◌++◌, length, remove, slice_get, Option, Some, None, refl, sym, ap, subst, ◌∙◌, arith}
 use Rattle.std.proofs.lemmas.Option.{slice_get_past}
 use Rattle.cfdp_header.specs.declared.value.TransactionId.{TransactionId}
@@ -21,7 +21,7 @@ unfolding ForgetsEach
 each-then [] id old mid new same one = (new, (subst (λ (e : EntityState). Forgets id e new) same one, refl))
 each-then (k ∷ ids) id old mid new first one = (first.0, (first.1.0, each-then ids id first.0 mid new first.1.1 one))
 
--- one record more is let go, if it may be
+-- one record more is discarded, if it may be
 pub some-then : (o : Option TransactionId) (place : ℕ) (old mid new : EntityState) → ForgetsSome old mid → GoesIfOver o place mid new → ForgetsSome old new
 some-then (Some id) place old mid new some goes = record { ids = some.ids ++ id ∷ []; forgets = each-then some.ids id old mid new some.forgets goes.forgets }
 some-then None place old mid new some goes = subst (ForgetsSome old) (sym goes) some
@@ -43,7 +43,7 @@ at-or-behind (suc a) (suc b) low = one-up (at-or-behind a b (omega (arith, low))
     one-up (inl e) = inl (ap suc e)
     one-up (inr h) = inr (omega (arith, h))
 
--- none of the records from a place on may go
+-- none of the records from an index on may go
 abbrev pub NoneFrom : ℕ → List Entry → Type 0
 NoneFrom from xs = (p : ℕ) → from ≤ p → over_in (slice_get xs p) ≡ None
 
@@ -60,7 +60,7 @@ none-then None place old new is goes none p low = ap (λ (e : EntityState). over
     by (inl e) = ap (λ n. over_in (slice_get old.table.records n)) (sym e) ∙ is
     by (inr behind) = none p behind
 
--- ---- the record at a place
+-- ---- the record at an index
 pub over-there : (o : Option Entry) (id : TransactionId) → over_in o ≡ Some id → (s : Seen) × ((o ≡ Some (id, s)) × (refusal s ≡ None))
 over-there None id over = absurd cc
 over-there (Some e) id over = by (refusal e.1) refl over

@@ -50,7 +50,7 @@ allowed-over s allowed = closed-over s (by (is_closed (phase_of s)) refl)
     by true is = is
     by false is = (let refused : refusal s ≡ Some StillOpen = ap (λ b. cond (not b) (Some StillOpen) (cond (is_due s) (Some AnswerDue) None)) is in absurd (cc (sym allowed ∙ refused)))
 
--- ---- the same, by who was let go
+-- ---- the same, by which transactions were discarded
 pub once-as : (gone now : TransactionId → Bool) (xs : List Entry) (told : List Indication) → ((q : TransactionId) → now q ≡ gone q) → FinishesOnce gone xs told → FinishesOnce now xs told
 once-as gone now xs told same w = record {
   distinct = w.distinct;

@@ -18,13 +18,14 @@ pub mod LettingGo
 pub mod Left
 pub mod Lent
 mod Looked
+mod RemovedSources
 pub mod Speaking
 pub mod Masked
 pub mod Records
 pub mod Entries
 pub mod Places
 pub mod Ticking
-pub mod Numbers
+pub mod PutNumbers
 pub mod Routes
 pub mod Sparing
 pub mod Spelled
@@ -33,3 +34,6 @@ mod Walked
 pub mod CallerLemmas
 pub mod Raised
 pub mod Added
+mod Restored
+mod RestoredReceivers
+mod Forgot

@@ -59,7 +59,7 @@ whole-looked name desk stands now failures es flags unsent looks whole = record 
   few = whole.few;
 }
 
--- ---- behind the last record none is
+-- ---- after the last record none is
 below-or-past : (es : List Entry) (k : ℕ) → (k < length es) ⊎ (slice_get es k ≡ None)
 below-or-past [] k = inr refl
 below-or-past (e ∷ es) zero = inl (omega arith)

@@ -1,4 +1,4 @@
--- Where a record is, and which one is next.
+-- The index of a record, and which one is next.
 use Rattle.std.proofs.Common.{◌≡◌, ℕ, zero, suc, ◌+◌, ◌≤◌, ◌<◌, Bool, true, false, cond, not, List, [], ◌∷◌, map, drop, length, position, Option, Some, None, IfSome, refl, sym, ap, subst, ◌∙◌, arith}
 use Rattle.std.specs.Prelude.{nat_lt}
 use Rattle.std.specs.List.{position_or_len}
@@ -41,7 +41,7 @@ next-seen xs flags from is =
     ap (next_true from) is
     ∙ (λ i. option_or (option_map (λ n. from + n) ((ap (position (λ b. b)) (drop_map has_due from xs) ∙ position-map has_due (λ b. b) (drop from xs)) i)) (position-map has_due (λ b. b) xs i))
 
--- where no record has a key, look-up finds none
+-- if no record has a key, look-up finds none
 absent-lookup : (es : List (TransactionId × Record)) (id : TransactionId) → position_or_len (same_id id) (keys_of es) ≡ length (keys_of es) → lookup (same_id id) es ≡ None
 absent-lookup [] id none = refl
 absent-lookup (e ∷ es) id none =

@@ -200,7 +200,7 @@ module _ (x x_now : SenderState) (old new : DeskState) (files : new.files ≡ ol
     files = files;
   }
 
--- ---- no step of a sender changes what it is to send
+-- ---- no step of a sender changes what it must send
 kept-ack : (condition : ℕ) (x : SenderState) → transfer_of (sender.sender_hears_ack condition x).sender ≡ transfer_of x
 kept-ack condition x = by x.phase
   where
@@ -340,7 +340,7 @@ on-called call.Resume x = on-resumes x
 on-called (call.Prompt keep_alive) x = on-prompts keep_alive x
 
 -- ---- what a call of a sender leaves of its record
--- The stores are as before, but for failures.
+-- The stores are as before, except for failures.
 pub record Alike (old new : DeskState) : Type 0 where
   pub files : new.files ≡ old.files
   pub staged : new.staged ≡ old.staged

@@ -106,7 +106,7 @@ module _ (laws : TrueSender) (put_of : TransactionId → Option Put) where
       takes-put stored (Sends x) k = sender-takes stored x (sender_due x) refl k
       takes-put stored (Receives r m) k = receiver-takes r m (receiver_due r)
 
-      -- where there was no memory
+      -- if there was no memory
       spoiled : (v : Content) (s t : Seen) → steps.Spoils v s t → SendsItsPut put_of sources id s → SendsItsPut put_of sources id t
       spoiled v (Receives r m) t h k = subst (SendsItsPut put_of sources id) (sym (spoils-receives v r m t h).1.0) tt
       spoiled (Nak start end pairs) (Sends x) t h k = subst (SendsItsPut put_of sources id) (sym h.1) (by-sender policy (inputs.HearsNak (take h.0 pairs)) x tt k)

@@ -30,7 +30,7 @@ nobody = record {
 abbrev pub resting : Seen
 resting = Sends (record (opened_sender nobody) { suspended = true })
 
--- A receiver that found no memory is as it was, but for octets at offsets that are not held.
+-- A receiver that found no memory is as it was, except for octets at offsets that are not held.
 pub spoils-receives : (v : Content) (r : ReceiverState) (m : OctetMap) (new : Seen) → Spoils v (Receives r m) new →
     (octets : OctetMap) × ((new ≡ Receives r octets) × ((n : ℕ) → set.contains r.held n ≡ true → map.get octets n ≡ map.get m n))
 spoils-receives (FileData offset bytes) r m new h = h

@@ -50,7 +50,7 @@ pub receiver-spelled : (sources : FileMap) (r : ReceiverState) (m : OctetMap) �
 unfolding SeenIsSpelled
 receiver-spelled sources r m can = receiver-content r (receiver_due r) can
 
--- and so is what the record at a place has due
+-- and so is what the record at an index has due
 pub entry-spelled : (staged : Staged) (sources : FileMap) (es : List (TransactionId × Record)) (i : ℕ) (k : TransactionId) (r : Record) → Some (k, r) ≡ slice_get es i
     → ((m : Option OctetMap) (sources : FileMap) → SeenIsSpelled sources (seen m r)) → EntryIsSpelled sources (slice_get (entries_seen staged es) i)
 entry-spelled staged sources es i k r is all = subst (EntryIsSpelled sources) (sym (seen_by_entry staged es i k r is)) (all (staged k) sources)

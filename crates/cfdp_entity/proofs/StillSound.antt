@@ -107,7 +107,8 @@ module _ (put_of : TransactionId → Option Put) (heard : List (List ℕ)) (firs
         (sym (get-remove nat_list_cmp_total e.table.files name q) ∙ is);
   }
 
-  -- what happened keeps an entity sound that has all files, so it keeps this one sound but for those
+  -- what happened keeps an entity sound that has all files, so it keeps this one sound except for
+  -- those
   pub conclude : (removed : List ℕ → Bool) (Happened : EntityState → Type 0) (old new : EntityState) (k : IsSoundBut put_of heard first removed old) (h : Happens k.all Happened old new) →
       IsSound put_of heard first (with_table new h.other) → IsSoundBut put_of heard first removed new
   conclude removed Happened old new k h sound = record {
@@ -226,7 +227,7 @@ module _ (laws : ReceivesAlike) (files : FileMap) where
     abbrev becomes : EntityState → Counted
     becomes e = record new { state = e }
 
-    -- all is as it was, but for what isn't the table
+    -- all is as it was, except for what isn't the table
     rests : (Happened : (old new : Counted) → Type 0) → new.state.table.files ≡ old.state.table.files → Happened was (becomes (with_inbox files new.state)) →
         Happens files (λ e. Happened was (becomes e)) old.state new.state
     rests Happened same so = record { other = with_files files new.state.table; goes = quiet files old.state new.state same; so = so }

@@ -1,4 +1,4 @@
--- Exported: a table that tells of no file as delivered but those that were.
+-- Exported: a table that says of no file that it was delivered, except if it was.
 use Rattle.std.proofs.Common.{◌≡◌, ◌⊎◌, inl, inr, ℕ, zero, suc, ◌<◌, ◌≤◌, Bool, true, false, cond, List, [], ◌∷◌, ◌++◌, length, slice_get, Option, Some, None, refl, sym, ap, subst, ◌∙◌, arith}
 use Rattle.std.specs.Prelude.{Contains}
 use Rattle.std.specs.FinMap as map
@@ -79,7 +79,7 @@ finished-in (i ∷ rest) q condition delivery status (suc k, low, is) =
     let all = finished-append q (i ∷ []) rest in
     omega (arith, there, all)
 
--- where no other transaction is indicated finished
+-- if no other transaction is indicated finished
 of-own : (id q : TransactionId) (told : List Indication) → ((other : TransactionId) → same_id id other ≡ false → finished_count other told ≡ 0) →
     Contains told (indication.Finished q no_error Complete Retained) → id ≡ q
 of-own id q told only h =
@@ -121,7 +121,7 @@ belongs : (own : ℕ) (put_of : TransactionId → Option Put) (heard : List (Lis
 belongs own put_of heard id (Sends x) k = k.0
 belongs own put_of heard id (Receives r m) k = (k.same_id, k.not_own)
 
--- the laws of both machines on what they tell
+-- the laws of both machines on what they say
 pub record Tellers : Type 0 where
   pub outcome : (stored : Stored) (input : ReceiverInput) (m : OctetMap) (files : FileMap) (r : ReceiverState) (o : Outcome) → (receiver_step stored input m files r).receiver.outcome ≡ Some o
       → (r.outcome ≡ Some o) ⊎ Contains (receiver_step stored input m files r).told (finished_told r.addressing.id o)
@@ -227,7 +227,7 @@ module _ (own : ℕ) (heard : List (List ℕ)) where
       takes-tells stored sources (Sends x) k = sender-takes stored (octets_in sources x.source) x (sender_due x) refl k
       takes-tells stored sources (Receives r m) k = receiver-takes r m (receiver_due r) k
 
-      -- where there was no memory
+      -- if there was no memory
       still-sends : (told : List Indication) (x : SenderState) (t : Seen) → GoesOn (Sends x) t → WasIndicated told t
       still-sends told x (Sends y) on = tt
       still-sends told x (Receives r m) on = absurd on
@@ -342,7 +342,7 @@ module _ (own : ℕ) (heard : List (List ℕ)) where
       tells-step (Tells now) st may tells d k t = record { indicated = t.indicated; told = t.told }
       tells-step (Fires timers) st may tells d k t = tells-fired timers st k t
 
--- ---- how it begins, and where more is heard
+-- ---- how it begins, and if more is heard
 nowhere : (p : ℕ) (e : Entry) → slice_get [] p ≡ Some e → ⊥
 nowhere p e h = cc
 

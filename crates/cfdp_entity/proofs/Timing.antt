@@ -57,7 +57,7 @@ use Rattle.cfdp_entity.proofs.Histories.{key-at, no-record, set-itself, set-nowh
 use Rattle.cfdp_entity.proofs.Sparing.{spoils-receives}
 
 -- ---- the record of a transaction
--- the entry at a place
+-- the entry at an index
 slice-or : (xs : List Entry) (n : ℕ) (d e : Entry) → slice_get xs n ≡ Some e → get_or xs n d ≡ e
 slice-or [] n d e at = absurd cc
 slice-or (x ∷ xs) zero d e at = let is : x ≡ e = cc in is
@@ -207,7 +207,7 @@ opens-set begun stored times files large v a is_for = by (closing v)
     by None = by-begun begun
 
 -- ---- what it makes of the table
--- All timers are as the records wait for them, but for some transactions, of which some that are
+-- All timers are as the records wait for them, except for some transactions, of which some that are
 -- waited for may not be armed.
 pub record AreTimedBut (Open : TransactionId → Type 0) (st : TableState) : Type 0 where
   pub waited : (id : TransactionId) (k : Kind) → is_armed id k st ≡ true → waits_for k (record_of id st.records) ≡ true
@@ -231,7 +231,7 @@ set-other now id [] armed q k apart = refl
 set-other now id (w ∷ ws) armed q k apart = set-other now id ws (Rattle.cfdp_timers.specs.Waits.waited now id w armed) q k apart
     ∙ get-waited now id w armed (q, k) ∙ ap (λ b. cond b (deadline_by now (wait_for w k) (map.get armed (q, k))) (map.get armed (q, k))) apart
 
--- its own are set, where the step sets them
+-- its own are set, if the step sets them
 set-own : (now : ℕ) (id : TransactionId) (a : After) (armed : Armed) (k : Kind) → SetsAll a → is_some (map.get (with_waits now id a.waits armed) (id, k)) ≡ waits_seen k a.seen
 set-own now id a armed k s =
     ap (λ ws. is_some (map.get (with_waits now id ws armed) (id, k))) s.is
@@ -239,7 +239,7 @@ set-own now id a armed k s =
     ∙ s.so k now (map.get armed (id, k))
 
 -- One record is another now, the others stay: those that stay may be open still, and so may this one
--- where its timers weren't set.
+-- if its timers weren't set.
 module _ (Open Later : TransactionId → Type 0) (st new : TableState) (id : TransactionId) (a : After)
     (own : record_of id new.records ≡ Some a.seen) (others : (q : TransactionId) → same_id q id ≡ false → record_of q new.records ≡ record_of q st.records)
     (armed : new.armed ≡ with_waits st.now id a.waits st.armed)
@@ -290,7 +290,7 @@ module _ (Open Later : TransactionId → Type 0) (st new : TableState) (id : Tra
     ] refl;
   }
 
--- ---- a step of the record at a place
+-- ---- a step of the record at an index
 pub at-own : (xs : List Entry) (place : ℕ) (e : Entry) → IsDistinct same_id (keys_of xs) → slice_get xs place ≡ Some e → record_of e.0 xs ≡ Some e.1
 at-own xs place e apart at = sym (ap (λ l. record_of e.0 l) (set-itself xs place e at)) ∙ step-own xs place e e.1 apart (key-at xs place e at)
 
@@ -301,7 +301,7 @@ module _ (Open Later : TransactionId → Type 0) (st : TableState) (apart : IsDi
       (λ q differs. step-other st.records place e.0 q a.seen (key-at st.records place e at) differs) refl
       (subst (λ o. Sets o a) (sym (at-own st.records place e apart at)) sets) later
 
--- any step at a place that sets timers so
+-- any step at an index that sets timers so
 pub step-timed : (f : Entry → After) (place : ℕ) (st : TableState) → IsDistinct same_id (keys_of st.records) → ((e : Entry) → slice_get st.records place ≡ Some e → Sets (Some e.1) (f e)) →
     AreTimed st → AreTimed (step_at f place st)
 step-timed f place st apart sets t = by (slice_get st.records place) refl

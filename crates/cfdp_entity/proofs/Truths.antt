@@ -234,7 +234,7 @@ module _ (own : ℕ) (put_of : TransactionId → Option Put) (heard : List (List
       takes-true stored sources (Sends x) k = sender-takes stored (octets_in sources x.source) x (sender_due x) refl k
       takes-true stored sources (Receives r m) k = receiver-takes r m (receiver_due r) k
 
-      -- where there was no memory
+      -- if there was no memory
       spoiled : (v : Content) (s t : Seen) → steps.Spoils v s t → KnowsTruth own put_of heard id s → KnowsTruth own put_of heard id t
       spoiled v (Receives r m) t h k =
           let w = spoils-receives v r m t h in

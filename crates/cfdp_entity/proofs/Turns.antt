@@ -42,7 +42,7 @@ seen-len : (sources : FileMap) (s : Seen) → is_due s ≡ true → 1 ≤ due_le
 seen-len sources (Sends x) due = sender-len (octets_in sources x.source) x (sender_due x) due
 seen-len sources (Receives r m) due = receiver-len r (receiver_due r) due
 
--- the record at a place, or one of which nothing is due
+-- the record at an index, or one of which nothing is due
 due-there : (records : List Entry) (place : ℕ) (d : Entry) → has_due d ≡ false → has_due (get_or records place d) ≡ true → (sources : FileMap) → 1 ≤ len_due sources (slice_get records place)
 due-there [] place d rests due sources = absurd (cc)
 due-there (e ∷ es) zero d rests due sources = seen-len sources e.1 due
@@ -67,7 +67,7 @@ module _ (rooms : Rooms) (place : ℕ) (old new : EntityState) (no_stray : old.s
   next-len : 1 ≤ len_at place old.table
   next-len = due-there old.table.records place (own_id 0 0, resting) refl (next-due old.cursor old.table.records place (own_id 0 0, resting) next) old.table.sources
 
-  -- its octets are those of what it says, where that is so of what the record has due
+  -- its octets are those of what it says, if that is so of what the record has due
   pub place-spells : EntryIsSpelled old.table.sources (slice_get old.table.records place) → SpellsTurn (turn old) old
   place-spells is = subst (λ t. SpellsTurn t old) (sym turn-is) (entry-spells old.table.sources (slice_get old.table.records place) is next-len)
 

@@ -1,4 +1,4 @@
--- The transactions that records tell are those of their entries.
+-- The transactions that records have are those of their entries.
 use Rattle.std.proofs.Common.{◌≡◌, List, [], ◌∷◌, map, refl, Option, None}
 use Rattle.cfdp_header.specs.declared.value.TransactionId.{TransactionId}
 use Rattle.cfdp_store.specs.Staged.{OctetMap}

@@ -28,12 +28,12 @@ pub record RestsSender (x : SenderState) : Type 0 where
   pub none_asked : x.asked ≡ set.empty
   pub none_due : x.ack_due ≡ None
 
--- the condition that it then has to acknowledge: only a Finished makes it do so
+-- the condition that it then must acknowledge: only if it hears a Finished
 abbrev pub sender_owes : SenderInput → Option ℕ
 sender_owes (HearsFinished outcome) = Some outcome.condition
 sender_owes _ = None
 
--- Nothing is indicated, no timer is waited for, and nothing changes but the acknowledgement due.
+-- Nothing is indicated, no timer is waited for, and nothing changes except the acknowledgement due.
 pub record SenderOwes (owes : Option ℕ) (x : SenderState) (a : SenderAfter) : Type 0 where
   pub told : a.told ≡ []
   pub sender : a.sender ≡ record x { ack_due = owes }
@@ -62,7 +62,7 @@ abbrev pub receiver_owes : Content → Option ℕ
 receiver_owes (Eof condition checksum size tlvs) = Some condition
 receiver_owes _ = None
 
--- Nothing is indicated, staged or published, no timer is waited for, and nothing changes but the
+-- Nothing is indicated, staged or published, no timer is waited for, and nothing changes except the
 -- acknowledgement due.
 pub record ReceiverOwes (owes : Option ℕ) (m : OctetMap) (files : FileMap) (r : ReceiverState)
     (a : ReceiverAfter) : Type 0 where

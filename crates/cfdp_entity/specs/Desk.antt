@@ -45,8 +45,8 @@ on_desk outbox inbox desk = record {
   outbox_failures = outbox.failures desk.outbox;
 }
 
--- the desk before a step that may read a file, but that the outbox has what it has afterwards: its
--- files as they were when they were read
+-- the desk before a step that may read a file, except that the outbox has what it has afterwards:
+-- its files as they were when they were read
 abbrev pub desk_lent : (now old : DeskState) → DeskState
 desk_lent now old = record old { sources = now.sources; stands = now.stands }
 

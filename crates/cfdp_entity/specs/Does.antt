@@ -60,7 +60,7 @@ pub record Does (id : TransactionId) (after : After) (now : Seen) (old new : Des
     }
     pub files : new.files ≡ after.files
 
--- how a record is seen, whose transaction is that of the one before
+-- how a record is seen, if its transaction is the one before's
 abbrev pub seen_as : (before now : Record) → DeskState → Seen
 seen_as before now desk = seen (desk.staged (id_of before)) now
 
@@ -70,7 +70,7 @@ abbrev pub Made : (DeskState → Seen → After) → (before now : Record) → (
 Made step before now old new =
     Does (id_of before) (step old (seen_as before before old)) (seen_as before now new) old new
 
--- It found no memory for a PDU, and left all but the record as it was.
+-- If it found no memory for a PDU, all but the record is as it was.
 pub record Keeps (v : Content) (before now : Record) (old new : DeskState) : Type 0 where
   pub state : Spoils v (seen_as before before old) (seen_as before now new)
   pub tells : new.effects.told.items ≡ old.effects.told.items
@@ -79,7 +79,7 @@ pub record Keeps (v : Content) (before now : Record) (old new : DeskState) : Typ
   pub inbox : new.inbox_failures ≡ old.inbox_failures
   pub outbox : new.outbox_failures ≡ old.outbox_failures
 
--- The record stays ready, and nothing else changes on the desk but by its step.
+-- The record stays ready, and nothing else changes on the desk except by its step.
 pub record Stays (before now : Record) (old new : DeskState) : Type 0 where
   pub ready : IsReadyRecord new.staged new.sources (id_of before) now
   pub others : OthersKeep (id_of before) old.staged new.staged
@@ -105,7 +105,7 @@ pub record Asked (stored : Stored) (Asks : (r s : ReceiverState) → (old new : 
       old.inbox_failures new.inbox_failures
   pub outbox : new.outbox_failures ≡ old.outbox_failures
 
--- ---- a record more
+-- ---- a new record
 -- a desk whose timers have the room that they have on another
 abbrev pub with_room_of : DeskState → DeskState → DeskState
 with_room_of new old = record old {
@@ -121,7 +121,7 @@ pub record Opens (id : TransactionId) (after : After) (now : Record) (old new : 
     pub ready : IsReadyRecord new.staged new.sources id now
     pub has_room : set.contains new.effects.timers.roomy id ≡ true
 
--- None was opened, for want of memory: at most, timers have more room.
+-- None was opened, since there was no memory: at most, timers have more room.
 pub record OpensNone (old new : DeskState) : Type 0 where
   pub tells : new.effects.told.items ≡ old.effects.told.items
   pub timers : new.effects.timers ≡ (with_room_of new old).effects.timers
@@ -145,13 +145,13 @@ abbrev pub SenderDoes : Times → Option sender.SenderAfter → (before now : Se
 SenderDoes times (Some a) before now old new = sender_does.Does times a now old new
 SenderDoes times None before now old new = (now ≡ before) × (new ≡ old)
 
--- it found no memory for a NAK, and may have asked for some of its pairs
+-- if it found no memory for a NAK, it may have asked for some of its pairs
 abbrev pub SenderKeeps : Content → (before now : SenderState) → (old new : Effects) → Type 0
 SenderKeeps (Nak start end pairs) before now old new =
     sender_does.AsksSome pairs before now × (new ≡ old)
 SenderKeeps _ before now old new = ⊥
 
--- A receiver can make a step: there is room for it, and what it holds is staged.
+-- A receiver can make a step: there must be room for it, and what it holds must be staged.
 pub record MayReceive {S : Type 0} (inbox : Inbox S) (r : ReceiverState) (effects : Effects) (s : S)
     : Type 0 where
   pub room : HasRoom r.addressing.id effects
@@ -169,7 +169,7 @@ abbrev pub found : (OctetMap → FileMap → ReceiverState → Option receiver.R
     Option receiver.ReceiverAfter
 found step s = step (staged_for s.staged s.receiver.addressing.id) s.files s.receiver
 
--- it found no memory for Metadata or file data
+-- if it found no memory for Metadata or file data
 abbrev pub ReceiverKeeps : Content → (old new : Scene) → Type 0
 ReceiverKeeps (FileData offset bytes) old new = receiver_does.Keeps old new
 ReceiverKeeps (Metadata kind size source destination options) old new = new ≡ old
@@ -182,7 +182,7 @@ pub record StaysReady {S : Type 0} (inbox : Inbox S) (before now : ReceiverState
   pub ready : IsReady (inbox.staged new) now
   pub others : OthersKeep before.addressing.id (inbox.staged old) (inbox.staged new)
 
--- what taking its PDU does to a receiver: nothing where none is due
+-- what taking its PDU does to a receiver: nothing if none is due
 abbrev pub ReceiverTook : Times → Option Due → (before now : ReceiverState) →
     (old new : Effects) → ℕ → (out_before out_now : List ℕ) → Type 0
 ReceiverTook times (Some d) before now old new n out out_now =
@@ -193,7 +193,7 @@ ReceiverTook times (Some d) before now old new n out out_now =
 ReceiverTook times None before now old new n out out_now =
     ((now ≡ before) × (new ≡ old)) × Gives [] 0 (Octets n) out out_now
 
--- what an ACK does to a receiver: that of EOF is not for it
+-- what an ACK does to a receiver: if it acknowledges an EOF, it is not for it
 abbrev pub ReceiverAcks : Times → (large : Bool) → Acknowledged → (before now : ReceiverState) →
     (old new : Effects) → Type 0
 ReceiverAcks times large acknowledged.Finished before now old new =

@@ -14,9 +14,9 @@ use Rattle.cfdp_entity.specs.Sent.{none_sent}
 use Rattle.cfdp_entity.specs.Strays.{StrayAck}
 use Rattle.cfdp_entity.specs.Table.{Entry, TableState, place_of, first_table, phase_in, progress_in, standing, table_lent}
 
--- The table, the stray acknowledgements in their order, the place behind the record served last,
+-- The table, the stray acknowledgements in their order, the index after the record served last,
 -- the number of the next put, the counts of drops by their number and of what was sent, how it is
--- set up, and the transactions that were let go.
+-- set up, and the transactions that were discarded.
 pub record EntityState : Type 0 where
   pub table : TableState
   pub strays : List StrayAck
@@ -27,7 +27,7 @@ pub record EntityState : Type 0 where
   pub config : EntityConfig
   pub forgotten : IdSet
 
--- whether a transaction was let go
+-- `true` if a transaction was discarded
 abbrev pub is_forgotten : EntityState → TransactionId → Bool
 is_forgotten e id = set.contains e.forgotten id
 
@@ -49,11 +49,11 @@ first_entity sources files config = record {
   forgotten = set.empty;
 }
 
--- the same, of an outbox whose files stand or don't
+-- an entity and these counts, if the files of its outbox stand, or if they don't
 abbrev pub entity_standing : Bool → EntityState → EntityState
 entity_standing stands e = record e { table = standing stands e.table }
 
--- an entity before a step that may read a file, but that its outbox has what it has afterwards
+-- an entity before a step that may read a file, except that its outbox has what it has afterwards
 abbrev pub entity_lent : (now old : EntityState) → EntityState
 entity_lent now old = record old { table = table_lent now.table old.table }
 
@@ -64,20 +64,20 @@ abbrev pub with_table : EntityState → TableState → EntityState
 with_table e t = record e { table = t }
 
 -- ---- numbers
--- the transaction of this number, of a file that the entity sends
+-- the transaction of this number, if the entity sends its file
 abbrev pub own_id : ℕ → ℕ → TransactionId
 own_id entity number = record { source = entity; number = number }
 
--- No record has the number of the next put, or one behind it: so no number comes twice.
+-- No record may have the number of the next put, or one after it: so no number comes twice.
 unfoldable pub AreFree : ℕ → ℕ → List Entry → Type 0
 AreFree entity next records = (n : ℕ) → next ≤ n → place_of (own_id entity n) records ≡ None
 
--- None of these was let go.
+-- None of these was discarded.
 unfoldable pub AreUnforgotten : ℕ → ℕ → IdSet → Type 0
 AreUnforgotten entity next forgotten =
     (n : ℕ) → next ≤ n → set.contains forgotten (own_id entity n) ≡ false
 
--- the number of the next put; where all are used it is one behind the last of eight octets
+-- the number of the next put; if all are used it is one after the last of eight octets
 abbrev pub next_of : Option ℕ → ℕ
 next_of (Some n) = n
 next_of None = 2 ^ 64

@@ -27,7 +27,7 @@ drop_name drops.TableFull = codes "TableFull"
 drop_name drops.NoMemory = codes "NoMemory"
 drop_name drops.NoFile = codes "NoFile"
 
--- why octets are no PDU, of a drop for that
+-- why octets are no PDU, if they were dropped for that
 abbrev pub drop_source : EntityDrop → Option PduError
 drop_source (drops.Pdu e) = Some e
 drop_source _ = None

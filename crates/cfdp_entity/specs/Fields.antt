@@ -1,4 +1,4 @@
--- What each field of a configuration has to be, so that an entity can be set up so.
+-- What each field of a configuration must be, so that an entity can be set up so.
 use Rattle.std.specs.Prelude.{◌≡◌, ◌≢◌, ◌≤◌, true}
 use Rattle.cfdp_header.specs.Header.{FitsWidth, IsWidth}
 use Rattle.cfdp_directives.specs.Pdu.Codes.{is_known}

@@ -1,4 +1,4 @@
--- What is let go: records, to make room for others, of those that are closed and have nothing due;
+-- What is discarded: records, to make room for others, if they are closed and have nothing due;
 -- and received files.
 use Rattle.std.specs.Prelude.{◌≡◌, ℕ, ◌-◌, nat_lt, not, Bool, true, false, List, [], ◌∷◌, Option, Some, None, remove, slice_get, if◌then◌else◌}
 use Rattle.std.specs.FinMap as map
@@ -14,19 +14,19 @@ use Rattle.cfdp_entity.specs.Entity.{EntityState}
 use Rattle.cfdp_entity.specs.Seen.{Seen, is_due, phase_of}
 use Rattle.cfdp_entity.specs.Table.{Entry, TableState, place_of}
 
--- ---- which records may be
+-- ---- which records may be discarded
 abbrev pub is_closed : Phase → Bool
 is_closed phases.Closed = true
 is_closed _ = false
 
--- why a record can't be let go, if it can't
+-- why a record can't be discarded, if it can't
 abbrev pub refusal : Seen → Option ForgetError
 refusal s =
     if not (is_closed (phase_of s)) then Some StillOpen
     else if is_due s then Some AnswerDue
     else None
 
--- of a transaction that may have none
+-- why a transaction's record can't be discarded, if it can't; it may have none
 abbrev pub refusal_of : Option Entry → Option ForgetError
 refusal_of (Some e) = refusal e.1
 refusal_of None = Some Unknown
@@ -38,7 +38,7 @@ refusal_in None st = Some Unknown
 abbrev pub forget_refusal : TransactionId → TableState → Option ForgetError
 forget_refusal id st = refusal_in (place_of id st.records) st
 
--- the transaction of a record, if it may go
+-- the transaction of a record, if that may be discarded
 abbrev pub unless_refused : Option ForgetError → TransactionId → Option TransactionId
 unless_refused None id = Some id
 unless_refused (Some by) id = None
@@ -47,24 +47,24 @@ abbrev pub over_in : Option Entry → Option TransactionId
 over_in (Some e) = unless_refused (refusal e.1) e.0
 over_in None = None
 
--- No record is left that may go.
+-- No record is left that may be discarded.
 abbrev pub HasNoneOver : TableState → Type 0
 HasNoneOver st = (place : ℕ) → over_in (slice_get st.records place) ≡ None
 
--- A record isn't let go by this cause, or for want of memory.
+-- If a record isn't discarded, this is the cause, or there is no memory.
 abbrev pub IsForgetRefusal : Option ForgetError → ForgetError → Type 0
 IsForgetRefusal (Some e) by = by ≡ e
 IsForgetRefusal None by = by ≡ NoMemory
 
 -- ---- what is left
--- those behind it move up, and no timer of its transaction is armed
+-- those after it move up, and no timer of its transaction is armed
 abbrev pub left_at : ℕ → TransactionId → TableState → TableState
 left_at place id st = record st {
   records = remove st.records place;
   armed = cleared st.armed id;
 }
 
--- where a place is once another one is taken out
+-- the index of a record after another one is taken out
 abbrev pub moved : (out place : ℕ) → ℕ
 moved out place = if nat_lt out place then place - 1 else place
 
@@ -75,7 +75,7 @@ without_record place id e = record e {
   forgotten = set.insert e.forgotten id;
 }
 
--- The record of a transaction was let go: its transaction is known to be over.
+-- The record of a transaction was discarded: its transaction is known to be over.
 pub record Forgets (id : TransactionId) (old new : EntityState) : Type 0 where
   pub place : ℕ
   pub seen : Seen
@@ -83,7 +83,7 @@ pub record Forgets (id : TransactionId) (old new : EntityState) : Type 0 where
   pub allowed : refusal seen ≡ None
   pub forgot : new ≡ without_record place id old
 
--- The records of these transactions were let go, one after another.
+-- The records of these transactions were discarded, one after another.
 unfoldable pub ForgetsEach : List TransactionId → (old new : EntityState) → Type 0
 ForgetsEach [] old new = new ≡ old
 ForgetsEach (id ∷ ids) old new = (mid : EntityState) × (Forgets id old mid × ForgetsEach ids mid new)
@@ -92,7 +92,7 @@ pub record ForgetsSome (old new : EntityState) : Type 0 where
   pub ids : List TransactionId
   pub forgets : ForgetsEach ids old new
 
--- The record at a place was let go if it may be, and nothing else changed.
+-- The record at an index was discarded, as it may be, and nothing else changed.
 pub record GoesAt (place : ℕ) (id : TransactionId) (old new : EntityState) : Type 0 where
   pub forgets : Forgets id old new
   pub records : new.table.records ≡ remove old.table.records place

@@ -11,7 +11,7 @@ abbrev pub stored_by_gave : Gave → Stored
 stored_by_gave (Octets n) = Done
 stored_by_gave Failed = Refused
 
--- A step that the outbox refused was counted, and otherwise its failures are as they were.
+-- If the outbox refused a step, that was counted, and otherwise its failures are as they were.
 abbrev pub CountsOutbox : Stored → (before after : ℕ) → Type 0
 CountsOutbox Done before after = after ≡ before
 CountsOutbox Refused before after = Counts Refused before after

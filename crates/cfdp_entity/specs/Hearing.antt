@@ -1,4 +1,4 @@
--- What a PDU does that an entity hears.
+-- What a PDU that an entity hears does.
 use Rattle.std.specs.Prelude.{◌≡◌, ◌<◌, ◌==◌, ◌||◌, ℕ, nat_lt, not, Bool, true, false, List, [], ◌∷◌, ◌++◌, length, Option, Some, None, if◌then◌else◌}
 use Rattle.cfdp_header.specs.declared.value.Header.{Header}
 use Rattle.cfdp_directives.specs.declared.pdu.codes.Acknowledged.TheVariants as acknowledged
@@ -21,7 +21,7 @@ use Rattle.cfdp_entity.specs.Storing.{AsksToHear, AsksToOpen}
 use Rattle.cfdp_entity.specs.Strays.{StrayAck, most_strays, over_ack, unknown_ack}
 use Rattle.cfdp_entity.specs.Table.{place_of, heard_at, opened_by, SpoiledAt, most_records}
 
--- whether a PDU is Metadata with an empty name
+-- `true` if a PDU is Metadata with an empty name
 abbrev pub names_no_file : Content → Bool
 names_no_file (Metadata kind size source destination options) =
     (length source == 0) || (length destination == 0)
@@ -44,15 +44,15 @@ route_new h (Finished condition delivery status tlvs) e =
     queues (unknown_ack h condition) e
 route_new h _ e = Drops drops.Unknown
 
--- a PDU of a transaction that was let go: an EOF and a Finished are acknowledged, and all else is
--- passed over
+-- a PDU of a transaction that was discarded: if it is an EOF or a Finished, it is acknowledged, and
+-- otherwise it is passed over
 abbrev pub route_over : Header → Content → EntityState → Route
 route_over h (Eof condition checksum size tlvs) e = queues (over_ack h acknowledged.Eof condition) e
 route_over h (Finished condition delivery status tlvs) e =
     queues (over_ack h acknowledged.Finished condition) e
 route_over h _ e = Passes
 
--- a PDU of no record, by whether its transaction was let go
+-- a PDU of no record, and whether its transaction was discarded
 abbrev pub route_unplaced : Bool → Header → Content → EntityState → Route
 route_unplaced true h v e = route_over h v e
 route_unplaced false h v e = route_new h v e
@@ -61,8 +61,8 @@ abbrev pub route_by : Option ℕ → Header → Content → EntityState → Rout
 route_by (Some place) h v e = Steps place
 route_by None h v e = route_unplaced (is_forgotten e h.id) h v e
 
--- the refusals in their order, and else the record of its transaction, a record that it opens, or a
--- stray acknowledgement
+-- the refusals in their order; if none holds, the record of its transaction, a record that it
+-- opens, or a stray acknowledgement
 abbrev pub route : Header → Content → EntityState → Route
 route h v e =
     if not (direction_fits h v) then Drops drops.WrongDirection
@@ -71,7 +71,7 @@ route h v e =
     else route_by (place_of h.id e.table.records) h v e
 
 -- ---- what is heard
--- The record at a place made its step, by what the inbox answered.
+-- The record at an index made its step, by what the inbox answered.
 pub record StepsAt (place : ℕ) (large : Bool) (v : Content) (old new : Counted) : Type 0 where
   pub stored : Stored
   pub steps : new.state ≡ with_table old.state (heard_at stored place large v old.state.table)
@@ -80,7 +80,7 @@ pub record StepsAt (place : ℕ) (large : Bool) (v : Content) (old new : Counted
       new.inbox_failures
   pub outbox : new.outbox_failures ≡ old.outbox_failures
 
--- A PDU with this addressing, of the peer, may open a record.
+-- A PDU with this addressing may open a record: it must be the peer's.
 pub record MayOpen (a : Addressing) (e : EntityState) : Type 0 where
   pub fits : FitsAddressing a
   pub from_peer : a.id.source ≡ e.config.peer
@@ -110,7 +110,7 @@ Takes (Queues s) h v old new = new ≡ record old { state = queued s old.state }
 Takes Passes h v old new = new ≡ old
 
 -- ---- what is dropped
--- The record at a place found no memory for a PDU: it is as `SpoiledAt` says, and nothing else
+-- The record at an index found no memory for a PDU: it is as `SpoiledAt` says, and nothing else
 -- changed. No call of a store failed.
 pub record LacksAt (place : ℕ) (v : Content) (old new : Counted) : Type 0 where
   pub spoiled : SpoiledAt place v old.state.table new.state.table
@@ -118,16 +118,16 @@ pub record LacksAt (place : ℕ) (v : Content) (old new : Counted) : Type 0 wher
   pub inbox : new.inbox_failures ≡ old.inbox_failures
   pub outbox : new.outbox_failures ≡ old.outbox_failures
 
--- A PDU was dropped for want of memory: its record, if there is one, is as `SpoiledAt` says, and
--- nothing else changed but the count. No call of a store failed.
+-- A PDU was dropped since there was no memory: its record, if there is one, is as `SpoiledAt`
+-- says, and nothing else changed except the count. No call of a store failed.
 pub record FindsNoMemory (place : ℕ) (v : Content) (old new : Counted) : Type 0 where
   pub spoiled : SpoiledAt place v old.state.table new.state.table
   pub counted : new.state ≡ dropped drops.NoMemory (with_table old.state new.state.table)
   pub inbox : new.inbox_failures ≡ old.inbox_failures
   pub outbox : new.outbox_failures ≡ old.outbox_failures
 
--- The PDU was dropped on this route, by this cause. One that was to open a record changed nothing
--- but the count.
+-- The PDU was dropped on this route, by this cause. If it was one that opens a record, nothing
+-- changed except the count.
 abbrev pub DropsBy : Route → EntityDrop → Content → (old new : Counted) → Type 0
 DropsBy (Drops d) by v old new = (by ≡ d) × (new ≡ record old { state = dropped d old.state })
 DropsBy (Steps place) by v old new = (by ≡ drops.NoMemory) × FindsNoMemory place v old new
@@ -151,7 +151,7 @@ pub record DropsPdu (octets : List ℕ) (by : EntityDrop) (old new : Counted) : 
   pub spells : SpellsPdu header content octets
   pub drops : DropsBy (route header content old.state) by content old new
 
--- The octets were dropped: they are no PDU, and by that cause, or they are one.
+-- The octets were dropped: if they are no PDU, by that cause, and otherwise as a PDU.
 abbrev pub DropsOctets : Option PduError → List ℕ → EntityDrop → (old new : Counted) → Type 0
 DropsOctets (Some e) octets by old new =
     (by ≡ drops.Pdu e) × (new ≡ record old { state = dropped (drops.Pdu e) old.state })

@@ -26,14 +26,14 @@ use Rattle.cfdp_entity.specs.Table.{Entry, TableState, place_of, record_of, hear
 -- `stored` and `begun` are how a store answered, `large` is the large file flag of a PDU
 pub data TableStep : Type 0 where
   Hears : (stored : Stored) (place : ℕ) (large : Bool) (v : Content) → TableStep
-  -- a record found no memory for a PDU, and is so then
+  -- if a record found no memory for a PDU, it is so then
   Spoils : (place : ℕ) (v : Content) (noted : Seen) → TableStep
   Expires : (place : ℕ) (k : Kind) → TableStep
   Calls : (place : ℕ) (c : Request) → TableStep
   Takes : (stored : Stored) (place : ℕ) → TableStep
   Puts : (t : Transfer) → TableStep
   Opens : (begun stored : Stored) (a : Addressing) (large : Bool) (v : Content) → TableStep
-  -- the time is told, and these timers fire
+  -- the time is given, and these timers fire
   Tells : (now : ℕ) → TableStep
   Fires : (timers : List Timer) → TableStep
 
@@ -49,7 +49,7 @@ table_step (Opens begun stored a large v) st = opened_by begun stored a large v 
 table_step (Tells now) st = at_time now st
 table_step (Fires timers) st = all_expired timers st
 
--- Only a transaction without a record gets one, and where there is no memory for a PDU its record
+-- Only a transaction without a record gets one, and if there is no memory for a PDU its record
 -- is as it may then be.
 abbrev pub MayHappen : TableStep → TableState → Type 0
 MayHappen (Puts t) st = place_of t.addressing.id st.records ≡ None
@@ -68,7 +68,7 @@ unfoldable pub MayRun : List TableStep → TableState → Type 0
 MayRun [] st = Unit {0}
 MayRun (s ∷ rest) st = MayHappen s st × MayRun rest (table_step s st)
 
--- Steps lead from one table to another, each of which may happen when its turn comes.
+-- Steps lead from one table to another; each must be one that may happen when its turn comes.
 pub record Leads (old new : TableState) : Type 0 where
   pub steps : List TableStep
   pub may : MayRun steps old
@@ -76,7 +76,7 @@ pub record Leads (old new : TableState) : Type 0 where
 
 -- ---- records
 -- A record becomes another: of the same side and transaction, and closed if it was closed. A sender
--- keeps what it is to send.
+-- keeps what it must send.
 abbrev pub GoesOn : (old new : Seen) → Type 0
 GoesOn (Sends x) (Sends y) =
     (transfer_of y ≡ transfer_of x) × (x.phase ≡ sending.Closed → y.phase ≡ sending.Closed)
@@ -84,7 +84,7 @@ GoesOn (Receives r m) (Receives s n) =
     (s.addressing ≡ r.addressing) × (r.phase ≡ receiving.Closed → s.phase ≡ receiving.Closed)
 GoesOn _ _ = ⊥
 
--- Each record is still at its place, under its transaction, and went on.
+-- Each record is still at its index, under its transaction, and went on.
 abbrev pub KeepsRecords : (old new : List Entry) → Type 0
 KeepsRecords old new = (place : ℕ) (e : Entry) → slice_get old place ≡ Some e →
     (s : Seen) × ((slice_get new place ≡ Some (e.0, s)) × GoesOn e.1 s)
@@ -95,7 +95,7 @@ sender_open_count sending.Sending = 1
 sender_open_count sending.Cancelling = 1
 sender_open_count sending.Closed = 0
 
--- 1 while it may still be indicated that the transaction is finished, and else 0
+-- 1 if it may still be indicated that the transaction is finished, otherwise 0
 abbrev pub open_in : Seen → ℕ
 open_in (Sends x) = sender_open_count x.phase
 open_in (Receives r m) = open_count r.phase
@@ -104,26 +104,26 @@ abbrev pub open_of : Option Seen → ℕ
 open_of (Some s) = open_in s
 open_of None = 1
 
--- of a transaction; never again of one that was let go
+-- of a transaction; never again if it was discarded
 abbrev pub may_finish : (gone : TransactionId → Bool) → TransactionId → List Entry → ℕ
 may_finish gone id records = if gone id then 0 else open_of (record_of id records)
 
--- A step opens no record of a transaction that was let go.
+-- A step must open no record of a transaction that was discarded.
 abbrev pub OpensOther : (gone : TransactionId → Bool) → TableStep → Type 0
 OpensOther gone (Puts t) = gone t.addressing.id ≡ false
 OpensOther gone (Opens begun stored a large v) = gone a.id ≡ false
 OpensOther gone _ = Unit {0}
 
--- with one more that was let go
+-- with one more that was discarded
 abbrev pub also : TransactionId → (TransactionId → Bool) → TransactionId → Bool
 also id gone other = same_id other id || gone other
 
--- where none was let go
+-- if none was discarded
 abbrev pub none_gone : TransactionId → Bool
 none_gone id = false
 
--- Each record stands under its transaction, no two under the same, and none under one that was let
--- go. Each transaction is indicated finished at most once, and not yet while it may still be.
+-- Each record must stand under its transaction, no two under the same, and none under a discarded
+-- one. Each transaction is indicated finished at most once, and not yet while it may still be.
 pub record FinishesOnce (gone : TransactionId → Bool) (records : List Entry)
     (told : List Indication) : Type 0 where
   pub distinct : IsDistinct same_id (keys_of records)

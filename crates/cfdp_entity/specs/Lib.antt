@@ -19,6 +19,7 @@ pub mod Does
 pub mod Strays
 pub mod Sent
 pub mod Entity
+pub mod Exchanging
 pub mod Requests
 pub mod Hearing
 pub mod Closed
@@ -27,6 +28,7 @@ pub mod Looking
 pub mod Polling
 pub mod Putting
 pub mod Adding
+pub mod RemovingSources
 pub mod History
 pub mod Truth
 pub mod Sending
@@ -35,3 +37,4 @@ pub mod Sound
 pub mod Removing
 pub mod Spelled
 pub use Rattle.cfdp_timers.specs.Waits
+pub mod Restoring

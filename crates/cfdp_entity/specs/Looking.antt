@@ -5,7 +5,7 @@ use Rattle.cfdp_entity.specs.Entity.{EntityState, with_table}
 use Rattle.cfdp_entity.specs.Seen.{sends_file}
 use Rattle.cfdp_entity.specs.Table.{Entry, TableState, table_lent}
 
--- whether the record at a place is sending the file of this name
+-- `true` if the record at an index is sending the file of this name
 abbrev pub sends_in : List ℕ → Option Entry → Bool
 sends_in name None = false
 sends_in name (Some e) = sends_file name e.1
@@ -27,11 +27,11 @@ pub record LooksAnew (name : List ℕ) (old new : TableState) : Type 0 where
   pub looks : LooksFor name old.stands new.stands old.sources new.sources
   pub table : new ≡ table_lent new old
 
--- It is looked for where no record is sending it, and else it is the one that is sent.
+-- If no record is sending it, it is looked for; otherwise it is the one that is sent.
 abbrev pub Looks : List ℕ → (old new : TableState) → Type 0
 Looks name old new = (IsSent name old × (new ≡ old)) ⊎ LooksAnew name old new
 
--- The same of an entity.
+-- An entity looked for it so.
 pub record LooksUp (name : List ℕ) (old new : EntityState) : Type 0 where
   pub looks : Looks name old.table new.table
   pub entity : new ≡ with_table old new.table

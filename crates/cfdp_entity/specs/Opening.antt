@@ -45,7 +45,7 @@ begins Done stored times files large v a =
 begins Refused stored times files large v a =
     record (by_receiver times (receiver.opens Refused large files a)) { waits = [] }
 
--- An EOF with an error opens a record that is closed, and the inbox isn't called.
+-- If an EOF has an error, it opens a record that is closed, and the inbox isn't called.
 abbrev pub opens_by : Option ℕ → (begun stored : Stored) → Times → FileMap → (large : Bool) →
     Content → Addressing → After
 opens_by (Some condition) begun stored times files large v a =
@@ -61,8 +61,8 @@ opens begun stored times files large v a =
 abbrev pub CountsBoth : (begun stored : Stored) → (before after : ℕ) → Type 0
 CountsBoth begun stored before after = Counts begun before after × Counts stored before after
 
--- What the inbox is not asked counts as done: an EOF with an error asks nothing of it, and a PDU
--- whose transaction it refuses to begin asks no more.
+-- If the inbox is not asked, that counts as done: an EOF with an error asks nothing of it, and a
+-- PDU asks no more if the inbox refuses to begin its transaction.
 abbrev pub AsksInOrder : (closes : Option ℕ) → (begun stored : Stored) → Type 0
 AsksInOrder (Some condition) begun stored = (begun ≡ Done) × (stored ≡ Done)
 AsksInOrder None Done stored = Unit {0}

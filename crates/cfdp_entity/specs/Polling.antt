@@ -14,7 +14,7 @@ use Rattle.cfdp_entity.specs.Sent.{counted_pdu, sent_at, sent_by}
 use Rattle.cfdp_entity.specs.Strays.{StrayAck, stray_octets, stray_len}
 use Rattle.cfdp_entity.specs.Table.{next_due, due_at, len_at, data_at, taken_at, ShowsIf}
 
--- what has the next turn: a stray acknowledgement, with those behind it, or the record at a place
+-- what has the next turn: a stray acknowledgement, with those after it, or the record at an index
 pub data Turn : Type 0 where
   Stray : (first : StrayAck) (behind : List StrayAck) → Turn
   Place : (place : ℕ) → Turn
@@ -28,7 +28,7 @@ abbrev pub turn_by : List StrayAck → Option ℕ → Turn
 turn_by (s ∷ strays) next = Stray s strays
 turn_by [] next = record_turn next
 
--- strays come first, and then the first record behind the one served last that has something due,
+-- strays come first, and then the first record after the one served last that has something due,
 -- round robin
 abbrev pub turn : EntityState → Turn
 turn e = turn_by e.strays (next_due e.cursor e.table.records)
@@ -44,7 +44,7 @@ turn_len (Stray s strays) e = stray_len s
 turn_len (Place place) e = len_at place e.table
 turn_len Rests e = 0
 
--- whether that PDU is file data; all others are directives
+-- `true` if that PDU is file data; all others are directives
 abbrev pub turn_data : Turn → EntityState → Bool
 turn_data (Stray s strays) e = false
 turn_data (Place place) e = data_at place e.table
@@ -69,8 +69,8 @@ served stored (Place place) e = record e {
 }
 served stored Rests e = e
 
--- The PDU that is due has so many octets and this type: they fit, and were written over the first
--- of `out`.
+-- The PDU that is due has so many octets and this type: they must fit, and were written over the
+-- first of `out`.
 pub record MovesPdu (n room : ℕ) (is_data : Bool) (old new : EntityState)
     (out_before out_now : List ℕ) : Type 0 where
   pub type : is_data ≡ turn_data (turn old) old
@@ -80,7 +80,7 @@ pub record MovesPdu (n room : ℕ) (is_data : Bool) (old new : EntityState)
   pub writes : Writes (turn_octets (turn old) old) n out_before out_now
   pub served : new ≡ served Done (turn old) old
 
--- The outbox failed to give the file data of a PDU that fits, that of a sender. What `out` then
+-- The outbox failed to give the file data of a PDU that fits, a sender's. What `out` then
 -- holds is left open.
 pub record LosesPdu (room : ℕ) (old new : EntityState) : Type 0 where
   pub place : ℕ
@@ -89,13 +89,13 @@ pub record LosesPdu (room : ℕ) (old new : EntityState) : Type 0 where
   pub fits : turn_len (turn old) old ≤ room
   pub served : new ≡ served Refused (turn old) old
 
--- The record at a place has the turn, and its PDU fits: only then a poll wants memory.
+-- The record at an index has the turn, and its PDU fits: only then a poll needs memory.
 pub record TakesTurn (room : ℕ) (e : EntityState) : Type 0 where
   pub place : ℕ
   pub is_next : turn e ≡ Place place
   pub fits : turn_len (turn e) e ≤ room
 
--- The record at a place sent what it had due, or the outbox failed, and that was counted.
+-- The record at an index sent what it had due, or the outbox failed, and that was counted.
 pub record SendsAt (place : ℕ) (gave : Gave) (old new : Counted) (out_before out_now : List ℕ)
     : Type 0 where
   pub taken : new.state ≡ served (stored_by_gave gave) (Place place) old.state
@@ -105,7 +105,7 @@ pub record SendsAt (place : ℕ) (gave : Gave) (old new : Counted) (out_before o
   pub counts : CountsOutbox (stored_by_gave gave) old.outbox_failures new.outbox_failures
   pub inbox : new.inbox_failures ≡ old.inbox_failures
 
--- A poll answered this, where there is so much room for the PDU whose turn it is.
+-- A poll answered this, if there is so much room for the PDU whose turn it is.
 abbrev pub Polls : ℕ → EntityPolled → (old new : Counted) → (out_before out_now : List ℕ) → Type 0
 Polls room (Moved n is_data) old new out out' = MovesPdu n room is_data old.state new.state out out'
 Polls room Nothing old new out out' = (turn old.state ≡ Rests) × (new ≡ old) × (out' ≡ out)
@@ -113,8 +113,8 @@ Polls room Full old new out out' =
     (room < turn_len (turn old.state) old.state) × (new ≡ old) × (out' ≡ out)
 Polls room SourceFailed old new out out' = LosesPdu room old.state new.state
 
--- What a poll that answered this has shown of the outbox's files: something only where it took file
--- data, or was to take them.
+-- What a poll that answered this has shown of the outbox's files: something only if it took file
+-- data, or would have taken them.
 abbrev pub Shows : EntityPolled → (old new : EntityState) → Type 0
 Shows (Moved n is_data) old new = ShowsIf is_data old.table new.table
 Shows SourceFailed old new = ShowsIf true old.table new.table

@@ -43,18 +43,18 @@ next_transfer source destination size e = record {
 abbrev pub are_names : (source destination : List ℕ) → Bool
 are_names source destination = is_file_name source && is_file_name destination
 
--- what is told of the file
+-- why the file is refused, if it is
 abbrev pub file_refusal : Option (List ℕ) → Option PutError
 file_refusal None = Some NoSuchFile
 file_refusal (Some octets) =
     if nat_le (length octets) (size_limit true) then None else Some TooLarge
 
--- the outbox was asked for the file
+-- why a put is refused if the outbox was asked for the file
 abbrev pub asked : Stored → Option (List ℕ) → Option PutError
 asked Refused file = Some SourceFault
 asked Done file = file_refusal file
 
--- before the outbox is asked
+-- why it is refused before the outbox is asked
 abbrev pub early_refusal : (source destination : List ℕ) → EntityState → Option PutError
 early_refusal source destination e =
     if not (are_names source destination) then Some Name
@@ -79,17 +79,17 @@ pub record MayPutAs (number : ℕ) (source destination : List ℕ) (e : EntitySt
   pub is_next : number ≡ e.next
   pub may : MayPut source destination e
 
--- how the outbox answered a put that was refused so: where it wasn't asked, it didn't fail
+-- how the outbox answered a put that was refused so: if it wasn't asked, it didn't fail
 abbrev pub stored_by_error : PutError → Stored
 stored_by_error SourceFault = Refused
 stored_by_error _ = Done
 
--- A put is refused by this cause, or for want of memory.
+-- If a put is refused, this is the cause, or there is no memory.
 abbrev pub IsPutRefusal : Option PutError → PutError → Type 0
 IsPutRefusal (Some e) by = by ≡ e
 IsPutRefusal None by = by ≡ NoMemory
 
--- whether the outbox answered all that a put asked of it
+-- `true` if the outbox answered all that a put asked of it
 abbrev pub was_answered : {X : Type 0} → Result X PutError → Bool
 was_answered (Err SourceFault) = false
 was_answered _ = true

@@ -1,4 +1,4 @@
--- When a request of the user is refused, and what it does else.
+-- When a request of the user is refused, and what it does otherwise.
 use Rattle.std.specs.Prelude.{◌≡◌, ℕ, not, Bool, true, false, is_some, Option, Some, None, slice_get, if◌then◌else◌}
 use Rattle.cfdp_sender.specs.declared.phase.SenderPhase.{SenderPhase}
 use Rattle.cfdp_sender.specs.declared.phase.SenderPhase.TheVariants.{Sending, Cancelling, Closed}
@@ -20,7 +20,7 @@ abbrev pub is_wrong_side : Request → Seen → Bool
 is_wrong_side (request.Prompt keep_alive) (Receives r m) = true
 is_wrong_side _ _ = false
 
--- whether the transaction is no longer sent or received
+-- `true` if the transaction is no longer sent or received
 abbrev pub is_over : Seen → Bool
 is_over (Sends x) = not (is_sending x.phase)
 is_over (Receives r m) = not (is_receiving r.phase)
@@ -33,7 +33,7 @@ abbrev pub has_prompt : Seen → Bool
 has_prompt (Sends x) = is_some x.prompt_due
 has_prompt (Receives r m) = false
 
--- whether what is asked for is so already: never of a cancel
+-- `true` if what is asked for is so already: never of a cancel
 abbrev pub is_so : Request → Seen → Bool
 is_so request.Cancel s = false
 is_so request.Suspend s = is_suspended s
@@ -48,17 +48,17 @@ refusal c s =
     else if is_so c s then Some AlreadySo
     else None
 
--- of a transaction that may have no record
+-- why a request is refused, if the transaction has a record or not
 abbrev pub refusal_of : Request → Option Entry → Option RequestError
 refusal_of c (Some e) = refusal c e.1
 refusal_of c None = Some Unknown
 
--- by where its record is
+-- by the index of its record
 abbrev pub refusal_in : Request → Option ℕ → TableState → Option RequestError
 refusal_in c (Some place) st = refusal_of c (slice_get st.records place)
 refusal_in c None st = Some Unknown
 
--- whether a request may ask something of the inbox: only one that cancels what is received
+-- `true` if a request may ask something of the inbox: only if it cancels what is received
 abbrev pub is_received : Seen → Bool
 is_received (Sends x) = false
 is_received (Receives r m) = true
@@ -81,7 +81,7 @@ abbrev pub called_in : Request → Option ℕ → TableState → TableState
 called_in c (Some place) st = called_at place c st
 called_in c None st = st
 
--- a request of a transaction is refused by this cause, or for want of memory
+-- if a request of a transaction is refused, this is the cause, or there is no memory
 abbrev pub IsRefusal : Option RequestError → RequestError → Type 0
 IsRefusal (Some e) by = by ≡ e
 IsRefusal None by = by ≡ NoMemory

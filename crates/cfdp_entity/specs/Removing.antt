@@ -1,5 +1,5 @@
--- What a table does doesn't depend on the files that its inbox has published. So a file that is
--- removed from the inbox changes nothing else.
+-- What a table does doesn't depend on the files that its inbox has published. So if a file is
+-- removed from the inbox, that changes nothing else.
 use Rattle.std.specs.Prelude.{◌≡◌, ℕ, ◌||◌, Bool, false, List, Option, Some}
 use Rattle.std.specs.Cmp.Lexicographic.{slice_cmp}
 use Rattle.std.specs.FinMap as map
@@ -20,8 +20,8 @@ pub record GoesAlike (files : FileMap) (old new other : TableState) : Type 0 whe
   pub publishes : new.files ≡ with_documents documents old.files
   pub alike : other ≡ with_files (with_documents documents files) new
 
--- An entity is sound but for files that were removed from its inbox, of these names: it would be
--- sound with certain files in its inbox, and it has these, but that some of those names are gone.
+-- An entity is sound except for files that were removed from its inbox, of these names: it would be
+-- sound if its inbox had certain files, and it has these, except that some of those names are gone.
 pub record IsSoundBut (put_of : TransactionId → Option Put) (heard : List (List ℕ))
     (first : FileMap) (removed : List ℕ → Bool) (e : EntityState) : Type 0 where
   pub all : FileMap
@@ -31,7 +31,7 @@ pub record IsSoundBut (put_of : TransactionId → Option Put) (heard : List (Lis
   pub among : (name octets : List ℕ) → map.get e.table.files name ≡ Some octets
       → map.get all name ≡ Some octets
 
--- where no name was removed
+-- if no name was removed
 abbrev pub none_removed : List ℕ → Bool
 none_removed name = false
 

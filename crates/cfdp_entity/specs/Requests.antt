@@ -14,7 +14,7 @@ use Rattle.cfdp_entity.specs.Table.{TableState, called_at, place_of}
 abbrev pub request_refusal : Request → TransactionId → TableState → Option RequestError
 request_refusal c id t = refusal_in c (place_of id t.records) t
 
--- whether it may ask something of the inbox
+-- `true` if it may ask something of the inbox
 abbrev pub asks_inbox : Request → TransactionId → TableState → Bool
 asks_inbox c id t = asks_in c (place_of id t.records) t
 
@@ -22,7 +22,7 @@ asks_inbox c id t = asks_in c (place_of id t.records) t
 abbrev pub after_request : Request → TransactionId → TableState → TableState
 after_request c id t = called_in c (place_of id t.records) t
 
--- The record at a place did what was asked.
+-- The record at an index did what was asked.
 pub record RequestsAt (place : ℕ) (c : Request) (old new : Counted) : Type 0 where
   pub called : new.state ≡ with_table old.state (called_at place c old.state.table)
   pub grows : old.inbox_failures ≤ new.inbox_failures
@@ -35,7 +35,7 @@ pub record IsCalled (c : Request) (id : TransactionId) (old new : EntityState) :
   pub called : new ≡ with_table old (after_request c id old.table)
 
 -- What became of the inbox's count of failures: only a cancel may ask something of the inbox, and
--- only of what is received.
+-- only if the transaction is received.
 abbrev pub KeepsInbox : Request → TransactionId → (old new : Counted) → Type 0
 KeepsInbox request.Cancel id old new = asks_inbox request.Cancel id old.state.table ≡ false
     → new.inbox_failures ≡ old.inbox_failures

@@ -14,7 +14,7 @@ pub record Roomy : Type 0 where
   pub inbox_failures : ℕ
   pub outbox_failures : ℕ
 
--- the table before a step that may read a file, but that the outbox has what it has afterwards
+-- the table before a step that may read a file, except that the outbox has what it has afterwards
 abbrev pub roomy_lent : (now old : Roomy) → Roomy
 roomy_lent now old = record old { state = table_lent now.state old.state }
 
@@ -38,7 +38,7 @@ pub record Steps (after : TableState) (Counts Asks : (before after : ℕ) → Ty
   pub raises : Asks old.inbox_failures new.inbox_failures
   pub outbox : new.outbox_failures ≡ old.outbox_failures
 
--- The PDU of the record at a place was taken, or the outbox failed, and that was counted.
+-- The PDU of the record at an index was taken, or the outbox failed, and that was counted.
 pub record SendsFrom (place : ℕ) (gave : Gave) (old new : Roomy) (out_before out_now : List ℕ)
     : Type 0 where
   pub state : new.state ≡ taken_at (stored_by_gave gave) place old.state
@@ -47,7 +47,7 @@ pub record SendsFrom (place : ℕ) (gave : Gave) (old new : Roomy) (out_before o
   pub counts : CountsOutbox (stored_by_gave gave) old.outbox_failures new.outbox_failures
   pub inbox : new.inbox_failures ≡ old.inbox_failures
 
--- The record at a place found no memory for a PDU, and no call of a store failed.
+-- The record at an index found no memory for a PDU, and no call of a store failed.
 pub record LacksMemory (place : ℕ) (v : Content) (old new : Roomy) : Type 0 where
   pub spoiled : SpoiledAt place v old.state new.state
   pub inbox : new.inbox_failures ≡ old.inbox_failures

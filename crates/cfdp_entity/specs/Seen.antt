@@ -24,7 +24,7 @@ pub data Seen : Type 0 where
   Sends : (state : SenderState) → Seen
   Receives : (state : ReceiverState) (octets : OctetMap) → Seen
 
--- what is staged for a receiver: nothing is kept of that once it receives no more
+-- what is staged for a receiver: nothing is kept of that if it receives no more
 abbrev pub octets_seen : ReceiverState → OctetMap → OctetMap
 octets_seen r m = if is_receiving r.phase then m else map.empty
 
@@ -41,8 +41,8 @@ abbrev pub addressing_of : Seen → Addressing
 addressing_of (Sends x) = x.addressing
 addressing_of (Receives r m) = r.addressing
 
--- whether the PDUs that it sends have the large file flag: those of a sender by its file, those of
--- a receiver once it heard a PDU that has it
+-- `true` if the PDUs that it sends have the large file flag: a sender's by its file, a receiver's
+-- if it heard a PDU that has it
 abbrev pub large_of : Seen → Bool
 large_of (Sends x) = is_large x.size
 large_of (Receives r m) = r.large
@@ -55,7 +55,7 @@ abbrev pub receiver_content : ReceiverState → Option Due → Option Content
 receiver_content r (Some d) = Some (receives.receiver_says r d)
 receiver_content r None = None
 
--- what the PDU says that is due
+-- what the PDU that is due says
 abbrev pub due_content : FileMap → Seen → Option Content
 due_content sources (Sends x) = sender_content (octets_in sources x.source) x (sends.sender_due x)
 due_content sources (Receives r m) = receiver_content r (receives.receiver_due r)
@@ -68,19 +68,19 @@ abbrev pub len_of : (large : Bool) → Addressing → Option Content → ℕ
 len_of large a (Some v) = written_len a large v
 len_of large a None = 0
 
--- its octets, and how many they are; none where nothing is due
+-- its octets, and how many they are; none if nothing is due
 abbrev pub due_octets : FileMap → Seen → List ℕ
 due_octets sources s = octets_of (large_of s) (addressing_of s) (due_content sources s)
 
 abbrev pub due_len : FileMap → Seen → ℕ
 due_len sources s = len_of (large_of s) (addressing_of s) (due_content sources s)
 
--- whether the PDU that is due carries octets of a file
+-- `true` if the PDU that is due carries octets of a file
 abbrev pub carries_data : Seen → Bool
 carries_data (Sends x) = sends.carries_by (sends.sender_due x)
 carries_data (Receives r m) = false
 
--- whether it is sending the file that the outbox has under this name
+-- `true` if it is sending the file that the outbox has under this name
 abbrev pub sends_file : List ℕ → Seen → Bool
 sends_file name (Sends x) = sends.sends_file name x
 sends_file name (Receives r m) = false
@@ -90,7 +90,7 @@ abbrev pub phase_of : Seen → Phase
 phase_of (Sends x) = sends.phase_told x.phase
 phase_of (Receives r m) = public_phase r.phase
 
--- up to which offset octets of the file were sent, or came: what a Keep Alive says of these
+-- the offset up to which octets of the file were sent, or came: what a Keep Alive says
 -- (CCSDS 727.0-B-5, 5.2.8)
 abbrev pub progress_of : Seen → ℕ
 progress_of (Sends x) = x.sent

@@ -11,7 +11,7 @@ use Rattle.cfdp_entity.specs.Seen.{Seen, Sends, Receives}
 use Rattle.cfdp_entity.specs.Table.{Entry, TableState}
 use Rattle.cfdp_entity.specs.History.{TableStep, Puts}
 
--- A sender sends the put of its transaction, which has the octets that the outbox has under its
+-- A sender must send the put of its transaction, with the octets that the outbox has under its
 -- source name.
 pub record SendsPut (put_of : TransactionId → Option Put) (sources : FileMap) (id : TransactionId)
     (x : SenderState) : Type 0 where
@@ -21,17 +21,18 @@ pub record SendsPut (put_of : TransactionId → Option Put) (sources : FileMap) 
   pub in_file : IsInFile x
   pub octets : put.octets ≡ octets_in sources x.source
 
--- A record that receives sends nothing of a put.
+-- If a record receives, it sends nothing of a put.
 abbrev pub SendsItsPut : (TransactionId → Option Put) → FileMap → TransactionId → Seen → Type 0
 SendsItsPut put_of sources id (Sends x) = SendsPut put_of sources id x
 SendsItsPut put_of sources id (Receives r m) = Unit {0}
 
--- Each record that sends sends its put.
+-- Each record that sends must send its put.
 pub record SendsTruth (put_of : TransactionId → Option Put) (st : TableState) : Type 0 where
   pub sends : (place : ℕ) (e : Entry) → slice_get st.records place ≡ Some e
       → SendsItsPut put_of st.sources e.0 e.1
 
--- A put that a step opens is found under its transaction: it has the whole file of its source name.
+-- If a step opens a put, it must be found under its transaction, with the whole file of its source
+-- name.
 abbrev pub FindsPut : (TransactionId → Option Put) → TableStep → TableState → Type 0
 FindsPut put_of (Puts t) st =
     (1 ≤ t.segment) × (length (octets_in st.sources t.source) ≡ t.size)

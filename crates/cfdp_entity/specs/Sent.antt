@@ -29,7 +29,7 @@ abbrev pub of_receiver : Due → SentPdu
 of_receiver (dues.Nak cursor) = Nak
 of_receiver _ = OtherDirective
 
--- the PDU that a record has due, that of the record at a place, and none where nothing is due
+-- the PDU that a record has due, and that the record at an index has due; none if nothing is due
 abbrev pub sent_of : Seen → Option SentPdu
 sent_of (Sends x) = option_map of_sender (sender_due x)
 sent_of (Receives r m) = option_map of_receiver (receiver_due r)
@@ -56,7 +56,7 @@ abbrev pub counted_due : Option SentPdu → SentPdus → SentPdus
 counted_due (Some pdu) s = counted_pdu pdu s
 counted_due None s = s
 
--- what was due was sent, or the outbox refused its octets, and nothing was
+-- what was due was sent, or if the outbox refused its octets, nothing was
 abbrev pub sent_by : Stored → Option SentPdu → SentPdus → SentPdus
 sent_by Done due s = counted_due due s
 sent_by Refused due s = s

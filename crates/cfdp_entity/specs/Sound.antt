@@ -1,4 +1,4 @@
--- What an entity keeps that hears nothing but the truth of puts. `put_of` finds the put of a
+-- What an entity keeps if it hears nothing but the truth of puts. `put_of` finds the put of a
 -- transaction, `heard` is the PDUs that came to it, `first` the files published at first.
 use Rattle.std.specs.Prelude.{◌≡◌, ◌≤◌, ◌++◌, ℕ, List, Option, Some, None, slice_get, Contains, Bool}
 use Rattle.cfdp_header.specs.declared.value.Header.{Header}
@@ -30,9 +30,8 @@ use Rattle.cfdp_entity.specs.Timed.{AreTimed}
 use Rattle.cfdp_entity.specs.Truth.{IsTrueTable}
 
 -- Each transaction is finished once, each record knows and sends the truth of its put, no more is
--- told of a transaction than was indicated or heard, the timers that are armed are those that
--- records
--- wait for, and the table does as it is configured.
+-- said of a transaction than was indicated or heard, the timers that are armed are those for which
+-- records wait, and the table does as it is configured.
 pub record IsSound (put_of : TransactionId → Option Put) (heard : List (List ℕ)) (first : FileMap)
     (e : EntityState) : Type 0 where
   pub config : IsConfig e.config
@@ -62,19 +61,19 @@ next_put source destination e = record {
   checksum_kind = e.config.checksum_kind;
 }
 
--- A PDU comes that is among what came, and says the truth of a put of the entity `peer`.
+-- A PDU comes that is among what came; it must say the truth of a put of the entity `peer`.
 pub record ComesTrue (peer : ℕ) (put_of : TransactionId → Option Put) (heard : List (List ℕ))
     (pdu : List ℕ) : Type 0 where
   pub among : Contains heard pdu
   pub says : (h : Header) (v : Content) → SpellsPdu h v pdu → SaysTruth peer put_of h.id v
 
 -- ---- what is sent
--- A Finished says that a file was delivered only of a transaction that the entity `own` completed.
+-- A Finished says that a file was delivered only if the entity `own` completed its transaction.
 abbrev pub SaysDelivered : ℕ → List Indication → TransactionId → Content → Type 0
 SaysDelivered own told id v = (tlvs : List Tlv) → v ≡ Finished no_error Complete Retained tlvs
     → Contains (completions own told) id
 
--- These octets are those of what is due, behind its header.
+-- These octets are those of what is due, after its header.
 abbrev pub SpellsDue : (large : Bool) → Option Content → Addressing → List ℕ → Type 0
 SpellsDue large None a octets = ⊥
 SpellsDue large (Some v) a octets = SpellsPdu (header_of a large v) v octets
@@ -96,7 +95,7 @@ abbrev pub longest_pdu : ℕ
 longest_pdu = 4134
 
 -- ---- what stays
--- What was indicated stays, none of it is let go, and more is added behind; the files to send, and
+-- What was indicated stays, none of it is discarded, and more is added after; the files to send,
 -- whether they stand, and the configuration stay, and no number comes back.
 pub record GoesOn (old new : EntityState) : Type 0 where
   pub gained : List Indication

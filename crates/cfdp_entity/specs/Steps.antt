@@ -101,13 +101,13 @@ abbrev pub if_receiver : Times → FileMap → ReceiverState → OctetMap →
 if_receiver times files r m (Some a) = by_receiver times a
 if_receiver times files r m None = no_step files (Receives r m)
 
--- the large file flag is nothing to a sender: it knows its file
+-- a sender ignores the large file flag: it knows its file
 abbrev pub hears : Stored → Times → FileMap → (large : Bool) → Content → Seen → After
 hears stored times files large v (Sends x) = if_sender times files x (sender_after v x)
 hears stored times files large v (Receives r m) =
     if_receiver times files r m (receiver_after stored large v m files r)
 
--- Where there was no memory for what a PDU brings, the record is as before, but for two things:
+-- If there was no memory for what a PDU brings, the record is as before, except for two things:
 -- file data may have staged octets at offsets that are not held, and a NAK may have asked for a
 -- prefix of its pairs.
 abbrev pub Spoils : Content → (old new : Seen) → Type 0
@@ -150,7 +150,7 @@ abbrev pub receiver_takes : Times → FileMap → ReceiverState → OctetMap →
 receiver_takes times files r m (Some d) = by_receiver times (receiver.takes d m files r)
 receiver_takes times files r m None = no_step files (Receives r m)
 
--- the PDU that is due is sent; `stored` is how the outbox answered, where file data were read
+-- the PDU that is due is sent; `stored` is how the outbox answered, if file data were read
 abbrev pub takes : Stored → Times → (sources files : FileMap) → Seen → After
 takes stored times sources files (Sends x) =
     sender_takes stored times files (octets_in sources x.source) x (sender_due x)

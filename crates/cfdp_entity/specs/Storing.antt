@@ -1,6 +1,6 @@
 -- Which calls of the inbox a step of an entity makes, in which order: those of the receiver whose
 -- step it is, and no other. `By` says that some calls lead from one state of the inbox to another.
--- Where it is `Raises`, these states are counts of failures.
+-- If it is `Raises`, these states are counts of failures.
 use Rattle.std.specs.Prelude.{ℕ, max, Bool, List, [], ◌∷◌, slice_get, Option, Some, None}
 use Rattle.std.specs.FinMap as map
 use Rattle.cfdp_header.specs.declared.value.TransactionId.{TransactionId}
@@ -23,7 +23,7 @@ use Rattle.cfdp_entity.specs.Table.{Entry, TableState, place_of, expired, at_tim
 
 module _ {A : Type 0} (By : List InboxCall → A → A → Type 0) where
   -- ---- one step of a receiver
-  -- It heard a PDU. Only Metadata, file data and EOF ask something of the inbox.
+  -- It heard a PDU. Only if that is Metadata, file data or an EOF, it asks something of the inbox.
   abbrev pub AsksHeard : (large : Bool) → Content → Stored → (r s : ReceiverState) →
       (old new : A) → Type 0
   AsksHeard large (Metadata kind size source destination options) stored r s old new =
@@ -39,7 +39,7 @@ module _ {A : Type 0} (By : List InboxCall → A → A → Type 0) where
   AsksCalled request.Cancel r s old new = Settles By Done r s old new
   AsksCalled _ r s old new = By [] old new
 
-  -- ---- one step of a record, by what it asks where it is a receiver's
+  -- ---- one step of a record, by what it asks if it is a receiver's
   -- A sender asks nothing of the inbox.
   abbrev pub AsksAs : (Asks : (r s : ReceiverState) → (old new : A) → Type 0) →
       (before after : Seen) → (old new : A) → Type 0
@@ -47,13 +47,13 @@ module _ {A : Type 0} (By : List InboxCall → A → A → Type 0) where
   AsksAs Asks (Receives r m) (Receives s n) old new = Asks r s old new
   AsksAs Asks (Receives r m) (Sends x) old new = ⊥
 
-  -- the record at a place made this step, if one is there
+  -- the record at an index made this step, if one is there
   abbrev pub AsksOf : (Asks : (r s : ReceiverState) → (old new : A) → Type 0) → (Entry → After) →
       Option Entry → (old new : A) → Type 0
   AsksOf Asks f (Some e) old new = AsksAs Asks e.1 (f e).seen old new
   AsksOf Asks f None old new = By [] old new
 
-  -- the record at a place heard a PDU
+  -- the record at an index heard a PDU
   abbrev pub AsksToHear : Stored → ℕ → (large : Bool) → Content → TableState →
       (old new : A) → Type 0
   AsksToHear stored place large v st old new = AsksOf (AsksHeard large v stored)
@@ -70,7 +70,7 @@ module _ {A : Type 0} (By : List InboxCall → A → A → Type 0) where
   AsksToExpire k place st old new = AsksOf (Settles By Done)
       (λ e. expires st.policy st.files k e.1) (slice_get st.records place) old new
 
-  -- ---- the same by where the record of a transaction is, if it has one
+  -- ---- the same by the index of a transaction's record, if it has one
   abbrev pub AsksWhere : (Asks : ℕ → (old new : A) → Type 0) → Option ℕ → (old new : A) → Type 0
   AsksWhere Asks (Some place) old new = Asks place old new
   AsksWhere Asks None old new = By [] old new
@@ -83,7 +83,7 @@ module _ {A : Type 0} (By : List InboxCall → A → A → Type 0) where
   AsksByTimer t st old new =
       AsksWhere (λ place. AsksToExpire t.1 place st) (place_of t.0 st.records) old new
 
-  -- ---- a record more
+  -- ---- a new record
   -- The inbox began the transaction, and then the record heard the PDU; or it refused.
   abbrev pub AsksToBegin : (begun stored : Stored) → (large : Bool) → Content → Addressing →
       (opened : Seen) → (old new : A) → Type 0
@@ -91,7 +91,7 @@ module _ {A : Type 0} (By : List InboxCall → A → A → Type 0) where
       × AsksAs (AsksHeard large v stored) (Receives (opened_receiver a) map.empty) opened mid new
   AsksToBegin Refused stored large v a opened old new = Begins By Refused a.id old new
 
-  -- An EOF with an error asks nothing of the inbox.
+  -- If an EOF has an error, it asks nothing of the inbox.
   abbrev pub AsksFirst : (closes : Option ℕ) → (begun stored : Stored) → (large : Bool) →
       Content → Addressing → (opened : Seen) → (old new : A) → Type 0
   AsksFirst (Some condition) begun stored large v a opened old new = By [] old new
@@ -110,7 +110,7 @@ module _ {A : Type 0} (By : List InboxCall → A → A → Type 0) where
   AsksToFire (t ∷ timers) st old new = (mid : A)
       × AsksByTimer t st old mid × AsksToFire timers (expired t st) mid new
 
-  -- The time was told: the timers that are due fired in their order, each once.
+  -- The time was given: the timers that are due fired in their order, each once.
   pub record AsksToTick (now : ℕ) (st : TableState) (old new : A) : Type 0 where
     pub fired : List Timer
     pub are : AreDue st.armed (max st.now now) fired

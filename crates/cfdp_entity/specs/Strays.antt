@@ -1,4 +1,4 @@
--- The ACK of a Finished whose transaction has no record.
+-- The ACK of a Finished if its transaction has no record.
 use Rattle.std.specs.Prelude.{ℕ, Bool, List, [], ◌∷◌, Some}
 use Rattle.cfdp_directives.specs.declared.pdu.addressing.Addressing.{Addressing}
 use Rattle.cfdp_directives.specs.declared.pdu.codes.Acknowledged.{Acknowledged}
@@ -11,7 +11,7 @@ use Rattle.cfdp_directives.specs.Pdu.Content.{Content, Ack}
 use Rattle.cfdp_entity.specs.Seen.{octets_of, len_of}
 
 -- what the header of a Finished or an EOF has in common with its answer, its large file flag too,
--- which of both is acknowledged, the condition that it told, and what is known of the transaction
+-- which of both is acknowledged, the condition that it had, and what is known of the transaction
 pub record StrayAck : Type 0 where
   pub addressing : Addressing
   pub large : Bool
@@ -19,7 +19,8 @@ pub record StrayAck : Type 0 where
   pub condition : ℕ
   pub status : TransactionStatus
 
--- to a Finished of a transaction that isn't known here (CCSDS 727.0-B-5, table 5-8, Unrecognized)
+-- the answer to a Finished if its transaction isn't known here (CCSDS 727.0-B-5, table 5-8,
+-- Unrecognized)
 abbrev pub unknown_ack : Header → ℕ → StrayAck
 unknown_ack h condition = record {
   addressing = addressing_of h;
@@ -29,7 +30,8 @@ unknown_ack h condition = record {
   status = Unrecognized;
 }
 
--- to a Finished or an EOF of one that was let go: it is over (table 5-8, Terminated)
+-- the answer to a Finished or an EOF if its transaction was discarded: it is over (table 5-8,
+-- Terminated)
 abbrev pub over_ack : Header → Acknowledged → ℕ → StrayAck
 over_ack h of condition = record {
   addressing = addressing_of h;
@@ -48,7 +50,7 @@ stray_octets s = octets_of s.large s.addressing (Some (stray_says s))
 abbrev pub stray_len : StrayAck → ℕ
 stray_len s = len_of s.large s.addressing (Some (stray_says s))
 
--- of the first that waits, 0 where none does
+-- the octets of the first that waits, 0 if none does
 abbrev pub first_stray_len : List StrayAck → ℕ
 first_stray_len [] = 0
 first_stray_len (s ∷ strays) = stray_len s

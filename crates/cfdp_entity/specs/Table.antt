@@ -27,8 +27,8 @@ use Rattle.cfdp_entity.specs.Opening.{puts, opens}
 abbrev pub Entry : Type 0
 Entry = TransactionId × Seen
 
--- the records in order of opening, the latest time told, the armed timers, what was indicated,
--- how many of that were let go, the published files, the files of the outbox, whether these stood
+-- the records in order of opening, the latest time given, the armed timers, what was indicated,
+-- how many of that were discarded, the published files, the files of the outbox, if these stood
 -- still so far, and how long and how often answers are waited for
 pub record TableState : Type 0 where
   pub records : List Entry
@@ -56,7 +56,7 @@ record_of id records = lookup (same_id id) records
 abbrev pub has_due : Entry → Bool
 has_due e = is_due e.1
 
--- the place of the first record from a place on that has something due, and else of the first of
+-- the index of the first record from one on that has something due, otherwise of the first of
 -- all
 abbrev pub next_due : ℕ → List Entry → Option ℕ
 next_due from records =
@@ -71,7 +71,7 @@ abbrev pub len_due : FileMap → Option Entry → ℕ
 len_due sources None = 0
 len_due sources (Some e) = due_len sources e.1
 
--- the octets of the PDU that the record at a place has due, and how many they are
+-- the octets of the PDU that the record at an index has due, and how many they are
 abbrev pub due_at : ℕ → TableState → List ℕ
 due_at place st = octets_due st.sources (slice_get st.records place)
 
@@ -82,7 +82,7 @@ abbrev pub data_due : Option Entry → Bool
 data_due None = false
 data_due (Some e) = carries_data e.1
 
--- whether that PDU carries octets of a file
+-- `true` if that PDU carries octets of a file
 abbrev pub data_at : ℕ → TableState → Bool
 data_at place st = data_due (slice_get st.records place)
 
@@ -94,7 +94,7 @@ abbrev pub progress_in : Option Entry → Option ℕ
 progress_in (Some e) = Some (progress_of e.1)
 progress_in None = None
 
--- ---- one step of the record at a place; no other record changes
+-- ---- one step of the record at an index; no other record changes
 abbrev pub stepped : ℕ → TransactionId → After → TableState → TableState
 stepped place id after st = record st {
   records = set_value_at st.records place after.seen;
@@ -103,7 +103,7 @@ stepped place id after st = record st {
   files = after.files;
 }
 
--- the table after a step of the record at a place, if one is there
+-- the table after a step of the record at an index, if one is there
 abbrev pub step_of : (Entry → After) → ℕ → Option Entry → TableState → TableState
 step_of f place None st = st
 step_of f place (Some e) st = stepped place e.0 (f e) st
@@ -125,7 +125,7 @@ abbrev pub taken_at : Stored → ℕ → TableState → TableState
 taken_at stored place st =
     step_at (λ e. takes stored st.policy.times st.sources st.files e.1) place st
 
--- ---- a record more, behind all others
+-- ---- a new record, after all others
 abbrev pub with_record : TransactionId → After → TableState → TableState
 with_record id after st = record st {
   records = st.records ++ (id, after.seen) ∷ [];
@@ -156,16 +156,16 @@ first_table sources files policy = record {
   policy = policy;
 }
 
--- the same, of an outbox whose files stand or don't
+-- the table if the files of its outbox stand, or if they don't
 abbrev pub standing : Bool → TableState → TableState
 standing stands st = record st { stands = stands }
 
--- the table before a step that may read a file, but that the outbox has what it has afterwards: its
--- files as they were when they were read
+-- the table before a step that may read a file, except that the outbox has what it has afterwards:
+-- its files as they were when they were read
 abbrev pub table_lent : (now old : TableState) → TableState
 table_lent now old = record old { sources = now.sources; stands = now.stands }
 
--- the table of an outbox of which such a step has shown something, where it read file data
+-- the table whose outbox such a step has shown, if it read file data
 abbrev pub ShowsIf : (reads : Bool) → (old new : TableState) → Type 0
 ShowsIf reads old new = RereadsIf reads old.stands new.stands old.sources new.sources
 
@@ -186,15 +186,15 @@ all_expired (t ∷ timers) st = all_expired timers (expired t st)
 abbrev pub at_time : ℕ → TableState → TableState
 at_time now st = record st { now = max st.now now; armed = still_armed (max st.now now) st.armed }
 
--- The time was told: of the timers that were armed, those that are due have fired in their order,
--- each once, and nothing else changed. A timer that such a step arms isn't among them.
+-- The time was given: of the timers that were armed, those that are due have fired in their order,
+-- each once, and nothing else changed. If such a step arms a timer, it isn't among them.
 pub record Ticks (now : ℕ) (old new : TableState) : Type 0 where
   pub fired : List Timer
   pub are : AreDue old.armed (max old.now now) fired
   pub ticked : new ≡ all_expired fired (at_time now old)
 
--- ---- indications that are let go
--- how many are gone once so many more of those that are left go: as far as 64 bits count
+-- ---- indications that are discarded
+-- how many are discarded once so many more of those that are left are: as far as 64 bits count
 abbrev pub gone_after : ℕ → TableState → ℕ
 gone_after count st =
     let gone = st.gone + min count (length st.told - st.gone) in
@@ -203,12 +203,12 @@ gone_after count st =
 abbrev pub without_told : ℕ → TableState → TableState
 without_told count st = record st { gone = gone_after count st }
 
--- the first one that is left, as far as it can be counted once it goes, too
+-- the first one that is left, if it can still be counted once it is discarded
 abbrev pub next_told : TableState → Option Indication
 next_told st = if nat_lt (st.gone + 1) (2 ^ 64) then slice_get st.told st.gone else None
 
--- ---- want of memory
--- a record at a place found no memory for a PDU, and nothing else changed
+-- ---- out of memory
+-- if a record at an index found no memory for a PDU, nothing else changed
 pub record SpoiledAt (place : ℕ) (v : Content) (old new : TableState) : Type 0 where
   pub seen : Seen
   pub spoils : (e : Entry) → slice_get old.records place ≡ Some e → Spoils v e.1 seen

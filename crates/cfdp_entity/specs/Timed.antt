@@ -12,7 +12,7 @@ abbrev pub waits_seen : Kind → Seen → Bool
 waits_seen k (Sends x) = sender_waits k x
 waits_seen k (Receives r m) = waits k r
 
--- whether a record, if there is one, waits for this timer
+-- `true` if a record, if there is one, waits for this timer
 abbrev pub waits_for : Kind → Option Seen → Bool
 waits_for k (Some s) = waits_seen k s
 waits_for k None = false
@@ -20,7 +20,7 @@ waits_for k None = false
 abbrev pub is_armed : TransactionId → Kind → TableState → Bool
 is_armed id k st = is_some (map.get st.armed (id, k))
 
--- A timer that is armed is waited for, and one that is waited for is armed.
+-- A timer that is armed is waited for, and if one is waited for, it must be armed.
 pub record AreTimed (st : TableState) : Type 0 where
   pub waited : (id : TransactionId) (k : Kind) → is_armed id k st ≡ true
       → waits_for k (record_of id st.records) ≡ true

@@ -1,4 +1,4 @@
--- What a table keeps that hears nothing but the truth of puts. `own` is its entity, `put_of` finds
+-- What a table keeps if it hears nothing but the truth of puts. `own` is its entity, `put_of` finds
 -- the put of a transaction, `heard` is the PDUs that were heard, `first` the files published at
 -- first.
 use Rattle.std.specs.Prelude.{◌≡◌, ℕ, List, slice_get, Option, Some, IsSome, Contains}
@@ -23,20 +23,20 @@ pub record KnowsPut (own : ℕ) (put_of : TransactionId → Option Put) (heard :
   pub not_own : id.source ≡ own → ⊥
   pub sound : Sound put heard r m
 
--- So does each record: one that sends is of this entity.
+-- Each record knows nothing else: if it sends, its transaction must be this entity's.
 abbrev pub KnowsTruth : ℕ → (TransactionId → Option Put) → List (List ℕ) → TransactionId → Seen →
     Type 0
 KnowsTruth own put_of heard id (Sends x) = (x.addressing.id ≡ id) × (id.source ≡ own)
 KnowsTruth own put_of heard id (Receives r m) = KnowsPut own put_of heard id r m
 
--- A PDU is true of the put of its transaction, and what it tells of it is among what was heard.
+-- A PDU must be true of the put of its transaction, and what it says of it among what was heard.
 abbrev pub IsTrueOf : (TransactionId → Option Put) → List (List ℕ) → TransactionId → Content →
     Type 0
 IsTrueOf put_of heard id v =
     (put : Put) → put_of id ≡ Some put → IsTruthful put v × IsAmong put heard v
 
--- A step tells nothing but the truth: PDUs that are heard are true, one that opens a record is of a
--- put of another entity, and a put is of this one.
+-- A step must say nothing but the truth: PDUs that are heard are true, one that opens a record is
+-- of a put of another entity, and a put is of this one.
 abbrev pub TellsTruth : ℕ → (TransactionId → Option Put) → List (List ℕ) → TableStep → TableState →
     Type 0
 TellsTruth own put_of heard (Hears stored place large v) st =

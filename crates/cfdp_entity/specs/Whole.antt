@@ -23,7 +23,7 @@ entry_seen staged e = (e.0, seen (staged e.0) e.1)
 unfoldable pub entries_seen : Staged → List (TransactionId × Record) → List Entry
 entries_seen staged es = map (entry_seen staged) es
 
--- the table of these records, over a desk; these indications were let go
+-- the table of these records, over a desk; these indications were discarded
 abbrev pub state_of : List Indication → DeskState → List (TransactionId × Record) → TableState
 state_of gone desk es = record {
   records = entries_seen desk.staged es;
@@ -50,20 +50,20 @@ abbrev pub id_of : Record → TransactionId
 id_of (held.Sends x) = x.addressing.id
 id_of (held.Receives r) = r.addressing.id
 
--- A record is kept under its transaction. What a sender is sending is in the outbox, and while a
--- receiver receives, its transaction is begun and what is held is staged.
+-- A record is kept under its transaction. What a sender sends must be in the outbox, and if a
+-- receiver receives, its transaction must be begun, and what is held must be staged.
 unfoldable pub IsReadyRecord : Staged → FileMap → TransactionId → Record → Type 0
 IsReadyRecord staged sources id (held.Sends x) =
     (x.addressing.id ≡ id) × HasOwnFile sources x
 IsReadyRecord staged sources id (held.Receives r) = (r.addressing.id ≡ id) × IsReady staged r
 
--- A record can make a step: it is ready, and there is room for what the step tells and arms.
+-- A record can make a step: it must be ready, with room for what the step says and arms.
 pub record MayStep (r : Record) (desk : DeskState) : Type 0 where
   pub ready : IsReadyRecord desk.staged desk.sources (id_of r) r
   pub room : HasRoom (id_of r) desk.effects
 
 -- ---- a table that is whole
--- each record is ready, and its timers have room
+-- each record must be ready, and its timers must have room
 unfoldable pub AllReady : Staged → FileMap → set.FinSet id_cmp → List (TransactionId × Record) →
     Type 0
 AllReady staged sources roomy [] = Unit {0}

@@ -11,11 +11,11 @@ use cfdp_store::{Inbox, MemoryOutbox, SeekingOutbox, StoreError};
 
 impl<I: Inbox> Entity<MemoryOutbox, I> {
     /// Adds a file to the outbox, under a name that it has no file of: so no file changes that is
-    /// being sent. Its octets are copied, and stay as long as the entity.
+    /// being sent. Its octets are copied, and stay until the file is removed.
     ///
     /// # Errors
     ///
-    /// The first cause that holds, in the order of [`AddError`]; nothing changed then.
+    /// The first cause that holds, if one does, in the order of [`AddError`]; nothing changed then.
     pub fn add_source(&mut self, name: &[u8], octets: &[u8]) -> Result<(), AddError>
         ensures added { OnOk result (AddsFile name.now octets.now self.old.state self.new.state) }
         ensures refused { IfErr result (RefusesToAdd name.now self.old.state.table.sources) }
@@ -28,13 +28,13 @@ impl<I: Inbox> Entity<MemoryOutbox, I> {
 }
 
 impl<O: SeekingOutbox, I: Inbox> Entity<O, I> {
-    /// Looks for the file of a name, so that a put can send it as it is now: whether there is one.
-    /// Where the file of that name is being sent already, it isn't looked for: a put sends what is
-    /// sent then.
+    /// Looks for the file of a name, so that a put can send it as it is now. Returns `true` if
+    /// there is one. If the file of that name is being sent already, it isn't looked for: a put
+    /// sends what is sent then.
     ///
     /// # Errors
     ///
-    /// That of the outbox, which is counted. Nothing else changed then.
+    /// The error of the outbox, if it fails, which is counted. Nothing else changed then.
     pub fn look_for(&mut self, name: &[u8]) -> Result<bool, StoreError>
         ensures has { IfOk result (λ has. has
             ≡ is_some (map.get self.new.state.table.sources name.now)) }

@@ -1,4 +1,4 @@
-// Which field of a configuration isn't as it has to be.
+// Which field of a configuration isn't as it must be.
 ghost use Rattle.std.specs.Prelude.{◌↔◌, IsTrue, MatchOption};
 ghost use Rattle.cfdp_header.specs.Header.{IsWidth};
 ghost use Rattle.cfdp_directives.specs.User.Limits.{IsValidTimes};
@@ -11,7 +11,7 @@ use cfdp_sender::MOST_SEGMENT;
 use thiserror::Error;
 use valid_config::Config;
 
-/// A field of an [`EntityConfig`](crate::EntityConfig) that isn't as it has to be.
+/// A field of an [`EntityConfig`](crate::EntityConfig) that isn't as it must be.
 #[derive(Clone, Copy, Debug, PartialEq, Eq, Error)]
 pub enum EntityField {
     /// The width of ids.
@@ -114,7 +114,7 @@ impl EntityConfig {
     }
 }
 
-/// Whether ids or sequence numbers may have so many octets.
+/// Returns `true` if ids or sequence numbers may have so many octets.
 fn is_width(width: u8) -> bool
     ensures { IsTrue result ↔ IsWidth width }
 {

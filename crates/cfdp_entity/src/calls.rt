@@ -21,7 +21,8 @@ impl<O: Outbox, I: Inbox> Entity<O, I> {
     ///
     /// # Errors
     ///
-    /// The first cause that holds, in the order of [`RequestError`]. All is then as it was.
+    /// The first cause that holds, if one does, in the order of [`RequestError`]. All is then as it
+    /// was.
     pub fn request(&mut self, id: TransactionId, request: Request) -> Result<(), RequestError>
         ensures { AnswersRequest request id result self.old self.new }
     {
@@ -37,7 +38,7 @@ impl<O: Outbox, I: Inbox> Entity<O, I> {
         }
     }
 
-    /// Gives up a transaction that is sent or received, and tells the other entity.
+    /// Gives up a transaction that is sent or received, and says so to the other entity.
     ///
     /// # Errors
     ///
@@ -54,7 +55,7 @@ impl<O: Outbox, I: Inbox> Entity<O, I> {
     ///
     /// # Errors
     ///
-    /// The first that holds, in this order: `Unknown`, `AlreadyClosed`, `AlreadySo` where it is
+    /// The first that holds, in this order: `Unknown`, `AlreadyClosed`, `AlreadySo` if it is
     /// suspended, `NoMemory`. All is then as it was.
     pub fn suspend(&mut self, id: TransactionId) -> Result<(), RequestError>
         ensures { AnswersRequest requests.Suspend id result self.old self.new }
@@ -66,7 +67,7 @@ impl<O: Outbox, I: Inbox> Entity<O, I> {
     ///
     /// # Errors
     ///
-    /// The first that holds, in this order: `Unknown`, `AlreadyClosed`, `AlreadySo` where it isn't
+    /// The first that holds, in this order: `Unknown`, `AlreadyClosed`, `AlreadySo` if it isn't
     /// suspended, `NoMemory`. All is then as it was.
     pub fn resume(&mut self, id: TransactionId) -> Result<(), RequestError>
         ensures { AnswersRequest requests.Resume id result self.old self.new }
@@ -74,12 +75,13 @@ impl<O: Outbox, I: Inbox> Entity<O, I> {
         self.request(id, Request::Resume)
     }
 
-    /// Asks the receiver of a file that is sent for a Keep Alive, or else for a NAK.
+    /// Asks the receiver of a file that is sent for a Keep Alive if `keep_alive` is set, otherwise
+    /// for a NAK.
     ///
     /// # Errors
     ///
-    /// The first that holds, in this order: `Unknown`, `WrongSide` where this entity is the file's
-    /// receiver, `AlreadyClosed`, `AlreadySo` where a Prompt is due already, `NoMemory`. All is
+    /// The first that holds, in this order: `Unknown`, `WrongSide` if this entity is the file's
+    /// receiver, `AlreadyClosed`, `AlreadySo` if a Prompt is due already, `NoMemory`. All is
     /// then as it was.
     pub fn prompt(&mut self, id: TransactionId, keep_alive: bool) -> Result<(), RequestError>
         ensures { AnswersRequest (requests.Prompt keep_alive) id result self.old self.new }
@@ -87,13 +89,13 @@ impl<O: Outbox, I: Inbox> Entity<O, I> {
         self.request(id, Request::Prompt { keep_alive })
     }
 
-    /// Tells the time, in any unit that the durations of the policy have. A time earlier than the
-    /// last counts as the last. The timers that are due fire in their order, each once; one that
-    /// such a step arms fires at a later tick.
+    /// Notes the time, in any unit that the durations of the policy have. If it is earlier than the
+    /// last, it counts as the last. The timers that are due fire in their order, each once; if such
+    /// a step arms one, it fires at a later tick.
     ///
     /// # Errors
     ///
-    /// `AllocError` where a timer is due, but there is no memory for what is indicated. All is then
+    /// `AllocError` if a timer is due, but there is no memory for what is indicated. All is then
     /// as it was, the time too.
     pub fn tick(&mut self, now: u64) -> Result<(), AllocError>
         ensures ticked { OnOk result (Ticks now self.old.state.table self.new.state.table) }
@@ -109,7 +111,7 @@ impl<O: Outbox, I: Inbox> Entity<O, I> {
         self.table.tick(now)
     }
 
-    // What is asked of the transaction whose record is at a place.
+    // What is asked of the transaction whose record is at an index.
     fn request_at(&mut self, place: usize, request: Request) -> Result<(), AllocError>
         ensures asked { OnOk result (RequestsAt place request self.old self.new) }
         ensures err { OnErr result (self.new ≡ self.old) }

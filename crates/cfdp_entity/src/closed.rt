@@ -1,5 +1,5 @@
 //! What still happens to a record that is closed and has nothing due: it acknowledges, by what the
-//! PDU says alone, and nothing else. So it can be let go.
+//! PDU says alone, and nothing else. So it can be discarded.
 ghost use Rattle.std.specs.Prelude.{◌≡◌, ℕ, Bool, List, None};
 ghost use Rattle.cfdp_header.specs.Files.{FileMap};
 ghost use Rattle.cfdp_timers.specs.declared.kind.Kind.{Kind};
@@ -25,8 +25,8 @@ pub fn a_closed_sender_acknowledges()
         → SenderAnswers condition x }
 {}
 
-/// A receiver that is closed and has nothing due acknowledges an EOF, and does nothing else but to
-/// note the large file flag.
+/// A receiver that is closed and has nothing due acknowledges an EOF, and does nothing else
+/// except that it notes the large file flag.
 pub fn a_closed_receiver_acknowledges()
     ensures hears { (stored : Stored) (large : Bool) (v : Content) (m : OctetMap)
         (files : FileMap) (r : ReceiverState) → RestsReceiver r

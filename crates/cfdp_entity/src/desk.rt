@@ -1,11 +1,20 @@
 // What the steps of records work on, and these steps.
-ghost use Rattle.std.specs.Prelude.{◌≡◌, ◌≤◌, None, length, IfOk, OnErr};
+ghost use Rattle.std.specs.Prelude.{◌≡◌, ◌≤◌, None, length, IfErr, IfOk, OnErr};
 ghost use Rattle.cfdp_directives.specs.Pdu.Addressing.{FitsAddressing};
 ghost use Rattle.cfdp_directives.specs.Pdu.Content.{view};
 ghost use Rattle.cfdp_timers.specs.Effects.{UsesAtMost};
 ghost use Rattle.cfdp_receiver.specs.Does.{MakesIn};
 ghost use Rattle.cfdp_receiver.specs.Storing.{Settles};
-ghost use Rattle.cfdp_sender.specs.Does.{HasFile};
+ghost use Rattle.cfdp_directives.specs.Pdu.Sums.{SumsFit};
+ghost use Rattle.cfdp_sender.specs.Back as sender_back;
+ghost use Rattle.cfdp_sender.specs.Does.{HasFile, HasFileWhile};
+ghost use Rattle.cfdp_entity.specs.Entity.{EntityState};
+ghost use Rattle.cfdp_entity.specs.Restoring.{AreHeldBelow, HoldsAdopted, OpensReceiver};
+ghost use Rattle.cfdp_entity.specs.Restoring.{ReceiverCause, counted_as, restores_sender, was_shown};
+ghost use Rattle.cfdp_receiver.specs.Back as receiver_back;
+ghost use Rattle.cfdp_receiver.specs.State.{kind_told};
+ghost use Rattle.cfdp_store.specs.Staged.{OthersKeep};
+ghost use Rattle.cfdp_store.specs.Stores.{failures_after};
 ghost use Rattle.cfdp_sender.specs.State.{IsSendable};
 ghost use Rattle.cfdp_store.specs.Chains.{Raises};
 ghost use Rattle.cfdp_store.specs.Rereading.{RereadsIf};
@@ -24,10 +33,12 @@ use crate::record::{
     Gave, Record, ask_receiver, ask_sender, receiver_hears, send_of_receiver, sender_hears,
 };
 use crate::request::Request;
-use cfdp_directives::{Addressing, Pdu, Policy};
-use cfdp_receiver::Receiver;
-use cfdp_sender::{Sender, Taken, Transfer};
-use cfdp_store::{Inbox, Outbox, Stored};
+use crate::restoring::RestoreError;
+use cfdp_directives::{Addressing, ChecksumKind, Checksums, Pdu, Policy};
+use cfdp_extents::Extents;
+use cfdp_receiver::{CommittedReceiver, FileInfo, Receiver, ReceiverPhase, adopt_held};
+use cfdp_sender::{CommittedSender, Sender, Taken, Transfer};
+use cfdp_store::{Inbox, Outbox, ResumingInbox, Stored};
 use cfdp_timers::{Effects, Kind};
 use std::alloc::{AllocError, Global};
 
@@ -42,8 +53,8 @@ pub struct Desk<O: Outbox, I: Inbox> {
 }
 
 impl<O: Outbox, I: Inbox> Desk<O, I> {
-    /// A record hears a PDU of its transaction, with its large file flag. Room for what its steps
-    /// tell was made before.
+    /// Lets a record hear a PDU of its transaction, with its large file flag. Room for what its
+    /// steps report must be made before.
     pub(crate) fn hear(
         &mut self,
         held: &mut Record,
@@ -70,7 +81,7 @@ impl<O: Outbox, I: Inbox> Desk<O, I> {
         }
     }
 
-    /// A timer of its transaction expired.
+    /// Fires a timer of its transaction.
     pub(crate) fn expire(&mut self, held: &mut Record, kind: Kind)
         requires { MayStep held.old (on_desk O.Outbox I.Inbox self.old) }
         ensures expired { Made (expiring kind) held.old held.new
@@ -90,7 +101,7 @@ impl<O: Outbox, I: Inbox> Desk<O, I> {
         }
     }
 
-    /// A request of the user.
+    /// Does a request of the user.
     pub(crate) fn request(&mut self, held: &mut Record, request: Request)
         requires { MayStep held.old (on_desk O.Outbox I.Inbox self.old) }
         ensures called { Made (calling request) held.old held.new
@@ -156,6 +167,33 @@ impl<O: Outbox, I: Inbox> Desk<O, I> {
         Ok(Record::Sends(sender))
     }
 
+    /// Restores the record of a sender.
+    pub(crate) fn restore_sender(
+        &mut self,
+        alloc: Global,
+        kept: CommittedSender,
+        sent: u64,
+        sums: Checksums,
+    ) -> Result<Record, AllocError>
+        requires committed { sender_back.IsCommitted kept }
+        requires file { HasFileWhile kept.phase (O.files self.old.outbox) kept.transfer.source
+            kept.transfer.size }
+        requires within { sent ≤ kept.transfer.size }
+        requires fits { SumsFit sums }
+        ensures opens { IfOk result (λ held. Opens kept.transfer.addressing.id
+            (restores_sender self.old.policy.times (I.published self.old.inbox) sent sums kept)
+            held (on_desk O.Outbox I.Inbox self.old) (on_desk O.Outbox I.Inbox self.new)) }
+        ensures err { OnErr result (OpensNone (on_desk O.Outbox I.Inbox self.old)
+            (on_desk O.Outbox I.Inbox self.new)) }
+        ensures inbox { self.new.inbox ≡ self.old.inbox }
+        ensures widens { Widens kept.transfer.addressing.id (on_desk O.Outbox I.Inbox self.old)
+            (on_desk O.Outbox I.Inbox self.new) }
+    {
+        let times = &self.policy.times;
+        let sender = Sender::restored(alloc, &mut self.effects, times, kept, sent, sums)?;
+        Ok(Record::Sends(sender))
+    }
+
     /// Opens the record of a PDU, and lets it hear the PDU, with its large file flag.
     pub(crate) fn open(
         &mut self,
@@ -199,7 +237,7 @@ impl<O: Outbox, I: Inbox> Desk<O, I> {
         }
     }
 
-    // Opens a receiver. Where the inbox begins its transaction, it hears the PDU.
+    // Opens a receiver. If the inbox begins its transaction, it hears the PDU.
     fn begin(
         &mut self,
         alloc: Global,
@@ -234,5 +272,77 @@ impl<O: Outbox, I: Inbox> Desk<O, I> {
             Stored::Refused => Stored::Done,
         };
         Ok((receiver, Opened { begun, stored }))
+    }
+}
+
+impl<O: Outbox, I: ResumingInbox> Desk<O, I> {
+    /// Restores the record of a receiver, with what it held. That is read from the part of its file
+    /// in the inbox, in pieces as long as `buffer`.
+    pub(crate) fn restore_receiver(
+        &mut self,
+        alloc: Global,
+        kept: CommittedReceiver,
+        held: Extents,
+        buffer: &mut [u8],
+    ) -> Result<Record, RestoreError>
+        requires committed { receiver_back.IsCommitted kept }
+        requires within { AreHeldBelow held kept }
+        requires room { 1 ≤ length buffer.old }
+        ensures opens { IfOk result (λ now. OpensReceiver kept held now
+            (on_desk O.Outbox I.Inbox self.old) (on_desk O.Outbox I.Inbox self.new)) }
+        ensures refused { IfErr result (λ by. (e : EntityState) → ReceiverCause by kept held e) }
+        ensures err { OnErr result (OpensNone (on_desk O.Outbox I.Inbox self.old) (counted_as
+            (on_desk O.Outbox I.Inbox self.new) (on_desk O.Outbox I.Inbox self.old))) }
+        ensures inbox { I.failures self.new.inbox
+            ≡ failures_after (I.failures self.old.inbox) (was_shown result) }
+        ensures widens { Widens kept.addressing.id (on_desk O.Outbox I.Inbox self.old)
+            (on_desk O.Outbox I.Inbox self.new) }
+    {
+        let sums = self.adopt(&kept, &held, buffer)?;
+        let effects = &mut self.effects;
+        match Receiver::restored(alloc, effects, &self.policy, kept, held, sums) {
+            Ok(receiver) => Ok(Record::Receives(receiver)),
+            Err(_) => Err(RestoreError::NoMemory),
+        }
+    }
+
+    // Adopts the part of a receiver's file, if it receives, and returns the sums of what is held.
+    fn adopt(
+        &mut self,
+        kept: &CommittedReceiver,
+        held: &Extents,
+        buffer: &mut [u8],
+    ) -> Result<Checksums, RestoreError>
+        requires room { 1 ≤ length buffer.old }
+        ensures adopted { IfOk result (HoldsAdopted kept.now held.now
+            (I.staged self.new.inbox kept.now.addressing.id)) }
+        ensures refused { IfErr result (λ by. (e : EntityState)
+            → ReceiverCause by kept.now held.now e) }
+        ensures others { OthersKeep kept.now.addressing.id (I.staged self.old.inbox)
+            (I.staged self.new.inbox) }
+        ensures published { I.published self.new.inbox ≡ I.published self.old.inbox }
+        ensures failures { I.failures self.new.inbox
+            ≡ failures_after (I.failures self.old.inbox) (was_shown result) }
+        ensures rest { self.new ≡ record self.old { inbox = self.new.inbox } }
+    {
+        if kept.phase != ReceiverPhase::Receiving {
+            return Ok(Checksums::new());
+        }
+        let wanted = kind_of(&kept.metadata);
+        match adopt_held(&mut self.inbox, kept.addressing.id, &wanted, held, buffer) {
+            Ok(Some(sums)) => Ok(sums),
+            Ok(None) => Err(RestoreError::ShortPart),
+            Err(_) => Err(RestoreError::InboxFault),
+        }
+    }
+}
+
+// Returns the checksum type of a file, if Metadata said it.
+fn kind_of(metadata: &Option<FileInfo>) -> Option<ChecksumKind>
+    ensures { result ≡ kind_told metadata.now }
+{
+    match metadata {
+        Some(info) => Some(info.checksum_kind),
+        None => None,
     }
 }

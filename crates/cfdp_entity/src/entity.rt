@@ -25,23 +25,24 @@ pub(crate) const MOST_STRAYS: usize = 64;
 /// An entity of CFDP, class 2 (CCSDS 727.0-B-5): it sends files of its outbox to its peer, and
 /// publishes in its inbox the files that its peer sends.
 ///
-/// PDUs are given to it by `receive` and taken from it by `poll`; the time is told to it by `tick`.
-/// It has room for 4,096 records, and keeps closed ones, and all that it told its user, until its
-/// user lets them go: by `forget`, `forget_closed`, `next_indication` and `forget_indications`.
+/// PDUs are given to it by `receive` and taken from it by `poll`; `tick` gives it the time, and
+/// must be called before a timer can fire. It has room for 4,096 records. It keeps closed ones, and
+/// all that it indicated, until its user discards them: by `forget`, `forget_closed`,
+/// `next_indication` and `forget_indications`.
 #[derive(Drop)]
 pub struct Entity<O: Outbox, I: Inbox> {
     pub(crate) alloc: Global,
     pub(crate) config: EntityConfig,
     pub(crate) table: Table<O, I>,
     pub(crate) strays: HeapCircularBuffer<Stray>,
-    // The place behind the record served last.
+    // The index after the record served last.
     pub(crate) cursor: usize,
-    // The number of the next put, none once the last of eight octets is used.
+    // The number of the next put; none if the last of eight octets is used.
     pub(crate) next: Option<u64>,
     // By their number, of 1 to 17.
     drops: [u64; 18],
     pub(crate) sent: SentPdus,
-    // The transactions that were let go.
+    // The transactions that were discarded.
     pub(crate) forgotten: Forgotten,
 }
 
@@ -76,11 +77,11 @@ impl<O: Outbox, I: Inbox> Model for Entity<O, I> {
 }
 
 impl<O: Outbox, I: Inbox> Entity<O, I> {
-    /// An entity without records, over its two stores.
+    /// Returns an entity without records, over its two stores.
     ///
     /// # Errors
     ///
-    /// `AllocError` where there is no memory for it.
+    /// `AllocError` if there is no memory for it.
     pub fn new(
         alloc: Global,
         config: Valid<EntityConfig>,
@@ -109,7 +110,7 @@ impl<O: Outbox, I: Inbox> Entity<O, I> {
         })
     }
 
-    /// How far a transaction has come; `None` where it has no record here.
+    /// Returns how far a transaction has come; `None` if it has no record here.
     pub fn phase(&self, id: TransactionId) -> Option<Phase>
         ensures { result ≡ phase_told id self.now.state.table }
     {
@@ -119,9 +120,9 @@ impl<O: Outbox, I: Inbox> Entity<O, I> {
         }
     }
 
-    /// Up to which offset octets of a transaction's file were sent by this entity, whether or not
-    /// they came, or have come to it, some of which may be missing: what a Keep Alive says (CCSDS
-    /// 727.0-B-5, 5.2.8). `None` where the transaction has no record here.
+    /// Returns the offset up to which octets of a transaction's file were sent by this entity, even
+    /// if they didn't come, or have come to it, even if some are missing: what a Keep Alive says
+    /// (CCSDS 727.0-B-5, 5.2.8). `None` if the transaction has no record here.
     pub fn progress(&self, id: TransactionId) -> Option<u64>
         ensures { result ≡ progress_told id self.now.state.table }
     {
@@ -131,7 +132,8 @@ impl<O: Outbox, I: Inbox> Entity<O, I> {
         }
     }
 
-    /// How often `receive` dropped a PDU by this cause. The count stays at the greatest `u64`.
+    /// Returns how often `receive` dropped a PDU by this cause. The count stays at the greatest
+    /// `u64`.
     pub fn drops(&self, by: EntityDrop) -> u64
         ensures count { result ≡ get_or self.now.state.drops (drop_number by) 0 }
         ensures kinds { length self.now.state.drops ≡ 18 }
@@ -142,15 +144,15 @@ impl<O: Outbox, I: Inbox> Entity<O, I> {
         }
     }
 
-    /// How many PDUs `poll` gave, by what they are.
+    /// Returns how many PDUs `poll` gave, by what they are.
     pub fn sent(&self) -> SentPdus
         ensures { result ≡ self.now.state.sent }
     {
         self.sent
     }
 
-    /// The earliest deadline of the armed timers but those of kind Inactivity, in units of the
-    /// clock that `tick` is told; `None` where no other is armed. `next_timeout` tells that of all.
+    /// Returns the earliest deadline of the armed timers except those of kind Inactivity, in units
+    /// of the clock of `tick`; `None` if no other is armed. `next_timeout` counts all timers.
     pub fn next_deadline(&self) -> Option<u64>
         ensures { MatchOption result (OnlyInactivity self.now.state.table.armed)
             (λ deadline. IsLeastOther self.now.state.table.armed deadline) }
@@ -158,14 +160,14 @@ impl<O: Outbox, I: Inbox> Entity<O, I> {
         self.table.next_deadline()
     }
 
-    /// What was indicated, in order, but for the first ones that were let go.
+    /// Returns what was indicated, in order, except for the first ones that were discarded.
     pub fn indications(&self) -> &[Indication]
         ensures { result.now ≡ drop self.now.state.table.gone self.now.state.table.told }
     {
         self.table.told()
     }
 
-    /// The outbox, lent.
+    /// Borrows the outbox.
     pub fn outbox(&self) -> &O
         ensures files { O.files result.now ≡ self.now.state.table.sources }
         ensures stands { O.stands result.now ≡ self.now.state.table.stands }
@@ -174,7 +176,7 @@ impl<O: Outbox, I: Inbox> Entity<O, I> {
         self.table.outbox()
     }
 
-    /// The inbox, lent.
+    /// Borrows the inbox.
     pub fn inbox(&self) -> &I
         ensures published { I.published result.now ≡ self.now.state.table.files }
         ensures failures { I.failures result.now ≡ self.now.inbox_failures }

@@ -6,10 +6,10 @@ use cfdp_header::HeaderError;
 use thiserror::Error;
 
 /// Why a PDU that was heard is dropped: the first cause that holds, in the order in which they are
-/// told.
+/// reported.
 #[derive(Clone, Copy, Debug, PartialEq, Eq, Error)]
 pub enum EntityDrop {
-    /// The octets are no PDU. Told first. The large file flag of a header is never the cause.
+    /// The octets are no PDU. Reported first. The large file flag of a header is never the cause.
     #[error("{0}")]
     Pdu(PduError),
     /// The direction bit of the header isn't the one for what the PDU says.
@@ -27,14 +27,14 @@ pub enum EntityDrop {
     /// There is no room for one more record, or for one more stray acknowledgement.
     #[error("the transaction table is full")]
     TableFull,
-    /// There is no memory for what the PDU brings. Told last.
+    /// There is no memory for what the PDU brings. Reported last.
     #[error("out of memory")]
     NoMemory,
 }
 
 impl EntityDrop {
     /// All causes, in the order of their numbers. The sixth, the large file flag of a header, keeps
-    /// its number, but is told of no PDU.
+    /// its number, but is reported of no PDU.
     pub const ALL: [EntityDrop; 17] = [
         EntityDrop::Pdu(PduError::Header(HeaderError::Short)),
         EntityDrop::Pdu(PduError::Header(HeaderError::Version)),
@@ -55,7 +55,7 @@ impl EntityDrop {
         EntityDrop::NoFile,
     ];
 
-    /// Why the octets are no PDU, where that is the cause.
+    /// Returns why the octets are no PDU, if that is the cause.
     pub fn source(self) -> Option<PduError>
         ensures { result ≡ errors.drop_source self }
     {
@@ -65,7 +65,7 @@ impl EntityDrop {
         }
     }
 
-    /// The number that names this cause in reports: 1 to 17.
+    /// Returns the number that names this cause in reports: 1 to 17.
     pub fn number(self) -> u8
         ensures { result ≡ errors.drop_number self }
     {
@@ -80,7 +80,8 @@ impl EntityDrop {
         }
     }
 
-    /// The name of this cause in reports: the variant's, or that of the refusal of the octets.
+    /// Returns the name of this cause in reports: the variant's, or the refusal's if the octets are
+    /// no PDU.
     pub fn name(self) -> &'static str
         ensures { result.now ≡ errors.drop_name self }
     {
@@ -96,10 +97,10 @@ impl EntityDrop {
     }
 }
 
-/// Why a put is refused: the first cause that holds, in the order in which they are told.
+/// Why a put is refused: the first cause that holds, in the order in which they are reported.
 #[derive(Clone, Copy, Debug, PartialEq, Eq, Error)]
 pub enum PutError {
-    /// A name has no octet, or more than 255. Told first.
+    /// A name has no octet, or more than 255. Reported first.
     #[error("file names must be 1 to 255 octets")]
     Name,
     /// There is no room for one more record.
@@ -117,13 +118,13 @@ pub enum PutError {
     /// The file has more than 2^48 octets.
     #[error("file must be at most 2^48 octets")]
     TooLarge,
-    /// There is no memory for the record. Told last.
+    /// There is no memory for the record. Reported last.
     #[error("out of memory")]
     NoMemory,
 }
 
 impl PutError {
-    /// The number that names this refusal in reports: 1 to 7.
+    /// Returns the number that names this refusal in reports: 1 to 7.
     pub fn number(self) -> u8
         ensures { result ≡ errors.put_number self }
     {
@@ -138,7 +139,7 @@ impl PutError {
         }
     }
 
-    /// The name of this refusal in reports: the variant's.
+    /// Returns the name of this refusal in reports: the variant's.
     pub fn name(self) -> &'static str
         ensures { result.now ≡ errors.put_name self }
     {
@@ -155,10 +156,10 @@ impl PutError {
 }
 
 /// Why a call on a transaction is refused: the first cause that holds, in the order in which they
-/// are told.
+/// are reported.
 #[derive(Clone, Copy, Debug, PartialEq, Eq, Error)]
 pub enum RequestError {
-    /// The transaction has no record here. Told first.
+    /// The transaction has no record here. Reported first.
     #[error("unknown transaction")]
     Unknown,
     /// A prompt is for the file's sender alone.
@@ -167,17 +168,17 @@ pub enum RequestError {
     /// The transaction is no longer sent or received.
     #[error("the transaction is over")]
     AlreadyClosed,
-    /// It is suspended already, or isn't suspended, or a Prompt is due already. Never told of a
+    /// It is suspended already, or isn't suspended, or a Prompt is due already. Never reported of a
     /// cancel.
     #[error("already in that state")]
     AlreadySo,
-    /// There is no memory for what the call indicates. Told last.
+    /// There is no memory for what the call indicates. Reported last.
     #[error("out of memory")]
     NoMemory,
 }
 
 impl RequestError {
-    /// The number that names this refusal in reports: 1 to 5.
+    /// Returns the number that names this refusal in reports: 1 to 5.
     pub fn number(self) -> u8
         ensures { result ≡ errors.call_number self }
     {
@@ -190,7 +191,7 @@ impl RequestError {
         }
     }
 
-    /// The name of this refusal in reports: the variant's.
+    /// Returns the name of this refusal in reports: the variant's.
     pub fn name(self) -> &'static str
         ensures { result.now ≡ errors.call_name self }
     {
@@ -204,10 +205,11 @@ impl RequestError {
     }
 }
 
-/// Why a record isn't let go: the first cause that holds, in the order in which they are told.
+/// Why a record isn't discarded: the first cause that holds, in the order in which they are
+/// reported.
 #[derive(Clone, Copy, Debug, PartialEq, Eq, Error)]
 pub enum ForgetError {
-    /// The transaction has no record here. Told first.
+    /// The transaction has no record here. Reported first.
     #[error("unknown transaction")]
     Unknown,
     /// The transaction isn't closed.
@@ -216,15 +218,26 @@ pub enum ForgetError {
     /// It has an acknowledgement due, which a poll sends.
     #[error("an acknowledgement must be sent first")]
     AnswerDue,
-    /// There is no memory to keep that it is over. Told last.
+    /// There is no memory to keep that it is over. Reported last.
     #[error("out of memory")]
     NoMemory,
+}
+
+/// Why a file isn't removed from an outbox in memory: the first cause that holds, in this order.
+#[derive(Clone, Copy, Debug, PartialEq, Eq, Error)]
+pub enum RemoveError {
+    /// The outbox has no file of that name.
+    #[error("no such file")]
+    NoSuchFile,
+    /// A transaction that isn't over is sending the file.
+    #[error("a transaction is still sending the file")]
+    InUse,
 }
 
 /// Why a file isn't added to an outbox in memory.
 #[derive(Clone, Copy, Debug, PartialEq, Eq, Error)]
 pub enum AddError {
-    /// The outbox has a file of that name already. Told first.
+    /// The outbox has a file of that name already. Reported first.
     #[error("a file of that name already exists")]
     Taken,
     /// There is no memory for the file.

@@ -1,4 +1,4 @@
-// Records, indications and received files that are let go.
+// Records, indications and received files that are discarded.
 ghost use Rattle.std.specs.Prelude.{◌≡◌, Some, IfErr, OnOk, OnErr, slice_get};
 ghost use Rattle.std.specs.FinMap as map;
 ghost use Rattle.std.specs.Map.{keys_of};
@@ -18,8 +18,8 @@ use cfdp_store::{Inbox, MemoryInbox, Outbox};
 use std::alloc::AllocError;
 
 impl<O: Outbox, I: Inbox> Entity<O, I> {
-    /// Lets go of the record of a transaction that is over, so that there is room for another. It
-    /// is never opened again: an EOF or a Finished that still comes of it is acknowledged by what
+    /// Discards the record of a transaction that is over, so that there is room for another. It
+    /// is never opened again: if an EOF or a Finished of it still comes, it is acknowledged by what
     /// it says, and anything else is passed over.
     ///
     /// # Errors
@@ -45,18 +45,18 @@ impl<O: Outbox, I: Inbox> Entity<O, I> {
         }
     }
 
-    /// Whether the record of a transaction was let go.
+    /// Returns `true` if the record of a transaction was discarded.
     pub fn was_forgotten(&self, id: TransactionId) -> bool
         ensures { result ≡ entities.is_forgotten self.now.state id }
     {
         self.forgotten.contains(id)
     }
 
-    /// Lets go of the records of all transactions that are over and owe no acknowledgement.
+    /// Discards the records of all transactions that are over and must send no acknowledgement.
     ///
     /// # Errors
     ///
-    /// `AllocError` where there was no memory to note that one of them is over. Some others may
+    /// `AllocError` if there was no memory to note that one of them is over. Some others may
     /// have gone by then.
     pub fn forget_closed(&mut self) -> Result<(), AllocError>
         ensures some { ForgetsSome self.old.state self.new.state }
@@ -64,7 +64,7 @@ impl<O: Outbox, I: Inbox> Entity<O, I> {
         ensures inbox { self.new.inbox_failures ≡ self.old.inbox_failures }
         ensures outbox { self.new.outbox_failures ≡ self.old.outbox_failures }
     {
-        // From the last one on: few records have to move up then.
+        // From the last one on: few records move up then.
         let count = self.table.len();
         for behind in 0..count {
             self.forget_if_over(count - 1 - behind)?;
@@ -72,7 +72,7 @@ impl<O: Outbox, I: Inbox> Entity<O, I> {
         Ok(())
     }
 
-    // Lets go of the record at a place if it may be.
+    // Discards the record at an index if that may be done.
     fn forget_if_over(&mut self, place: usize) -> Result<(), AllocError>
         ensures ok { OnOk result (GoesIfOver
             (over_in (slice_get self.old.state.table.records place)) place
@@ -87,8 +87,8 @@ impl<O: Outbox, I: Inbox> Entity<O, I> {
         }
     }
 
-    /// Lets the first so many indications go of those that are left, or all where there are fewer.
-    /// 2^64 - 1 indications can go in all: more stay.
+    /// Discards the first so many indications of those that are left, or all if there are fewer.
+    /// 2^64 - 1 indications can be discarded in all: more stay.
     pub fn forget_indications(&mut self, count: usize)
         ensures { self.new ≡ record self.old {
           state = with_table self.old.state (without_told count self.old.state.table);
@@ -97,8 +97,8 @@ impl<O: Outbox, I: Inbox> Entity<O, I> {
         self.table.forget_told(count);
     }
 
-    /// Takes the first indication that is left, and lets it go. That moves the others up: where
-    /// many are left, read `indications` and let all go at once by `forget_indications`.
+    /// Takes the first indication that is left, and discards it. That moves the others up: if
+    /// many are left, read `indications` and discard all at once by `forget_indications`.
     pub fn next_indication(&mut self) -> Option<Indication>
         ensures told { result ≡ next_told self.old.state.table }
         ensures gone { self.new ≡ record self.old {
@@ -108,7 +108,7 @@ impl<O: Outbox, I: Inbox> Entity<O, I> {
         self.table.take_told()
     }
 
-    // Lets go of the record at a place.
+    // Discards the record at an index.
     fn forget_at(&mut self, place: usize, id: TransactionId) -> Result<(), AllocError>
         requires at { slice_get (keys_of self.old.state.table.records) place ≡ Some id }
         ensures ok { OnOk result (self.new ≡ record self.old {
@@ -126,7 +126,7 @@ impl<O: Outbox, I: Inbox> Entity<O, I> {
 }
 
 impl<O: Outbox> Entity<O, MemoryInbox> {
-    /// Removes a published file from the inbox, if there is one of that name, and answers its
+    /// Removes a published file from the inbox, if there is one of that name, and returns its
     /// octets. Nothing else changes: not what is still received, nor what was indicated.
     pub fn remove_file(&mut self, name: &[u8]) -> Option<Vec<u8>>
         ensures octets { option_map (λ octets. octets.items) result

@@ -21,7 +21,7 @@ use cfdp_header::Header;
 use cfdp_store::{Inbox, Outbox};
 use std::alloc::AllocError;
 
-// Whether a PDU is Metadata with an empty name.
+// Returns `true` if a PDU is Metadata with an empty name.
 fn names_no_file(pdu: &Pdu<'_>) -> bool
     ensures { result ≡ hearings.names_no_file (view pdu.now) }
 {
@@ -36,19 +36,19 @@ fn names_no_file(pdu: &Pdu<'_>) -> bool
 }
 
 impl<O: Outbox, I: Inbox> Entity<O, I> {
-    /// Hears a PDU, which is all the octets. It makes one step of its transaction's record.
-    /// Metadata, file data and an EOF of a transaction without a record open one, and a Finished of
-    /// such a transaction is answered. Answers are written in the widths of the PDU that opened the
-    /// record, or of that Finished. They have the large file flag once a PDU that a receiver hears
-    /// had it, or where that Finished has it.
+    /// Hears a PDU, which must be all the octets. It makes one step of its transaction's record.
+    /// If the transaction has no record, Metadata, file data and an EOF open one, and a Finished
+    /// is answered. Answers are written in the widths of the PDU that opened the
+    /// record, or of that Finished. They have the large file flag if a PDU that a receiver heard
+    /// had it, or if that Finished has it.
     ///
     /// # Errors
     ///
     /// The first that holds, in this order: `Pdu`, `WrongDirection`, `NotForUs`, `NoFile`,
     /// `Unknown`, `TableFull`, `NoMemory`. It is counted by its number, and nothing else changes,
-    /// but for two things where memory was wanted: a NAK may have asked for a prefix of its ranges,
-    /// and file data of a transaction with a record may have staged octets at offsets that don't
-    /// count as held. No call of a store failed then.
+    /// except for two things if there was no memory: a NAK may have asked for a prefix of its
+    /// ranges, and file data of a transaction with a record may have staged octets at offsets that
+    /// don't count as held. No call of a store failed then.
     pub fn receive(&mut self, pdu: &[u8]) -> Result<(), EntityDrop>
         ensures heard { OnOk result (HearsOctets pdu.now self.old self.new) }
         ensures dropped { IfErr result (λ by. DropsOctets (pdu_fault pdu.now) pdu.now by self.old
@@ -89,7 +89,7 @@ impl<O: Outbox, I: Inbox> Entity<O, I> {
         }
     }
 
-    // Where a PDU goes.
+    // Returns where a PDU goes.
     fn route(&self, header: &Header, pdu: &Pdu<'_>) -> Route
         requires { FitsAddressing (addressing_of header.now) }
         ensures { result ≡ hearings.route header.now (view pdu.now) self.now.state }
@@ -115,7 +115,7 @@ impl<O: Outbox, I: Inbox> Entity<O, I> {
         }
     }
 
-    // Where a PDU of a transaction goes that was let go.
+    // Returns where a PDU goes if its transaction was discarded.
     fn route_over(&self, header: &Header, pdu: &Pdu<'_>) -> Route
         requires { FitsAddressing (addressing_of header.now) }
         ensures { result ≡ hearings.route_over header.now (view pdu.now) self.now.state }
@@ -131,7 +131,7 @@ impl<O: Outbox, I: Inbox> Entity<O, I> {
         }
     }
 
-    // Where a PDU of no record goes.
+    // Returns where a PDU goes if it has no record.
     fn route_new(&self, header: &Header, pdu: &Pdu<'_>) -> Route
         requires { FitsAddressing (addressing_of header.now) }
         ensures { result ≡ hearings.route_new header.now (view pdu.now) self.now.state }
@@ -163,7 +163,7 @@ impl<O: Outbox, I: Inbox> Entity<O, I> {
         }
     }
 
-    // The record at a place hears a PDU, with its large file flag.
+    // Lets the record at an index hear a PDU, with its large file flag.
     fn hear_at(&mut self, place: usize, large: bool, pdu: &Pdu<'_>) -> Result<(), EntityDrop>
         ensures heard { OnOk result (StepsAt place large (view pdu.now) self.old self.new) }
         ensures dropped { IfErr result (λ by. (by ≡ drops.NoMemory)
@@ -187,7 +187,7 @@ impl<O: Outbox, I: Inbox> Entity<O, I> {
         Ok(())
     }
 
-    // A PDU opens a record, which hears it, with its large file flag.
+    // Opens a record by a PDU, which the record hears, with its large file flag.
     fn hear_first(
         &mut self,
         addressing: Addressing,
@@ -217,7 +217,7 @@ impl<O: Outbox, I: Inbox> Entity<O, I> {
         Ok(())
     }
 
-    // A Finished of no record is answered.
+    // Answers a Finished of no record.
     fn queue(&mut self, stray: Stray)
         requires { length self.old.state.strays < 64 }
         ensures { self.new ≡ record self.old { state = queued stray self.old.state } }

@@ -48,7 +48,7 @@ use cfdp_sender::{
     told_complete_by_a_finished_alone, what_is_due_is_in_the_file,
 };
 
-/// A step of the record at a place changes no other record, and a record more changes none.
+/// A step of the record at an index changes no other record, and a new record changes none.
 pub fn other_records_stay()
     ensures stepped { (f : Entry → After) (place other : ℕ) (st : TableState) → other ≢ place
         → slice_get (step_at f place st).records other ≡ slice_get st.records other }
@@ -75,8 +75,8 @@ pub fn calls_are_steps()
     ensures ticked { (now : ℕ) (old new : TableState) → Ticks now old new → Leads old new }
 {}
 
-/// In any step, and so over any steps, a record stays at its place, under its transaction and of
-/// its side. What is closed stays closed, and a sender keeps what it is to send.
+/// In any step, and so over any steps, a record stays at its index, under its transaction and of
+/// its side. What is closed stays closed, and a sender keeps what it must send.
 pub fn records_stay_for_good()
     ensures step { (s : TableStep) (st : TableState) → MayHappen s st
         → KeepsRecords st.records (table_step s st).records }
@@ -114,9 +114,9 @@ pub fn a_table_finishes_a_transaction_once()
     a_sender_keeps_what_it_sends();
 }
 
-/// A table that hears nothing but the truth of puts keeps it: each file that it publishes is that
-/// of a put that was heard in full, and it is published under the put's name in the step that
-/// indicates it complete. So it stays where more is heard, and more is put.
+/// A table that hears nothing but the truth of puts keeps it: each file that it publishes is the
+/// file of a put that was heard in full, and it is published under the put's name in the step that
+/// indicates it complete. So it stays if more is heard, and if more is put.
 pub fn a_table_keeps_the_truth()
     ensures first { (own : ℕ) (put_of : TransactionId → Option Put) (heard : List (List ℕ))
         (sources files : FileMap) (policy : Policy) →
@@ -145,8 +145,8 @@ pub fn a_table_keeps_the_truth()
 }
 
 /// A table sends the truth: each PDU that a record has due is truthful of the put of its
-/// transaction, so each Metadata, file data and EOF without an error. So it stays where each put
-/// that opens a record is found under its transaction, and where more puts are found.
+/// transaction, so each Metadata, file data and EOF without an error. So it stays if each put
+/// that opens a record is found under its transaction, and if more puts are found.
 pub fn a_table_sends_the_truth()
     ensures first { (put_of : TransactionId → Option Put) (sources files : FileMap)
         (policy : Policy) → SendsTruth put_of (first_table sources files policy) }
@@ -165,9 +165,9 @@ pub fn a_table_sends_the_truth()
     what_is_due_is_in_the_file();
 }
 
-/// A table tells no more of files that were delivered than it indicated or heard: a receiver knows
-/// of an end only once it was indicated, and a sender's user is told that its file was delivered
-/// only where a Finished was heard that says so. So it stays where more is heard.
+/// A table says no more of files that were delivered than it indicated or heard: a receiver knows
+/// of an end only if that was indicated, and a sender indicates that its file was delivered
+/// only if a Finished was heard that says so. So it stays if more is heard.
 pub fn a_table_tells_no_more()
     ensures first { (own : ℕ) (heard : List (List ℕ)) (sources files : FileMap)
         (policy : Policy) → TellsNoMore own heard (first_table sources files policy) }
@@ -199,7 +199,7 @@ pub fn an_entity_keeps_the_truth()
     ensures more { (put_of puts_then : TransactionId → Option Put) (heard more : List (List ℕ))
         (first : FileMap) (e : EntityState) → FindsMore put_of puts_then
         → IsSound put_of heard first e → IsSound puts_then (heard ++ more) first e }
-    // The order in which the PDUs came doesn't matter, nor does it harm that more came.
+    // The order in which the PDUs came doesn't matter, and if more came, that does no harm.
     ensures among { (put_of : TransactionId → Option Put) (heard others : List (List ℕ))
         (first : FileMap) (e : EntityState) →
         ((text : List ℕ) → Contains heard text → Contains others text)
@@ -249,8 +249,8 @@ pub fn an_entity_goes_on()
     ensures served { (stored : Stored) (e : EntityState) → GoesOn e (served stored (turn e) e) }
 {}
 
-/// An entity that lets records and indications go stays sound: what it indicated is what it was,
-/// and so is its inbox, and a transaction that was let go is finished no second time.
+/// If an entity discards records and indications, it stays sound: what it indicated is what it was,
+/// and so is its inbox, and if a transaction was discarded, it is finished no second time.
 pub fn an_entity_may_forget()
     ensures sound { (put_of : TransactionId → Option Put) (heard : List (List ℕ))
         (first : FileMap) (id : TransactionId) (old new : EntityState) → Forgets id old new
@@ -265,8 +265,8 @@ pub fn an_entity_may_forget()
         → IsSound put_of heard first (with_table e (without_told count e.table)) }
 {}
 
-/// An entity sends the truth of its own puts, and tells its peer that a file was delivered only of
-/// transactions that it indicated complete.
+/// An entity sends the truth of its own puts, and says to its peer that a file was delivered only
+/// of transactions that it indicated complete.
 pub fn an_entity_sends_the_truth()
     ensures { (put_of : TransactionId → Option Put) (heard : List (List ℕ)) (first : FileMap)
         (e : EntityState) (h : Header) (v : Content) → IsSound put_of heard first e
@@ -279,9 +279,9 @@ pub fn an_entity_sends_the_truth()
     a_table_sends_the_truth();
 }
 
-/// What a table does never depends on the files that its inbox has published: with others in their
-/// place it makes the same steps, and publishes the same. So a file that was removed changes
-/// nothing else.
+/// What a table does never depends on the files that its inbox has published: if others were in
+/// their place, it would make the same steps, and publish the same. So a file that was removed
+/// changes nothing else.
 pub fn removed_files_change_nothing_else()
     ensures may { (files : FileMap) (s : TableStep) (st : TableState) → MayHappen s st
         → MayHappen s (with_files files st) }
@@ -294,8 +294,8 @@ pub fn removed_files_change_nothing_else()
     published_files_change_no_step();
 }
 
-/// An entity is sound but for the files that were removed from its inbox, in all that keeps a sound
-/// one sound; and it sends the truth.
+/// An entity is sound except for the files that were removed from its inbox, in all that keeps a
+/// sound one sound; and it sends the truth.
 pub fn an_entity_may_remove_files()
     ensures sound { (put_of : TransactionId → Option Put) (heard : List (List ℕ))
         (first : FileMap) (e : EntityState) → IsSound put_of heard first e

@@ -1,6 +1,6 @@
 //! An entity of CFDP, class 2: the table of its transactions, one record for each, of the sending
 //! or of the receiving machine, with their timers and both stores. Its user asks things of it and
-//! tells it the time, it hears PDUs, and PDUs are taken from it.
+//! gives it the time, it hears PDUs, and PDUs are taken from it.
 //!
 //! Tested by `entity.txt`, `entities.txt`, `forgetting.txt`, `large.txt` in `tests/transcripts/`.
 #![tactic(auto)]
@@ -13,6 +13,7 @@ mod config;
 mod desk;
 mod entity;
 mod error;
+mod exchanging;
 mod forgetting;
 mod hearing;
 mod laws;
@@ -22,7 +23,9 @@ mod polled;
 mod putting;
 mod ready;
 mod record;
+mod removing_sources;
 mod request;
+mod restoring;
 mod route;
 mod sent;
 mod stray;
@@ -34,13 +37,15 @@ pub use cfdp_directives::{
     ChecksumKind, Condition, Delivery, FileStatus, Handler, Handlers, Indication, Limits, Octets,
     PduError, Phase, Policy, Times,
 };
+pub use cfdp_extents::Extents;
 pub use cfdp_header::{HeaderError, TransactionId};
-pub use cfdp_sender::MOST_SEGMENT;
-pub use cfdp_store::{Inbox, Outbox, StoreError};
+pub use cfdp_receiver::CommittedReceiver;
+pub use cfdp_sender::{CommittedSender, MOST_SEGMENT};
+pub use cfdp_store::{Inbox, Outbox, ResumingInbox, StoreError};
 pub use closed::{a_closed_receiver_acknowledges, a_closed_sender_acknowledges};
 pub use config::{EntityConfig, MOST_WIDTH};
 pub use entity::Entity;
-pub use error::{AddError, EntityDrop, ForgetError, PutError, RequestError};
+pub use error::{AddError, EntityDrop, ForgetError, PutError, RemoveError, RequestError};
 pub use laws::{
     a_table_finishes_a_transaction_once, a_table_keeps_the_truth, a_table_sends_the_truth,
     a_table_tells_no_more, an_entity_goes_on, an_entity_keeps_the_truth, an_entity_may_forget,
@@ -48,6 +53,8 @@ pub use laws::{
     records_stay_for_good, removed_files_change_nothing_else,
 };
 pub use polled::{EntityPolled, Rooms};
+pub use record::Record;
 pub use request::Request;
+pub use restoring::{ForgottenNumbers, Records, RestoreError};
 pub use sent::SentPdus;
 pub use transactions::Transactions;

@@ -14,25 +14,24 @@ use cfdp_timers::Kind;
 use std::fmt;
 
 impl<O: Outbox, I: Inbox> Entity<O, I> {
-    /// The transactions that have a record here, closed ones too, in order of opening, each with
-    /// how far it has come.
+    /// Returns the transactions that have a record here, closed ones too, in order of opening, each
+    /// with how far it has come.
     pub fn transactions(&self) -> Transactions<'_>
         ensures { result ≡ phases_of self.now.state.table }
     {
         self.table.transactions()
     }
 
-    /// How many more transactions there is room for: each has one of 4,096 records, which it keeps
-    /// until it is forgotten.
+    /// Returns how many more transactions there is room for: each has one of 4,096 records, which
+    /// it keeps until it is forgotten.
     pub fn records_left(&self) -> usize
         ensures { result + length self.now.state.table.records ≡ 4096 }
     {
         MOST_RECORDS - self.table.len()
     }
 
-    /// When `tick` has to be called at the latest: the earliest deadline of all armed timers, those
-    /// of kind Inactivity among them, in units of the clock that it is told; `None` where none is
-    /// armed.
+    /// Returns when `tick` must be called at the latest: the earliest deadline of all armed timers,
+    /// also those of kind Inactivity, in units of the clock of `tick`; `None` if none is armed.
     pub fn next_timeout(&self) -> Option<u64>
         ensures { MatchOption result (self.now.state.table.armed ≡ map.empty)
             (λ deadline. IsLeast self.now.state.table.armed deadline) }
@@ -40,7 +39,7 @@ impl<O: Outbox, I: Inbox> Entity<O, I> {
         self.table.next_timeout()
     }
 
-    /// When a timer of a transaction fires, in units of the clock that `tick` is told; `None` where
+    /// Returns when a timer of a transaction fires, in units of the clock of `tick`; `None` if
     /// it isn't armed.
     pub fn deadline_of(&self, id: TransactionId, kind: Kind) -> Option<u64>
         ensures { result ≡ map.get self.now.state.table.armed (id, kind) }
@@ -48,9 +47,9 @@ impl<O: Outbox, I: Inbox> Entity<O, I> {
         self.table.deadline_of(id, kind)
     }
 
-    /// What was indicated behind the first so many indications, in order: none where there are no
-    /// more, and `None` where some of it was let go. Who adds up how many it has been given takes
-    /// out each one once.
+    /// Returns what was indicated after the first so many indications, in order: none if there are
+    /// no more, and `None` if some of it was discarded. A user that adds up how many it was given
+    /// takes out each one once.
     pub fn indications_since(&self, mark: u64) -> Option<&[Indication]>
         ensures { MatchOption result (mark < self.now.state.table.gone)
             (λ rest. rest.now ≡ drop mark self.now.state.table.told) }
@@ -59,7 +58,7 @@ impl<O: Outbox, I: Inbox> Entity<O, I> {
         Some(behind(self.table.told(), at as usize))
     }
 
-    /// How many indications were let go: the mark of the first one that is left.
+    /// Returns how many indications were discarded: the mark of the first one that is left.
     pub fn indications_gone(&self) -> u64
         ensures { result ≡ self.now.state.table.gone }
     {
@@ -67,7 +66,7 @@ impl<O: Outbox, I: Inbox> Entity<O, I> {
     }
 }
 
-/// What stands behind the first so many.
+/// Returns what stands after the first so many.
 fn behind(told: &[Indication], mark: usize) -> &[Indication]
     ensures { result.now ≡ drop mark told.now }
 {
@@ -78,7 +77,7 @@ fn behind(told: &[Indication], mark: usize) -> &[Indication]
 }
 
 impl<O: Outbox, I: Inbox> fmt::Debug for Entity<O, I> {
-    /// Its id and its peer's, and how many records and indications it has.
+    /// Writes its id and its peer's, and how many records and indications it has.
     fn fmt<W: fmt::Write>(&self, f: &mut fmt::Formatter<W>) -> fmt::Result {
         f.debug_struct("Entity")
             .field("entity", &self.config.entity)

@@ -6,20 +6,20 @@ ghost use Rattle.cfdp_entity.specs.Opening as openings;
 use cfdp_directives::{Condition, Pdu};
 use cfdp_store::Stored;
 
-/// The most indications of a PDU that opens a record. Where the inbox refuses to begin, that tells
-/// two. Where it begins, that tells none, and the PDU that is then heard three at the most.
+/// The most indications of a PDU that opens a record. If the inbox refuses to begin, there are
+/// two. If it begins, there are none, and at most three of the PDU that is then heard.
 pub(crate) const MOST_TOLD: usize = 3;
 
-/// How the inbox answered where a PDU opened a record.
+/// How the inbox answered when a PDU opened a record.
 #[derive(Clone, Copy, Debug, PartialEq, Eq)]
 pub struct Opened {
-    /// Whether it began the transaction. `Done` where it wasn't asked.
+    /// `true` if it began the transaction. `Done` if it wasn't asked.
     pub begun: Stored,
-    /// Whether it did what the PDU asked of it. `Done` where the PDU wasn't taken further.
+    /// `true` if it did what the PDU asked of it. `Done` if the PDU wasn't taken further.
     pub stored: Stored,
 }
 
-/// The condition of an EOF with an error.
+/// Returns the condition of an EOF with an error.
 pub(crate) fn closing(pdu: &Pdu<'_>) -> Option<Condition>
     ensures { result ≡ openings.closing (view pdu.now) }
 {

@@ -26,7 +26,7 @@ pub struct Rooms {
 }
 
 impl Rooms {
-    // The room for file data where true, else for a directive.
+    // Returns the room for file data if `file_data` is set, otherwise for a directive.
     fn of(self, file_data: bool) -> usize
         ensures { result ≡ room_in self file_data }
     {
@@ -45,7 +45,7 @@ pub enum EntityPolled {
     Moved {
         /// Its octets.
         len: usize,
-        /// Whether it is file data; all others are directives.
+        /// `true` if it is file data; all others are directives.
         file_data: bool,
     },
     /// Nothing is due.
@@ -59,16 +59,16 @@ pub enum EntityPolled {
 
 impl<O: Outbox, I: Inbox> Entity<O, I> {
     /// Takes the PDU that is due next: stray acknowledgements come first, then the records in order
-    /// of opening, round robin from behind the one served last. It is written over the first octets
-    /// of `out`, where it has at most as many octets as there is room for its type. No PDU is
+    /// of opening, round robin from after the one served last. It is written over the first octets
+    /// of `out`, if it has at most as many octets as there is room for its type. No PDU is
     /// longer than 4,134 octets.
     ///
-    /// Whose turn it is doesn't depend on the rooms: `Full` is told of file data that don't fit,
-    /// also where another record has a directive due that would.
+    /// Whose turn it is doesn't depend on the rooms: `Full` is reported if file data don't fit,
+    /// even if another record has a directive due that would.
     ///
     /// # Errors
     ///
-    /// `AllocError` where a record has the turn and its PDU fits, but there is no memory for what
+    /// `AllocError` if a record has the turn and its PDU fits, but there is no memory for what
     /// is indicated. All is then as it was.
     pub fn poll(&mut self, rooms: Rooms, out: &mut [u8]) -> Result<EntityPolled, AllocError>
         requires directives { rooms.directives ≤ length out.old }
@@ -95,7 +95,7 @@ impl<O: Outbox, I: Inbox> Entity<O, I> {
         }
     }
 
-    // The first stray acknowledgement, where there is one.
+    // Returns the first stray acknowledgement, if there is one.
     fn poll_stray(&mut self, room: usize, out: &mut [u8]) -> EntityPolled
         requires fits { room ≤ length out.old }
         requires some { 1 ≤ length self.old.state.strays }
@@ -130,7 +130,7 @@ impl<O: Outbox, I: Inbox> Entity<O, I> {
         }
     }
 
-    // The record that is next, where no stray acknowledgement waits.
+    // Returns the record that is next, if no stray acknowledgement waits.
     fn poll_record(&mut self, rooms: Rooms, out: &mut [u8]) -> Result<EntityPolled, AllocError>
         requires directives { rooms.directives ≤ length out.old }
         requires file_data { rooms.file_data ≤ length out.old }
@@ -154,7 +154,7 @@ impl<O: Outbox, I: Inbox> Entity<O, I> {
         }
     }
 
-    // Takes the PDU of the record at a place.
+    // Takes the PDU of the record at an index.
     fn send_at(&mut self, place: usize, out: &mut [u8]) -> Result<Gave, AllocError>
         requires fits { len_at place self.old.state.table ≤ length out.old }
         requires within { place < 4096 }

@@ -24,8 +24,8 @@ use cfdp_sender::Transfer;
 use cfdp_store::{Inbox, Outbox};
 use std::alloc::AllocError;
 
-// The number of the next put, if it fits its width.
-#[tactic(auto, using(crate::proofs::Numbers::past_width))]
+// Returns the number of the next put, if it fits its width.
+#[tactic(auto, using(crate::proofs::PutNumbers::past_width))]
 fn number_in_width(next: Option<u64>, width: u8) -> Option<u64>
     requires { IsWidth width }
     ensures number { IfSome result (λ number. (number ≡ next_of next) × (number < 256 ^ width)) }
@@ -44,14 +44,14 @@ fn number_in_width(next: Option<u64>, width: u8) -> Option<u64>
 }
 
 impl<O: Outbox, I: Inbox> Entity<O, I> {
-    /// Sends a file of the outbox to the peer, which publishes it under the name `destination`. The
-    /// answer is the id of the transaction, whose number is used for no other.
+    /// Sends a file of the outbox to the peer, which publishes it under the name `destination`.
+    /// Returns the id of the transaction, whose number is used for no other.
     ///
     /// # Errors
     ///
     /// The first that holds, in this order: `Name`, `TableFull`, `NumbersSpent`, `SourceFault`,
-    /// `NoSuchFile`, `TooLarge`, `NoMemory`. No number is used then, and nothing changes but that
-    /// the outbox counts its failure.
+    /// `NoSuchFile`, `TooLarge`, `NoMemory`. No number is used then, and nothing changes except
+    /// that the outbox counts its failure.
     pub fn put(&mut self, source: &[u8], destination: &[u8]) -> Result<TransactionId, PutError>
         ensures accepted { IfOk result (λ id. Accepts source.now destination.now id self.old.state
             self.new.state) }
@@ -76,7 +76,7 @@ impl<O: Outbox, I: Inbox> Entity<O, I> {
         }
     }
 
-    // The number of a put that isn't refused before the outbox is asked.
+    // Returns the number of a put, if it isn't refused before the outbox is asked.
     fn next_number(&self, source: &[u8], destination: &[u8]) -> Result<u64, PutError>
         ensures may { IfOk result (λ number. MayPutAs number source.now destination.now
             self.now.state) }
@@ -95,7 +95,7 @@ impl<O: Outbox, I: Inbox> Entity<O, I> {
         }
     }
 
-    // Octets of a file of the outbox, where it can be sent.
+    // Returns the number of octets of a file of the outbox, if it can be sent.
     fn source_size(&mut self, source: &[u8]) -> Result<u64, PutError>
         ensures size { IfOk result (λ size. HasFile self.old.state.table.sources source.now size
             × (size ≤ codes.size_limit true)) }
@@ -151,7 +151,7 @@ impl<O: Outbox, I: Inbox> Entity<O, I> {
         Ok(id)
     }
 
-    // What the put with this number sends.
+    // Returns what the put with this number sends.
     fn transfer(
         &self,
         number: u64,

@@ -10,13 +10,13 @@ use std::marker::Model;
 
 const BITS: usize = 64;
 
-/// Which places have something due, of at most 4,096. All its memory is taken at the start.
+/// The indices that have something due, of at most 4,096. All its memory is taken at the start.
 #[derive(Drop)]
 pub struct Ready {
     len: usize,
-    // A bit for each of 64 places. Bits of places that are not there are clear.
+    // A bit for each of 64 indices. If an index isn't there, its bit must be clear.
     words: Vec<u64>,
-    // A bit for each word: whether it has one that is set.
+    // A bit for each word: set if the word has one that is set.
     some: u64,
 }
 
@@ -69,7 +69,7 @@ impl Ready {
         self.len
     }
 
-    /// Removes a place: those behind it move up.
+    /// Removes an index: those after it move up.
     pub fn remove(&mut self, place: usize)
         requires within { place < length self.old }
         ensures { self.new ≡ remove self.old place }
@@ -83,7 +83,7 @@ impl Ready {
         self.shorten();
     }
 
-    // Whether a place has something due.
+    // Returns `true` if an index has something due.
     fn is_set(&self, place: usize) -> bool
         requires within { place < length self.now }
         ensures { result ≡ get_or self.now place false }
@@ -94,7 +94,7 @@ impl Ready {
         }
     }
 
-    // Removes the last place, which has nothing due.
+    // Removes the last index, which must have nothing due.
     fn shorten(&mut self)
         requires some { 0 < length self.old }
         requires clear { get_or self.old (length self.old - 1) false ≡ false }
@@ -103,7 +103,7 @@ impl Ready {
         self.len -= 1;
     }
 
-    /// The first place from one on that has something due, and else the first of all.
+    /// Returns the first index from one on that has something due, otherwise the first of all.
     pub fn next(&self, from: usize) -> Option<usize>
         ensures next { result ≡ next_true from self.now }
         ensures within { IfSome result (λ place. place < length self.now) }
@@ -114,8 +114,8 @@ impl Ready {
         }
     }
 
-    // The first place from one on that is set: in its own word, and else in the next one that has
-    // any.
+    // Returns the first index from one on that is set: in its own word, otherwise in the next one
+    // that has any.
     fn first_from(&self, from: usize) -> Option<usize>
         ensures first { result
             ≡ option_map (λ i. from + i) (position (λ b. b) (drop from self.now)) }
@@ -138,7 +138,7 @@ impl Ready {
     }
 }
 
-// The word with one bit set or cleared.
+// Returns the word with one bit set or cleared.
 fn with_bit(word: u64, bit: usize, on: bool) -> u64
     requires { bit < 64 }
     ensures here { bit_at result bit ≡ cond on 1 0 }
@@ -151,7 +151,7 @@ fn with_bit(word: u64, bit: usize, on: bool) -> u64
     }
 }
 
-// The lowest bit that is set.
+// Returns the lowest bit that is set.
 fn lowest_bit(word: u64) -> usize
     requires { 0 < word }
     ensures within { result < 64 }
@@ -161,7 +161,7 @@ fn lowest_bit(word: u64) -> usize
     word.trailing_zeros() as usize
 }
 
-// The first bit from one on that is set.
+// Returns the first bit from one on that is set.
 fn first_bit(word: u64, from: usize) -> Option<usize>
     ensures within { IfSome result (λ bit. (from ≤ bit) × (bit < 64)) }
     ensures here { IfSome result (λ bit. bit_at word bit ≡ 1) }

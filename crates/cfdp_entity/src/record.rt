@@ -37,9 +37,9 @@ use std::alloc::AllocError;
 /// A record of the table.
 #[derive(Debug, Drop)]
 pub enum Record {
-    /// Of a file that this entity sends.
+    /// The record of a file that this entity sends.
     Sends(Sender),
-    /// Of a file that it receives.
+    /// The record of a file that it receives.
     Receives(Receiver),
 }
 
@@ -53,7 +53,7 @@ pub enum Gave {
 }
 
 impl Record {
-    /// Whether a PDU is due.
+    /// Returns `true` if a PDU is due.
     pub(crate) fn is_due(&self) -> bool
         ensures { (staged : Option OctetMap) → result ≡ is_due (seen staged self.now) }
     {
@@ -63,7 +63,7 @@ impl Record {
         }
     }
 
-    /// Octets of the PDU that is due, 0 where none is.
+    /// Returns the number of octets of the PDU that is due, 0 if none is.
     pub(crate) fn due_len(&self) -> usize
         ensures len { (staged : Staged) (sources : FileMap) (id : TransactionId) →
             IsReadyRecord staged sources id self.now
@@ -78,7 +78,7 @@ impl Record {
         }
     }
 
-    /// Whether the PDU that is due is file data.
+    /// Returns `true` if the PDU that is due is file data.
     pub(crate) fn has_data_due(&self) -> bool
         ensures { (staged : Option OctetMap) →
             result ≡ seens.carries_data (seen staged self.now) }
@@ -89,7 +89,7 @@ impl Record {
         }
     }
 
-    /// What the PDU that is due counts as, once it is sent.
+    /// Returns what the PDU that is due counts as, once it is sent.
     pub(crate) fn due_pdu(&self) -> Option<SentPdu>
         ensures { (staged : Option OctetMap) → result ≡ sent_of (seen staged self.now) }
     {
@@ -99,7 +99,7 @@ impl Record {
         }
     }
 
-    /// Whether it is sending the file that the outbox has under this name.
+    /// Returns `true` if it is sending the file that the outbox has under this name.
     pub(crate) fn sends_file(&self, name: &[u8]) -> bool
         ensures { (staged : Option OctetMap) →
             result ≡ seens.sends_file name.now (seen staged self.now) }
@@ -110,7 +110,7 @@ impl Record {
         }
     }
 
-    /// How far the transaction has come.
+    /// Returns how far the transaction has come.
     pub(crate) fn phase(&self) -> Phase
         ensures { (staged : Option OctetMap) → result ≡ seens.phase_of (seen staged self.now) }
     {
@@ -120,7 +120,7 @@ impl Record {
         }
     }
 
-    /// Up to which offset octets of the file were sent, or came.
+    /// Returns the offset up to which octets of the file were sent, or came.
     pub(crate) fn progress(&self) -> u64
         ensures { (staged : Option OctetMap) → result ≡ seens.progress_of (seen staged self.now) }
     {
@@ -130,7 +130,7 @@ impl Record {
         }
     }
 
-    /// Why it can't be let go, if it can't.
+    /// Returns why it can't be discarded, if it can't.
     pub(crate) fn forget_refusal(&self) -> Option<ForgetError>
         ensures { (staged : Option OctetMap) → result
             ≡ forgetting.refusal (seen staged self.now) }
@@ -144,7 +144,7 @@ impl Record {
         None
     }
 
-    /// Why a request is refused, if it is.
+    /// Returns why a request is refused, if it is.
     pub(crate) fn refusal(&self, request: Request) -> Option<RequestError>
         ensures { (staged : Option OctetMap) → result ≡ refusing.refusal request
             (seen staged self.now) }
@@ -156,7 +156,7 @@ impl Record {
     }
 }
 
-// Why a request of a sender is refused, if it is.
+// Returns why a request of a sender is refused, if it is.
 fn refusal_at_sender(sender: &Sender, request: Request) -> Option<RequestError>
     ensures { result ≡ refusing.refusal request (seens.Sends sender.now) }
 {
@@ -176,7 +176,7 @@ fn refusal_at_sender(sender: &Sender, request: Request) -> Option<RequestError>
     }
 }
 
-// The same for a receiver.
+// Returns why a request of a receiver is refused, if it is.
 fn refusal_at_receiver(receiver: &Receiver, request: Request) -> Option<RequestError>
     ensures { (m : OctetMap) → result ≡ refusing.refusal request (seens.Receives receiver.now m) }
 {
@@ -198,7 +198,7 @@ fn refusal_at_receiver(receiver: &Receiver, request: Request) -> Option<RequestE
     }
 }
 
-/// A sender hears what is for it.
+/// Lets a sender hear a PDU, if the PDU is for it.
 pub(crate) fn sender_hears(
     sender: &mut Sender,
     effects: &mut Effects,
@@ -238,7 +238,7 @@ pub(crate) fn sender_hears(
     Ok(Stored::Done)
 }
 
-/// A receiver hears what is for it, with the PDU's large file flag.
+/// Lets a receiver hear a PDU, if the PDU is for it, with its large file flag.
 pub(crate) fn receiver_hears<I: Inbox>(
     receiver: &mut Receiver,
     effects: &mut Effects,
@@ -302,7 +302,7 @@ pub(crate) fn receiver_hears<I: Inbox>(
     }
 }
 
-// A receiver hears an ACK: that of Finished is for it.
+// Lets a receiver hear an ACK, if it acknowledges a Finished.
 fn receiver_hears_ack(
     receiver: &mut Receiver,
     effects: &mut Effects,
@@ -321,7 +321,7 @@ fn receiver_hears_ack(
     }
 }
 
-/// A receiver writes the PDU that is due.
+/// Writes the PDU that a receiver has due.
 pub(crate) fn send_of_receiver(
     receiver: &mut Receiver,
     effects: &mut Effects,
@@ -341,7 +341,7 @@ pub(crate) fn send_of_receiver(
     receiver.take_pdu(effects, policy, out)
 }
 
-/// A request of a sender.
+/// Does a request of a sender.
 pub(crate) fn ask_sender(
     sender: &mut Sender,
     effects: &mut Effects,
@@ -360,7 +360,7 @@ pub(crate) fn ask_sender(
     }
 }
 
-/// A request of a receiver.
+/// Does a request of a receiver.
 pub(crate) fn ask_receiver<I: Inbox>(
     receiver: &mut Receiver,
     effects: &mut Effects,

@@ -1,7 +1,7 @@
 /// What a user asks of a transaction.
 #[derive(Clone, Copy, Debug, PartialEq, Eq)]
 pub enum Request {
-    /// To give it up, and to tell the other entity.
+    /// To give it up, and to say so to the other entity.
     Cancel,
     /// To send nothing of it, and to let no time run for it.
     Suspend,
@@ -9,7 +9,7 @@ pub enum Request {
     Resume,
     /// To ask the file's receiver for an answer.
     Prompt {
-        /// Whether for a Keep Alive, else for a NAK.
+        /// `true` if for a Keep Alive, otherwise for a NAK.
         keep_alive: bool,
     },
 }

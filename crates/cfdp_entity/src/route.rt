@@ -1,17 +1,17 @@
 use crate::error::EntityDrop;
 use crate::stray::Stray;
 
-/// Where a PDU goes that was heard.
+/// What becomes of a PDU that was heard.
 #[derive(Drop)]
 pub(crate) enum Route {
     /// It is dropped.
     Drops(EntityDrop),
-    /// To the record at this place.
+    /// It is for the record at this index.
     Steps(usize),
     /// It opens a record.
     Opens,
     /// It is answered, and no record is opened.
     Queues(Stray),
-    /// Nowhere: its transaction is over, and it wants no answer.
+    /// It is passed over: its transaction is over, and it needs no answer.
     Passes,
 }

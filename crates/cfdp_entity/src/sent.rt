@@ -22,7 +22,7 @@ pub enum SentPdu {
 }
 
 impl SentPdu {
-    /// That of a sender.
+    /// Returns what a sender's PDU counts as.
     pub(crate) fn of_sender(due: SenderDue) -> Self
         ensures { result ≡ of_sender due }
     {
@@ -36,7 +36,7 @@ impl SentPdu {
         }
     }
 
-    /// That of a receiver.
+    /// Returns what a receiver's PDU counts as.
     pub(crate) fn of_receiver(due: Due) -> Self
         ensures { result ≡ of_receiver due }
     {
@@ -63,7 +63,7 @@ pub struct SentPdus {
 }
 
 impl SentPdus {
-    /// None of any kind.
+    /// Returns counts that are all 0.
     pub(crate) fn none() -> Self
         ensures { result ≡ none_sent }
     {
@@ -98,7 +98,7 @@ impl SentPdus {
     }
 }
 
-/// One more, save at the greatest value.
+/// Returns one more, except at the greatest value.
 fn one_more(count: u64) -> u64
     ensures { result ≡ raised count }
 {

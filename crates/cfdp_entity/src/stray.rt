@@ -12,7 +12,7 @@ use cfdp_directives::{Acknowledged, Addressing, Condition, Pdu, TransactionStatu
 use cfdp_header::Header;
 use std::marker::Model;
 
-/// The ACK of a Finished, or of an EOF, whose transaction has no record here.
+/// The ACK of a Finished, or of an EOF, if its transaction has no record here.
 #[derive(Drop)]
 pub struct Stray {
     addressing: Addressing,
@@ -41,8 +41,8 @@ impl Model for Stray {
 }
 
 impl Stray {
-    /// The answer to a Finished with this header and condition. It has the Finished's large file
-    /// flag.
+    /// Returns the answer to a Finished with this header and condition. It has the Finished's large
+    /// file flag.
     pub(crate) fn of(header: &Header, condition: Condition) -> Self
         requires { FitsAddressing (addressing_of header.now) }
         ensures { result ≡ unknown_ack header.now condition }
@@ -51,8 +51,8 @@ impl Stray {
         Stray::answer(header, Acknowledged::Finished, condition, status)
     }
 
-    /// The answer to a Finished or an EOF with this header and condition, of a transaction that is
-    /// over.
+    /// Returns the answer to a Finished or an EOF with this header and condition, if its
+    /// transaction is over.
     pub(crate) fn over(header: &Header, of: Acknowledged, condition: Condition) -> Self
         requires { FitsAddressing (addressing_of header.now) }
         ensures { result ≡ over_ack header.now of condition }
@@ -94,7 +94,7 @@ impl Stray {
         }
     }
 
-    /// Its octets.
+    /// Returns the number of its octets.
     pub(crate) fn len(&self) -> usize
         ensures len { result ≡ stray_len self.now }
         ensures short { result ≤ longest_pdu }
@@ -105,7 +105,7 @@ impl Stray {
         self.addressing.written_len(self.large, &self.pdu())
     }
 
-    /// Writes it over the first octets of `out`, and says how many they are.
+    /// Writes it over the first octets of `out`, and returns how many they are.
     pub(crate) fn write(&self, out: &mut [u8]) -> usize
         requires room { stray_len self.now ≤ length out.old }
         ensures len { result ≡ stray_len self.now }

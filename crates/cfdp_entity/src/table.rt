@@ -1,7 +1,9 @@
 // Records, and the desk that their steps work on.
 ghost use Rattle.std.specs.Prelude.{◌≡◌, ◌+◌, ◌≤◌, ◌<◌, ◌++◌, ◌∷◌, ◌*◌, drop, max, true, None};
 ghost use Rattle.std.specs.Prelude.{Some, Option, [], length, slice_get, IfErr, IfOk, IfSome};
-ghost use Rattle.std.specs.Prelude.{MatchOption, OnOk, OnErr, is_ok, is_some, false};
+ghost use Rattle.std.specs.Prelude.{MatchOption, OnOk, OnErr, is_ok, is_some, false, take};
+ghost use Rattle.std.specs.Prelude.{IsSome, IsTrue};
+ghost use Rattle.std.specs.Prelude as lists;
 ghost use Rattle.std.specs.FinMap as map;
 ghost use Rattle.std.specs.Option.{option_map};
 ghost use Rattle.std.specs.List.{IsDistinct};
@@ -16,13 +18,24 @@ ghost use Rattle.cfdp_timers.specs.ButInactivity.{OnlyInactivity, IsLeastOther};
 ghost use Rattle.cfdp_store.specs.Chains.{Raises};
 ghost use Rattle.cfdp_store.specs.Stores.{Counts, failures_after};
 ghost use Rattle.cfdp_sender.specs.State.{IsSendable};
-ghost use Rattle.cfdp_sender.specs.Does.{HasFile};
+ghost use Rattle.cfdp_directives.specs.Pdu.Sums.{SumsFit};
+ghost use Rattle.cfdp_sender.specs.Back as sender_back;
+ghost use Rattle.cfdp_sender.specs.Does.{HasFile, HasFileWhile};
+ghost use Rattle.cfdp_sender.specs.Inputs.{front_sums};
+ghost use Rattle.cfdp_store.specs.Files.{octets_in};
+ghost use Rattle.cfdp_entity.specs.Entity.{EntityState};
+ghost use Rattle.cfdp_entity.specs.Restoring.{AddsReceiver, AreHeldBelow, ReceiverCause, all_kept};
+ghost use Rattle.cfdp_entity.specs.Restoring.{record_kept, sender_restored, was_shown};
+ghost use Rattle.cfdp_receiver.specs.Back as receiver_back;
+ghost use Rattle.cfdp_entity.specs.Exchanging.{table_told_by};
 ghost use Rattle.cfdp_entity.specs.Adding.{AddsSource, RefusesToAdd, with_source};
 ghost use Rattle.cfdp_entity.specs.Refusing as refusing;
 ghost use Rattle.cfdp_entity.specs.Forgetting as forgetting;
 ghost use Rattle.cfdp_entity.specs.Forgetting.{left_at, over_in, without_file};
 ghost use Rattle.cfdp_entity.specs.Looking.{IsSent, IsUnsent, Looks, LooksAnew, sends_at};
 ghost use Rattle.cfdp_entity.specs.Opening.{closing, AsksInOrder, CountsBoth};
+ghost use Rattle.cfdp_entity.specs.RemovingSources.{RefusesToRemove, RemovesSource};
+ghost use Rattle.cfdp_entity.specs.RemovingSources.{without_source};
 ghost use Rattle.cfdp_entity.specs.Roomy.{Becomes, LacksMemory, MayAdd, SendsFrom, Steps};
 ghost use Rattle.cfdp_entity.specs.Roomy.{roomy_lent};
 ghost use Rattle.cfdp_entity.specs.Sound.{longest_pdu};
@@ -38,22 +51,29 @@ ghost use Rattle.cfdp_entity.specs.Table.{first_table, all_expired, at_time, Tic
 ghost use Rattle.cfdp_entity.specs.Table.{progress_in, standing, ShowsIf};
 
 use crate::desk::Desk;
-use crate::error::{AddError, ForgetError, RequestError};
+use crate::error::{AddError, ForgetError, RemoveError, RequestError};
 use crate::opening::{MOST_TOLD, Opened};
 use crate::ready::Ready;
 use crate::record::{Gave, Record};
 use crate::request::Request;
+use crate::restoring::RestoreError;
 use crate::sent::SentPdu;
 use crate::transactions::Transactions;
-use cfdp_directives::{Addressing, Indication, Pdu, Phase, Policy};
+use cfdp_directives::{Addressing, ChecksumKind, Checksums, Indication, Pdu, Phase, Policy};
+use cfdp_extents::Extents;
 use cfdp_header::TransactionId;
-use cfdp_sender::Transfer;
-use cfdp_store::{Inbox, MemoryInbox, MemoryOutbox, Outbox, SeekingOutbox, StoreError, Stored};
+use cfdp_receiver::CommittedReceiver;
+use cfdp_sender::{CommittedSender, Transfer, sums_of_front};
+use cfdp_store::{
+    Inbox, MemoryInbox, MemoryOutbox, Outbox, ResumingInbox, SeekingOutbox, StoreError, Stored,
+};
 use cfdp_timers::{Effects, Kind};
 use indexmap::IndexMap;
+use indexmap::map::Iter;
 use past::Counted;
 use std::alloc::{AllocError, Global};
 use std::marker::Model;
+use std::mem;
 
 /// The most records of a table, closed ones included.
 pub const MOST_RECORDS: usize = 4096;
@@ -64,7 +84,7 @@ pub struct Table<O: Outbox, I: Inbox> {
     alloc: Global,
     records: IndexMap<TransactionId, Record>,
     ready: Ready,
-    // The indications that were let go: those that are left stand on the desk.
+    // How many indications were discarded: those that are left stand on the desk.
     gone: Counted<Indication>,
     desk: Desk<O, I>,
 }
@@ -85,7 +105,7 @@ impl<O: Outbox, I: Inbox> Model for Table<O, I> {
 }
 
 impl<O: Outbox, I: Inbox> Table<O, I> {
-    /// No records.
+    /// Returns a table without records.
     pub fn new(alloc: Global, outbox: O, inbox: I, policy: Policy) -> Result<Self, AllocError>
         ensures { IfOk result (λ t. t ≡ record t {
           state = standing (O.stands outbox)
@@ -110,7 +130,7 @@ impl<O: Outbox, I: Inbox> Table<O, I> {
         })
     }
 
-    /// How many records there are.
+    /// Returns how many records there are.
     pub fn len(&self) -> usize
         ensures len { result ≡ length self.now.state.records }
         ensures few { result ≤ 4096 }
@@ -119,21 +139,21 @@ impl<O: Outbox, I: Inbox> Table<O, I> {
         self.records.len()
     }
 
-    /// What was indicated, but for what was let go.
+    /// Returns what was indicated, except for what was discarded.
     pub fn told(&self) -> &[Indication]
         ensures { result.now ≡ drop self.now.state.gone self.now.state.told }
     {
         self.desk.effects.told.as_slice()
     }
 
-    /// How many indications were let go.
+    /// Returns how many indications were discarded.
     pub fn gone(&self) -> u64
         ensures { result ≡ self.now.state.gone }
     {
         self.gone.count()
     }
 
-    /// Lets the first so many go of the indications that are left.
+    /// Discards the first so many of the indications that are left.
     pub fn forget_told(&mut self, count: usize)
         ensures { Becomes (without_told count self.old.state) self.old self.new }
     {
@@ -161,14 +181,24 @@ impl<O: Outbox, I: Inbox> Table<O, I> {
         Some(next)
     }
 
-    /// Where the record of a transaction is.
+    /// Exchanges what was indicated in both tables, with how many indications were discarded.
+    pub fn exchange_told(&mut self, other: &mut Self)
+        ensures own { self.new ≡ table_told_by other.old self.old }
+        ensures other { other.new ≡ table_told_by self.old other.old }
+    {
+        mem::swap(&mut self.gone, &mut other.gone);
+        mem::swap(&mut self.desk.effects.told, &mut other.desk.effects.told);
+    }
+
+    /// Returns the index of a transaction's record.
     pub fn place_of(&self, id: TransactionId) -> Option<usize>
         ensures { result ≡ tables.place_of id self.now.state.records }
     {
         self.records.get_index_of(&id)
     }
 
-    /// The first record from a place on that has something due, and else the first of all.
+    /// Returns the first record from an index on that has something due, otherwise the first of
+    /// all.
     pub fn next_due(&self, from: usize) -> Option<usize>
         ensures next { result ≡ next_due from self.now.state.records }
         ensures within { IfSome result (λ place. place < 4096) }
@@ -176,7 +206,7 @@ impl<O: Outbox, I: Inbox> Table<O, I> {
         self.ready.next(from)
     }
 
-    /// Octets of the PDU that the record at a place has due.
+    /// Returns the number of octets of the PDU that the record at an index has due.
     pub fn due_len(&self, place: usize) -> usize
         ensures len { result ≡ len_at place self.now.state }
         ensures short { result ≤ longest_pdu }
@@ -189,7 +219,7 @@ impl<O: Outbox, I: Inbox> Table<O, I> {
         }
     }
 
-    /// Whether the PDU that the record at a place has due is file data.
+    /// Returns `true` if the PDU that the record at an index has due is file data.
     pub fn has_data_due(&self, place: usize) -> bool
         ensures { result ≡ data_at place self.now.state }
     {
@@ -199,7 +229,7 @@ impl<O: Outbox, I: Inbox> Table<O, I> {
         }
     }
 
-    /// What the PDU counts as, once it is sent, that the record at a place has due.
+    /// Returns what the PDU that the record at an index has due counts as, once it is sent.
     pub fn due_pdu(&self, place: usize) -> Option<SentPdu>
         ensures { result ≡ sent_at place self.now.state }
     {
@@ -209,7 +239,7 @@ impl<O: Outbox, I: Inbox> Table<O, I> {
         }
     }
 
-    /// How far the transaction has come whose record is at a place.
+    /// Returns how far the transaction has come whose record is at an index.
     pub fn phase_at(&self, place: usize) -> Option<Phase>
         ensures { result ≡ phase_in (slice_get self.now.state.records place) }
     {
@@ -219,8 +249,8 @@ impl<O: Outbox, I: Inbox> Table<O, I> {
         }
     }
 
-    /// Up to which offset octets of the file were sent, or came, of the transaction whose record is
-    /// at a place.
+    /// Returns the offset up to which octets of the file were sent, or came, of the transaction
+    /// whose record is at an index.
     pub fn progress_at(&self, place: usize) -> Option<u64>
         ensures { result ≡ progress_in (slice_get self.now.state.records place) }
     {
@@ -230,14 +260,14 @@ impl<O: Outbox, I: Inbox> Table<O, I> {
         }
     }
 
-    /// The transactions in order of opening, each with how far it has come.
+    /// Returns the transactions in order of opening, each with how far it has come.
     pub fn transactions(&self) -> Transactions<'_>
         ensures { result ≡ phases_of self.now.state }
     {
         Transactions::over(self.records.iter())
     }
 
-    /// Why a request of the record at a place is refused, if it is.
+    /// Returns why a request of the record at an index is refused, if it is.
     pub fn refusal_at(&self, place: usize, request: Request) -> Option<RequestError>
         ensures { result ≡ refusing.refusal_of request (slice_get self.now.state.records place) }
     {
@@ -247,7 +277,7 @@ impl<O: Outbox, I: Inbox> Table<O, I> {
         }
     }
 
-    /// Why the record at a place can't be let go, if it can't.
+    /// Returns why the record at an index can't be discarded, if it can't.
     pub fn forget_refusal_at(&self, place: usize) -> Option<ForgetError>
         ensures { result ≡ forgetting.refusal_of (slice_get self.now.state.records place) }
     {
@@ -257,7 +287,7 @@ impl<O: Outbox, I: Inbox> Table<O, I> {
         }
     }
 
-    /// The transaction of the record at a place, if that may be let go.
+    /// Returns the transaction of the record at an index, if that may be discarded.
     pub fn over_at(&self, place: usize) -> Option<TransactionId>
         ensures { result ≡ over_in (slice_get self.now.state.records place) }
     {
@@ -267,7 +297,7 @@ impl<O: Outbox, I: Inbox> Table<O, I> {
         }
     }
 
-    /// Lets go of the record at a place: those behind it move up, and no timer of its transaction
+    /// Discards the record at an index: those after it move up, and no timer of its transaction
     /// is armed.
     pub fn forget(&mut self, place: usize, id: TransactionId)
         requires at { slice_get (keys_of self.old.state.records) place ≡ Some id }
@@ -278,7 +308,7 @@ impl<O: Outbox, I: Inbox> Table<O, I> {
         self.desk.effects.timers.let_go(id);
     }
 
-    /// Octets of a file of the outbox.
+    /// Returns the number of octets of a file of the outbox.
     pub fn source_len(&mut self, name: &[u8]) -> Result<Option<u64>, StoreError>
         ensures answer { IfOk result (λ len. len ≡ option_map length
             (map.get self.old.state.sources name.now)) }
@@ -302,7 +332,7 @@ impl<O: Outbox, I: Inbox> Table<O, I> {
         self.desk.effects.told.reserve(more)
     }
 
-    /// The record at a place hears a PDU, with its large file flag.
+    /// Lets the record at an index hear a PDU, with its large file flag.
     pub fn hear(&mut self, place: usize, large: bool, pdu: &Pdu<'_>) -> Result<Stored, AllocError>
         requires room { 3 ≤ self.old.spare }
         ensures heard { IfOk result (λ stored. Steps
@@ -321,7 +351,7 @@ impl<O: Outbox, I: Inbox> Table<O, I> {
         }
     }
 
-    /// A timer of the record at a place expired.
+    /// Fires a timer of the record at an index.
     pub fn expire(&mut self, place: usize, kind: Kind)
         requires room { 3 ≤ self.old.spare }
         ensures expired { Steps (expired_at place kind self.old.state) (Counts Stored.Done)
@@ -337,7 +367,7 @@ impl<O: Outbox, I: Inbox> Table<O, I> {
         }
     }
 
-    /// A request of the user of the record at a place.
+    /// Does a request of the user of the record at an index.
     pub fn request(&mut self, place: usize, request: Request)
         requires room { 3 ≤ self.old.spare }
         ensures { Steps (called_at place request self.old.state) (Counts Stored.Done)
@@ -352,7 +382,7 @@ impl<O: Outbox, I: Inbox> Table<O, I> {
         }
     }
 
-    /// Takes the PDU of the record at a place.
+    /// Takes the PDU of the record at an index.
     pub fn send(&mut self, place: usize, out: &mut [u8]) -> Gave
         requires room { 3 ≤ self.old.spare }
         requires fits { len_at place self.old.state ≤ length out.old }
@@ -370,7 +400,7 @@ impl<O: Outbox, I: Inbox> Table<O, I> {
         }
     }
 
-    /// A put opens a record.
+    /// Opens a record by a put.
     pub fn put(&mut self, transfer: Transfer) -> Result<(), AllocError>
         requires may_add { MayAdd transfer.addressing.id self.old.state }
         requires sendable { IsSendable transfer }
@@ -387,8 +417,8 @@ impl<O: Outbox, I: Inbox> Table<O, I> {
         Ok(())
     }
 
-    /// A PDU of no record opens one, which hears it, with its large file flag, if the inbox begins
-    /// its transaction. An EOF with an error opens one that is closed.
+    /// Opens a record by a PDU of no record. If the inbox begins its transaction, the record hears
+    /// the PDU, with its large file flag. If the PDU is an EOF with an error, the record is closed.
     pub fn open(
         &mut self,
         addressing: Addressing,
@@ -411,7 +441,7 @@ impl<O: Outbox, I: Inbox> Table<O, I> {
         Ok(opened)
     }
 
-    /// The earliest deadline of the armed timers but those of kind Inactivity.
+    /// Returns the earliest deadline of the armed timers except those of kind Inactivity.
     pub fn next_deadline(&self) -> Option<u64>
         ensures { MatchOption result (OnlyInactivity self.now.state.armed)
             (λ deadline. IsLeastOther self.now.state.armed deadline) }
@@ -419,7 +449,7 @@ impl<O: Outbox, I: Inbox> Table<O, I> {
         self.desk.effects.timers.next_but_inactivity()
     }
 
-    /// The earliest deadline of the armed timers.
+    /// Returns the earliest deadline of the armed timers.
     pub fn next_timeout(&self) -> Option<u64>
         ensures { MatchOption result (self.now.state.armed ≡ map.empty)
             (λ deadline. IsLeast self.now.state.armed deadline) }
@@ -427,14 +457,14 @@ impl<O: Outbox, I: Inbox> Table<O, I> {
         self.desk.effects.timers.next()
     }
 
-    /// The deadline of a timer, if it is armed.
+    /// Returns the deadline of a timer, if it is armed.
     pub fn deadline_of(&self, id: TransactionId, kind: Kind) -> Option<u64>
         ensures { result ≡ map.get self.now.state.armed (id, kind) }
     {
         self.desk.effects.timers.deadline_of(id, kind)
     }
 
-    /// Tells the time: the timers that are due fire, one after another.
+    /// Notes the time: the timers that are due fire, one after another.
     pub fn tick(&mut self, now: u64) -> Result<(), AllocError>
         ensures ticked { OnOk result (Ticks now self.old.state self.new.state) }
         ensures raises { OnOk result (AsksToTick Raises now self.old.state
@@ -495,7 +525,7 @@ impl<O: Outbox, I: Inbox> Table<O, I> {
     }
 }
 
-// A transaction, where its record isn't refused to go.
+// Returns a transaction, if its record may be discarded.
 fn unless_refused(refusal: Option<ForgetError>, id: TransactionId) -> Option<TransactionId>
     ensures { result ≡ forgetting.unless_refused refusal id }
 {
@@ -505,7 +535,7 @@ fn unless_refused(refusal: Option<ForgetError>, id: TransactionId) -> Option<Tra
     }
 }
 
-// A record is added behind all others.
+// Adds a record after all others.
 fn push_record(records: &mut IndexMap<TransactionId, Record>, id: TransactionId, opened: Record)
     requires absent { get same_id records.old id ≡ None }
     requires room { 1 ≤ spare_entries records.old }
@@ -516,7 +546,7 @@ fn push_record(records: &mut IndexMap<TransactionId, Record>, id: TransactionId,
 }
 
 impl<O: Outbox, I: Inbox> Table<O, I> {
-    /// The outbox, lent.
+    /// Borrows the outbox.
     pub fn outbox(&self) -> &O
         ensures files { O.files result.now ≡ self.now.state.sources }
         ensures stands { O.stands result.now ≡ self.now.state.stands }
@@ -525,7 +555,7 @@ impl<O: Outbox, I: Inbox> Table<O, I> {
         &self.desk.outbox
     }
 
-    /// The inbox, lent.
+    /// Borrows the inbox.
     pub fn inbox(&self) -> &I
         ensures published { I.published result.now ≡ self.now.state.files }
         ensures failures { I.failures result.now ≡ self.now.inbox_failures }
@@ -567,7 +597,7 @@ impl<I: Inbox> Table<MemoryOutbox, I> {
 }
 
 impl<O: Outbox, I: Inbox> Table<O, I> {
-    // Whether the record at a place is sending the file of this name.
+    // Returns `true` if the record at an index is sending the file of this name.
     fn sends_at(&self, place: usize, name: &[u8]) -> bool
         ensures { result ≡ sends_at name.now place self.now.state }
     {
@@ -577,7 +607,7 @@ impl<O: Outbox, I: Inbox> Table<O, I> {
         }
     }
 
-    // Whether a record is sending it.
+    // Returns `true` if a record is sending it.
     fn is_sending(&self, name: &[u8]) -> bool
         ensures sent { result ≡ true → IsSent name.now self.now.state }
         ensures unsent { result ≡ false → IsUnsent name.now self.now.state }
@@ -591,8 +621,36 @@ impl<O: Outbox, I: Inbox> Table<O, I> {
     }
 }
 
+impl<I: Inbox> Table<MemoryOutbox, I> {
+    /// Removes a file that no record is sending from the outbox.
+    pub fn remove_source(&mut self, name: &[u8]) -> Result<(), RemoveError>
+        ensures removed { OnOk result (RemovesSource name.now self.old.state self.new.state) }
+        ensures refused { IfErr result (RefusesToRemove name.now self.old.state) }
+        ensures stays { Becomes self.new.state self.old self.new }
+        ensures err { OnErr result (self.new.state ≡ self.old.state) }
+    {
+        match self.desk.outbox.len(name) {
+            Ok(Some(_)) => {}
+            _ => return Err(RemoveError::NoSuchFile),
+        }
+        if self.is_sending(name) {
+            return Err(RemoveError::InUse);
+        }
+        self.drop_source(name);
+        Ok(())
+    }
+
+    // Removes a file that no record is sending.
+    fn drop_source(&mut self, name: &[u8])
+        requires { IsUnsent name.now self.old.state }
+        ensures { Becomes (without_source name.now self.old.state) self.old self.new }
+    {
+        let _ = self.desk.outbox.remove(name);
+    }
+}
+
 impl<O: SeekingOutbox, I: Inbox> Table<O, I> {
-    /// Looks for the file of a name, unless a record is sending it: whether there is one.
+    /// Looks for the file of a name, unless a record is sending it. Returns `true` if there is one.
     pub fn look_for(&mut self, name: &[u8]) -> Result<bool, StoreError>
         ensures has { IfOk result (λ has. has ≡ is_some (map.get self.new.state.sources name.now)) }
         ensures looks { OnOk result (Looks name.now self.old.state self.new.state) }
@@ -620,6 +678,96 @@ impl<O: SeekingOutbox, I: Inbox> Table<O, I> {
         } }
     {
         self.desk.outbox.look_for(name)
+    }
+}
+
+impl<O: Outbox, I: Inbox> Table<O, I> {
+    /// Returns the records in order of opening, each with its transaction.
+    pub fn records(&self) -> Iter<'_, TransactionId, Record>
+        ensures { lists.map record_kept result ≡ all_kept self.now.state }
+    {
+        self.records.iter()
+    }
+
+    /// Reads the first octets of a file of the outbox, and returns what a sender keeps of them for
+    /// the checksum of this type. They are read into `buffer`, piece by piece.
+    pub fn sums_of_front(
+        &mut self,
+        kind: ChecksumKind,
+        name: &[u8],
+        end: u64,
+        buffer: &mut [u8],
+    ) -> Result<Checksums, StoreError>
+        requires there { 0 < end → IsSome (map.get self.old.state.sources name.now) }
+        requires within { end ≤ length (octets_in self.old.state.sources name.now) }
+        requires room { 1 ≤ length buffer.old }
+        ensures sums { IfOk result (λ sums. IsTrue self.new.state.stands
+            → sums ≡ front_sums kind (take end (octets_in self.new.state.sources name.now))) }
+        ensures fits { IfOk result SumsFit }
+        ensures shows { ShowsIf true self.old.state self.new.state }
+        ensures counted { self.new ≡ record (roomy_lent self.new self.old) {
+          outbox_failures
+              = failures_after self.old.outbox_failures (is_ok result);
+        } }
+    {
+        sums_of_front(&mut self.desk.outbox, kind, name, end, buffer)
+    }
+
+    /// Restores a sender, after all other records.
+    pub fn restore_sender(
+        &mut self,
+        kept: CommittedSender,
+        sent: u64,
+        sums: Checksums,
+    ) -> Result<(), AllocError>
+        requires may_add { MayAdd kept.transfer.addressing.id self.old.state }
+        requires committed { sender_back.IsCommitted kept }
+        requires file { HasFileWhile kept.phase self.old.state.sources kept.transfer.source
+            kept.transfer.size }
+        requires within { sent ≤ kept.transfer.size }
+        requires fits { SumsFit sums }
+        ensures restored { OnOk result (Becomes (sender_restored sent sums kept self.old.state)
+            self.old self.new) }
+        ensures err { OnErr result (Becomes self.old.state self.old self.new) }
+    {
+        let id = kept.transfer.addressing.id;
+        self.records.reserve(1)?;
+        let held = self.desk.restore_sender(self.alloc, kept, sent, sums)?;
+        self.ready.push(held.is_due());
+        push_record(&mut self.records, id, held);
+        Ok(())
+    }
+}
+
+impl<O: Outbox, I: ResumingInbox> Table<O, I> {
+    /// Restores a receiver, after all other records, with what it held. That is read from the part
+    /// of its file in the inbox, in pieces as long as `buffer`.
+    pub fn restore_receiver(
+        &mut self,
+        kept: CommittedReceiver,
+        held: Extents,
+        buffer: &mut [u8],
+    ) -> Result<(), RestoreError>
+        requires may_add { MayAdd kept.addressing.id self.old.state }
+        requires committed { receiver_back.IsCommitted kept }
+        requires within { AreHeldBelow held kept }
+        requires room { 1 ≤ length buffer.old }
+        ensures restored { OnOk result (AddsReceiver kept held self.old.state self.new.state) }
+        ensures refused { IfErr result (λ by. (e : EntityState) → ReceiverCause by kept held e) }
+        ensures err { OnErr result (self.new.state ≡ self.old.state) }
+        ensures inbox { self.new.inbox_failures
+            ≡ failures_after self.old.inbox_failures (was_shown result) }
+        ensures outbox { self.new.outbox_failures ≡ self.old.outbox_failures }
+    {
+        let id = kept.addressing.id;
+        match self.records.reserve(1) {
+            Ok(()) => {}
+            Err(_) => return Err(RestoreError::NoMemory),
+        }
+        let opened = self.desk.restore_receiver(self.alloc, kept, held, buffer)?;
+        self.ready.push(opened.is_due());
+        push_record(&mut self.records, id, opened);
+        Ok(())
     }
 }
 

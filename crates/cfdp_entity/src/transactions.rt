@@ -29,7 +29,7 @@ impl<'a> Model for Transactions<'a> {
 }
 
 impl<'a> Transactions<'a> {
-    /// Over these records.
+    /// Returns the transactions of these records, one by one.
     pub(crate) fn over(records: Iter<'a, TransactionId, Record>) -> Self
         ensures { result ≡ map record_told records.entry }
     {

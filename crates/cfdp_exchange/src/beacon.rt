@@ -1,4 +1,4 @@
-//! What stations tell each other of how they are set up, so that both can say where they differ.
+//! What stations say to each other of how they are set up, so that both can say where they differ.
 //!
 //! It stands in a frame of the virtual channel 63, whose octets mean nothing to a link (CCSDS
 //! 732.0-B-4, 4.1.2.3): other software drops it as it drops each idle frame.
@@ -6,17 +6,67 @@ ghost use Rattle.std.specs.Prelude.{◌+◌, ◌≤◌, length};
 
 use cfdp_station::{FrameFields, LinkConfig, StationConfig};
 
-/// Octets of a beacon; more may stand behind them, which mean nothing.
+/// Octets of a beacon; more may stand after them, which mean nothing.
 pub const BEACON_LEN: usize = 44;
 
-/// The octets behind the header of a beacon's frame, by which it is known: the first header pointer
-/// that tells of idle data only, and a word.
+/// The octets after the header of a beacon's frame, by which it is known: the first header pointer
+/// that says that there is idle data only, and a word.
 const MARK: [u8; 8] = [0x07, 0xfe, b'C', b'F', b'D', b'P', b'b', 1];
 
-/// Bits of the octet that tells which fields of two there are.
+/// Bits of the octet that says which fields of two there are.
 const CONTROL: u8 = 2;
 /// See [`CONTROL`].
 const ERROR: u8 = 1;
+
+/// A setting in which a station and its peer must agree.
+#[derive(Clone, Copy, Debug, PartialEq, Eq)]
+pub enum Agreed {
+    PeerId,
+    OwnId,
+    Zone,
+    Spacecraft,
+    DirectivesFrom,
+    FileDataFrom,
+    ApidFrom,
+    DirectivesTo,
+    FileDataTo,
+    ApidTo,
+    InsertZoneFrom,
+    ControlFieldFrom,
+    ErrorControlFrom,
+    InsertZoneTo,
+    ControlFieldTo,
+    ErrorControlTo,
+}
+
+impl Agreed {
+    /// Returns the setting in words, as the station that reports it says.
+    pub fn name(self) -> &'static str {
+        match self {
+            Agreed::PeerId => "id of the peer",
+            Agreed::OwnId => "id of this station",
+            Agreed::Zone => "zone",
+            Agreed::Spacecraft => "spacecraft",
+            Agreed::DirectivesFrom => "directive channel from the peer",
+            Agreed::FileDataFrom => "file data channel from the peer",
+            Agreed::ApidFrom => "APID from the peer",
+            Agreed::DirectivesTo => "directive channel to the peer",
+            Agreed::FileDataTo => "file data channel to the peer",
+            Agreed::ApidTo => "APID to the peer",
+            Agreed::InsertZoneFrom => "insert zone from the peer",
+            Agreed::ControlFieldFrom => "control field from the peer",
+            Agreed::ErrorControlFrom => "error control from the peer",
+            Agreed::InsertZoneTo => "insert zone to the peer",
+            Agreed::ControlFieldTo => "control field to the peer",
+            Agreed::ErrorControlTo => "error control to the peer",
+        }
+    }
+
+    /// Returns `true` if it is one of the two ids.
+    pub fn is_id(self) -> bool {
+        matches!(self, Agreed::PeerId | Agreed::OwnId)
+    }
+}
 
 /// How a station is set up: who it is, and the frames that it sends and takes.
 #[derive(Clone, Copy)]
@@ -30,7 +80,7 @@ pub struct Beacon {
 }
 
 impl Beacon {
-    /// How a station with this configuration is set up.
+    /// Returns the beacon of a station with this configuration.
     pub fn of(config: &StationConfig) -> Beacon {
         Beacon {
             id: config.entity.entity,
@@ -40,38 +90,45 @@ impl Beacon {
         }
     }
 
-    /// What there is to agree on, in words, with this beacon's value and that of the other station.
-    pub fn beside(&self, other: &Beacon) -> [(&'static str, u64, u64); 16] {
+    /// Returns each setting that must agree, with its value at the station of this beacon and at
+    /// the other one.
+    pub fn beside(&self, other: &Beacon) -> [(Agreed, u64, u64); 16] {
         let (from, here) = (numbers(&self.sends), numbers(&other.receives));
         let (to, there) = (numbers(&other.sends), numbers(&self.receives));
         [
-            ("zone", from[0], here[0]),
-            ("spacecraft", from[1], here[1]),
-            ("directive channel from the peer", from[2], here[2]),
-            ("file data channel from the peer", from[3], here[3]),
-            ("APID from the peer", from[4], here[4]),
-            ("directive channel to the peer", there[2], to[2]),
-            ("file data channel to the peer", there[3], to[3]),
-            ("APID to the peer", there[4], to[4]),
-            ("insert zone from the peer", from[5], here[5]),
-            ("control field from the peer", from[6], here[6]),
-            ("error control from the peer", from[7], here[7]),
-            ("insert zone to the peer", there[5], to[5]),
-            ("control field to the peer", there[6], to[6]),
-            ("error control to the peer", there[7], to[7]),
-            ("id of the peer", self.id, other.peer),
-            ("id of this station", self.peer, other.id),
+            (Agreed::PeerId, self.id, other.peer),
+            (Agreed::OwnId, self.peer, other.id),
+            (Agreed::Zone, from[0], here[0]),
+            (Agreed::Spacecraft, from[1], here[1]),
+            (Agreed::DirectivesFrom, from[2], here[2]),
+            (Agreed::FileDataFrom, from[3], here[3]),
+            (Agreed::ApidFrom, from[4], here[4]),
+            (Agreed::DirectivesTo, there[2], to[2]),
+            (Agreed::FileDataTo, there[3], to[3]),
+            (Agreed::ApidTo, there[4], to[4]),
+            (Agreed::InsertZoneFrom, from[5], here[5]),
+            (Agreed::ControlFieldFrom, from[6], here[6]),
+            (Agreed::ErrorControlFrom, from[7], here[7]),
+            (Agreed::InsertZoneTo, there[5], to[5]),
+            (Agreed::ControlFieldTo, there[6], to[6]),
+            (Agreed::ErrorControlTo, there[7], to[7]),
         ]
     }
 
-    /// Whether two stations that are set up so understand each other.
+    /// Returns `true` if the stations of the two beacons agree in all settings that must agree.
     pub fn fits(&self, other: &Beacon) -> bool {
         self.beside(other)
             .iter()
             .all(|(_, theirs, ours)| theirs == ours)
     }
 
-    /// The octets of its frame: the header, of version 1 and channel 63, the mark, and the numbers.
+    /// Returns `true` if both stations don't mean the same two ids.
+    pub fn has_other_ids(&self, other: &Beacon) -> bool {
+        self.id != other.peer || self.peer != other.id
+    }
+
+    /// Returns the octets of its frame: the header, of version 1 and channel 63, the mark, and the
+    /// numbers.
     pub fn octets(&self) -> [u8; BEACON_LEN] {
         let mut octets = [0u8; BEACON_LEN];
         octets[0] = 0x40 | self.sends.spacecraft >> 2;
@@ -91,7 +148,7 @@ impl Beacon {
         octets
     }
 
-    /// What the octets of a datagram tell, where they are those of a beacon.
+    /// Reads the octets of a datagram. Returns `None` if they aren't those of a beacon.
     pub fn read(datagram: &[u8]) -> Option<Beacon> {
         if datagram.len() < BEACON_LEN
             || datagram[1] & 63 != 63

@@ -23,7 +23,7 @@ pub enum CarrierDrop {
     /// The packet is a segment of a longer one.
     #[error("a packet is a segment")]
     Segmented,
-    /// The packet has a secondary header where none is set, or none where one is.
+    /// The packet has a secondary header if none is set, or none if one is.
     #[error("a packet has a secondary header and none is set, or the other way round")]
     SecondaryHeader,
     /// The PDU is longer than any packet that the station's link has room for.
@@ -44,7 +44,7 @@ impl CarrierDrop {
         CarrierDrop::NoRoom,
     ];
 
-    /// The name of the cause, in one word.
+    /// Returns the name of the cause, in one word.
     pub fn name(self) -> &'static str {
         match self {
             CarrierDrop::Empty => "Empty",
@@ -59,8 +59,8 @@ impl CarrierDrop {
     }
 }
 
-/// How often datagrams that came were dropped, for each cause. It is lent to the wire, which
-/// counts, and to whoever tells the operator.
+/// How often datagrams that came were dropped, for each cause. It is borrowed by the wire, which
+/// counts, and by whoever reports to the operator.
 #[derive(Drop)]
 pub struct CarrierTally {
     // in the order of `CarrierDrop::ALL`
@@ -68,7 +68,7 @@ pub struct CarrierTally {
 }
 
 impl CarrierTally {
-    /// Nothing was dropped yet.
+    /// Returns a tally of no drops.
     pub fn new() -> CarrierTally {
         CarrierTally {
             counts: [
@@ -84,7 +84,7 @@ impl CarrierTally {
         }
     }
 
-    /// How often datagrams were dropped for this cause; it stays at the greatest `u64`.
+    /// Returns how often datagrams were dropped for this cause; it stays at the greatest `u64`.
     pub fn of(&self, cause: CarrierDrop) -> u64 {
         self.counts[cause as usize].get()
     }

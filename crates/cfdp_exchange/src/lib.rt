@@ -10,12 +10,14 @@ mod beacon;
 mod drops;
 mod exchange;
 mod lost_frames;
+mod notes;
 mod refusals;
 mod watched;
 
-pub use beacon::{BEACON_LEN, Beacon};
+pub use beacon::{Agreed, BEACON_LEN, Beacon};
 pub use drops::{CarrierDrop, CarrierTally};
 pub use exchange::{Exchange, Stop};
 pub use lost_frames::{FrameGaps, FrameMonitor, is_often_late};
+pub use notes::{Note, NoteKind, NoteQueue, NoteTopic};
 pub use refusals::{REFUSALS, RefusalTally, refusal_name};
 pub use watched::Watched;

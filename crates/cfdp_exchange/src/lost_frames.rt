@@ -9,15 +9,15 @@ use std::cell::Cell;
 /// than the last one.
 const LATE: u32 = 8_388_608;
 
-/// So many frames that come late are told, at least.
+/// If fewer frames come late, that isn't reported.
 const LEAST_LATE: u64 = 8;
 
-/// Where each tenth frame comes late, that is told.
+/// If each tenth frame comes late, that is reported.
 const MOST_IN_TIME: u64 = 10;
 
 /// How many datagrams left a station and came to it; how often frames were missing between those
 /// that came, and how many; how many came late or once more; and how many datagrams were thrown
-/// away: shared by who counts them and who tells it.
+/// away: shared by who counts them and who says it.
 /// Each count stays at the greatest `u64`.
 #[derive(Drop)]
 pub struct FrameGaps {
@@ -30,7 +30,7 @@ pub struct FrameGaps {
 }
 
 impl FrameGaps {
-    /// None so far.
+    /// Returns counts that are all 0.
     pub fn new() -> FrameGaps {
         FrameGaps {
             sent: Cell::new(0),
@@ -42,7 +42,7 @@ impl FrameGaps {
         }
     }
 
-    /// How many datagrams left.
+    /// Returns how many datagrams left.
     pub fn sent(&self) -> u64 {
         self.sent.get()
     }
@@ -52,7 +52,7 @@ impl FrameGaps {
         self.sent.set(self.sent.get().saturating_add(1));
     }
 
-    /// How many datagrams came while the link wasn't down by plan.
+    /// Returns how many datagrams came while the link wasn't down by plan.
     pub fn came(&self) -> u64 {
         self.came.get()
     }
@@ -62,17 +62,17 @@ impl FrameGaps {
         self.came.set(self.came.get().saturating_add(1));
     }
 
-    /// How often some were missing.
+    /// Returns how often frames were missing.
     pub fn gaps(&self) -> u64 {
         self.gaps.get()
     }
 
-    /// How many were missing in all.
+    /// Returns how many frames were missing in all.
     pub fn missing(&self) -> u64 {
         self.missing.get()
     }
 
-    /// How many frames came after a later one of their lane, or once more.
+    /// Returns how many frames came after a later one of their lane, or once more.
     pub fn late(&self) -> u64 {
         self.late.get()
     }
@@ -82,7 +82,7 @@ impl FrameGaps {
         self.late.set(self.late.get().saturating_add(1));
     }
 
-    /// How many datagrams were thrown away while the link was down by plan.
+    /// Returns how many datagrams were discarded while the link was down by plan.
     pub fn thrown_away(&self) -> u64 {
         self.thrown_away.get()
     }
@@ -102,7 +102,7 @@ impl FrameGaps {
 
 /// Looks at the frames of a link that come to a station, and counts those that are missing between
 /// them, by the virtual channel frame counts in their headers (CCSDS 732.0-B-4, 4.1.2.4). A peer
-/// that is started anew leaves counts out, up to 1,048,576 in each lane, which seem to be missing.
+/// that is restarted leaves counts out, up to 1,048,576 in each lane, which seem to be missing.
 #[derive(Drop)]
 pub struct FrameMonitor<'a> {
     link: LinkConfig,
@@ -112,7 +112,7 @@ pub struct FrameMonitor<'a> {
 }
 
 impl<'a> FrameMonitor<'a> {
-    /// Before the first frame of this link. What it finds, it adds there.
+    /// Returns a monitor before the first frame of this link. It adds what it finds to `found`.
     pub fn new(link: LinkConfig, found: &'a FrameGaps) -> FrameMonitor<'a> {
         FrameMonitor {
             link,

@@ -5,7 +5,7 @@ use std::os::fd::RawFd;
 /// The most descriptors that are looked at, with that of whoever waits.
 const PLACES: usize = 32;
 
-/// The descriptors of which something may come while one waits for something else, and whether
+/// The descriptors from which something may come while one waits for something else, and whether
 /// something lies there already, or is looked for again soon. No one of them stays ready: what they
 /// have is taken, or they are left out.
 #[derive(Clone, Copy)]
@@ -25,7 +25,7 @@ const FREE: pollfd = pollfd {
 };
 
 impl Watched {
-    /// Nothing is looked at.
+    /// Returns a set of no descriptors.
     pub fn nothing() -> Watched {
         Watched {
             places: [FREE; 32],
@@ -47,12 +47,12 @@ impl Watched {
         }
     }
 
-    /// Whether no descriptor is looked at.
+    /// Returns `true` if no descriptor is looked at.
     pub fn is_empty(&self) -> bool {
         self.count <= 1
     }
 
-    /// Something lies there already, so that nobody is to wait.
+    /// Returns `true` if something lies there already, so that nobody may wait.
     pub fn is_due(&self) -> bool {
         self.is_due
     }
@@ -62,19 +62,19 @@ impl Watched {
         self.is_due = is_due;
     }
 
-    /// Something is left out that is to be looked at again within a millisecond or two, so that
-    /// nobody is to wait longer.
+    /// Returns `true` if something is left out that must be looked at again within a millisecond or
+    /// two, so that nobody may wait longer.
     pub fn is_soon(&self) -> bool {
         self.is_soon
     }
 
-    /// Notes that something is to be looked at again soon.
+    /// Notes that something must be looked at again soon.
     pub fn set_soon(&mut self) {
         self.is_soon = true;
     }
 
-    /// What `poll` is asked by one who waits for these events of this descriptor, which stands in
-    /// the first place.
+    /// Returns what `poll` is asked by a caller that waits for these events of this descriptor,
+    /// which stands in the first place.
     pub fn beside(&self, fd: RawFd, events: i16) -> [pollfd; 32] {
         let mut places = self.places;
         places[0] = pollfd {
@@ -85,7 +85,7 @@ impl Watched {
         places
     }
 
-    /// What `poll` is asked by one who waits for nothing else.
+    /// Returns what `poll` is asked by a caller that waits for nothing else.
     pub fn alone(&self) -> [pollfd; 32] {
         self.places
     }

@@ -1,4 +1,5 @@
--- Exported: what proofs of a crate above cite of sets of offsets: what they hold, their ranges, gaps, end and front.
+-- Exported: what proofs of a crate above cite of sets of offsets: what they hold, their ranges,
+-- gaps, end and front.
 use Rattle.std.proofs.Common.{◌≡◌, ◌⊎◌, inl, inr, ℕ, ◌+◌, ◌-◌, ◌<◌, ◌≤◌, min, max, Bool, true, false, not, ◌&&◌, List, [], ◌∷◌, length, drop, Option, None, Some, refl, sym, ap, subst, ◌∙◌, arith, if◌then◌else◌, true≢false}
 use Rattle.std.specs.FinSet as set
 use Rattle.std.specs.FinSet.{contains, items, contains-items}

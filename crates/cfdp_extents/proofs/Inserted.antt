@@ -34,7 +34,7 @@ in-apart low s e r rs some c d =
     let same : e ≤ e = omega arith in
     rw (le-ltb r.1 e c, lt-leb r.0 e d, le-ltb e s up, le-ltb e e same) refl
 
--- ranges that end at `s` or behind it, and start at `low` or behind it
+-- ranges that end at `s` or after it, and start at `low` or after it
 abbrev Late : ℕ → ℕ → List (ℕ × ℕ) → Type 0
 Late low s [] = Unit {0}
 Late low s (r ∷ rs) = (s ≤ r.1) × (low ≤ r.0)
@@ -165,7 +165,7 @@ no-true true h = absurd (h refl)
 no-true false h = refl
 
 -- what is held makes its end touch a range
-untouched-end : (e n : ℕ) (xs : List (ℕ × ℕ)) → n + 1 ≡ e → AreApart xs → InRanges xs n → Untouched e (first_from e xs) → ⊥
+pub untouched-end : (e n : ℕ) (xs : List (ℕ × ℕ)) → n + 1 ≡ e → AreApart xs → InRanges xs n → Untouched e (first_from e xs) → ⊥
 untouched-end e n [] is h w u = w
 untouched-end e n (r ∷ rs) is h w u = elim (cases_lt r.1 e) [
   | inl c ↦ elim w [

@@ -26,7 +26,7 @@ pub union-nothing : (held : Offsets) (s e : ℕ) → s ≡ e → held ≡ union 
 union-nothing held s e same =
     same_offsets _ _ (λ n. or_empty (contains held n) s e n same ∙ sym (contains-union nat_cmp_total held (range s e) n ∙ ap (λ b. contains held n || b) (contains-range s e n)))
 
--- whether each offset of a range is held
+-- true if each offset of a range is held
 pub Decides-is_subset : (s e : ℕ) (held : Offsets) → Decides (is_subset (range s e) held) ((n : ℕ) → s ≤ n → n < e → contains held n ≡ true)
 Decides-is_subset s e held = (
   λ t n low high. is_subset-contains nat_cmp_total (range s e) held t n (contains-range s e n ∙ (Decides-within s e n).1 (low, high)),

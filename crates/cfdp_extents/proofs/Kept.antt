@@ -25,7 +25,7 @@ from-below o r rs h = rw (lt-ltb r.1 o h) refl
 pub from-here : (o : ℕ) (r : ℕ × ℕ) (rs : List (ℕ × ℕ)) → o ≤ r.1 → first_from o (r ∷ rs) ≡ Some r
 from-here o r rs h = rw (le-ltb r.1 o h) refl
 
--- the first entry whose key passes a test is that of the first range
+-- the first entry whose key passes a test is the entry of the first range
 pub from_some : (o : ℕ) (es t : List (ℕ × ℕ)) (p : ℕ × ℕ) → filter (λ e. is_le (nat_cmp o e.0) && true) es ≡ p ∷ t → Some (p.1, p.0) ≡ first_from o (turned es)
 from_some o [] t p h = absurd (cc)
 from_some o (e ∷ es) t p h = elim (cases_lt e.0 o) [
@@ -98,7 +98,7 @@ put_is low end (e ∷ es) h =
     rw (from-here end (e.1, e.0) rs c, lt-leb e.1 end d, less end e.0 up, le-ltb e.0 end c) refl in
     elim (cases_lt e.0 end) [ inl c ↦ below c | inr c ↦ elim (cases_lt end e.1) [ inl d ↦ apart c d | inr d ↦ touched c d ] ]
 
--- where the key is not there, the end touches no range
+-- if the key is not there, the end touches no range
 pub untouched_is : (end : ℕ) (es : List (ℕ × ℕ)) → lookup (is_at (nat_cmp (key_at end (first_from end (turned es))))) es ≡ None → Untouched end (first_from end (turned es))
 untouched_is end [] h = tt
 untouched_is end (e ∷ es) h =
@@ -215,7 +215,7 @@ pub only-ok : {T E A B : Type 0} (r : Result T E) → OnOk r A → OnErr r B →
 only-ok (Ok x) a b never = a
 only-ok (Err e) a b never = absurd (never b)
 
--- ---- the ranges behind an offset
+-- ---- the ranges after an offset
 all-behind : (o m : ℕ) (es : List (ℕ × ℕ)) → o ≤ m → AreApart (turned es) → StartBehind m (turned es) → turned (filter (λ e. is_lt (nat_cmp o e.0) && true) es) ≡ turned es
 all-behind o m [] le h b = refl
 all-behind o m (e ∷ es) le h b =

@@ -1,4 +1,4 @@
--- Ranges with the greatest one behind them.
+-- Ranges with the greatest one after them.
 use Rattle.std.proofs.Common.{◌≡◌, ℕ, ◌<◌, ◌≤◌, ◌++◌, List, [], ◌∷◌, Option, None, Some, refl, ap, ◌∙◌, sym, arith, inl, inr, min, max, drop, set, length, subst, ◌-◌, Result, Ok, Err, OnOk, OnErr, IsOk, Bool, true, false, not, true≢false}
 use Rattle.std.specs.Ordering.{nat_cmp}
 use Rattle.std.specs.BTreeMap.{insert_entry, is_at}
@@ -77,7 +77,7 @@ past-missed o (x ∷ xs) r f = elim (cases_lt o x.1) [
   | inr c ↦ behind-below o x (xs ++ (r ∷ [])) c ∙ past-missed o xs r (sym (behind-below o x xs c) ∙ f)
 ]
 
--- ---- the ranges behind an offset
+-- ---- the ranges after an offset
 behind-most : (o : ℕ) (xs : List (ℕ × ℕ)) (r : ℕ × ℕ) → o < r.1 → behind o (xs ++ (r ∷ [])) ≡ behind o xs ++ (r ∷ [])
 behind-most o [] r d = here o r [] d
 behind-most o (x ∷ xs) r d = elim (cases_lt o x.1) [
@@ -93,7 +93,7 @@ behind-none o (x ∷ xs) r h d =
     let c : x.1 ≤ o = omega arith in
     skipped o x (xs ++ (r ∷ [])) c ∙ behind-none o xs r h.2 d ∙ sym (skipped o x xs c)
 
--- the greatest one, where it ends behind an offset
+-- the greatest one, if it ends after an offset
 pub behind-last : (o : ℕ) (xs : List (ℕ × ℕ)) (last kept : Option (ℕ × ℕ)) → AreApart (with_last xs last) → with_last [] kept ≡ behind o (with_last [] last) →
     with_last (behind o xs) kept ≡ behind o (with_last xs last)
 behind-last o xs None None h k = refl
@@ -116,7 +116,7 @@ behind-last o xs (Some r) kept h k = elim (cases_lt o r.1) [
     none (Some q) e = absurd (cc)
 
 -- ---- one range put in
--- behind the greatest
+-- after the greatest
 low-past : (s : ℕ) (xs : List (ℕ × ℕ)) (r : ℕ × ℕ) → AreApart (xs ++ (r ∷ [])) → r.1 < s → low_of s (xs ++ (r ∷ [])) ≡ s
 low-past s [] r h c = low-below s r [] c
 low-past s (x ∷ xs) r h c =
@@ -250,7 +250,7 @@ put_last (e ∷ es) r h =
     let past : e.0 < r.1 = omega arith in
     rw (greater r.1 e.0 past) (ap (λ l. (e.1, e.0) ∷ l) (put_last es r h.2))
 
--- ---- the same, where the greatest may be missing
+-- ---- the same, if the greatest may be missing
 pub apart-others : (xs : List (ℕ × ℕ)) (last : Option (ℕ × ℕ)) → AreApart (with_last xs last) → AreApart xs
 apart-others xs None h = h
 apart-others xs (Some r) h = apart-init xs r h

@@ -7,3 +7,4 @@ pub mod CallerLemmas
 pub mod Kept
 pub mod Inserted
 pub mod Last
+pub mod Counted

@@ -57,7 +57,7 @@ Decides-union_of (r ∷ rs) n =
 pub same_offsets : (a b : Offsets) → ((n : ℕ) → contains a n ≡ contains b n) → a ≡ b
 same_offsets a b h = same_set nat_cmp_total nat_cmp-IsAntisymmetric a b h
 
--- what lies in ranges lies behind an offset that the first starts behind
+-- if the first of some ranges starts after an offset, what lies in the ranges lies after it
 pub behind_start : (m : ℕ) (xs : List (ℕ × ℕ)) (n : ℕ) → AreApart xs → StartBehind m xs → InRanges xs n → m < n
 behind_start m [] n h b w = absurd w
 behind_start m (x ∷ xs) n h b (inl w) = let low : x.0 ≤ n = w.0 in let first : m < x.0 = b in omega arith

@@ -26,7 +26,7 @@ pub gaps-more : (start limit : ℕ) (r : ℕ × ℕ) (rs : List (ℕ × ℕ)) �
 unfolding gaps_between
 gaps-more start limit r rs h b = rw (lt-ltb start limit h, lt-ltb r.0 limit b)
 
--- the gaps start where they are to
+-- the gaps start where they must
 gaps-start : (n start limit : ℕ) (rs : List (ℕ × ℕ)) → n < start → StartBehind n (gaps_between start limit rs)
 gaps-start n start limit rs h = elim (cases_lt start limit) [
   | inr past ↦ rw (gaps-past start limit rs past) tt
@@ -120,7 +120,7 @@ in_gaps-back start limit (r ∷ rs) n w = elim (cases_lt start limit) [
   ]
 ]
 
--- what ranges are those of what lies between two limits and not in others
+-- what ranges are the ranges of what lies between two limits and not in others
 pub are-missing : (gaps xs : List (ℕ × ℕ)) (start limit : ℕ) → AreApart gaps → ((n : ℕ) → InRanges gaps n → IsMissing start limit xs n) → ((n : ℕ) → IsMissing start limit xs n → InRanges gaps n) →
     AreRangesOf (missing_from (union_of xs) start limit) gaps
 are-missing gaps xs start limit h forth back = record {
@@ -139,7 +139,7 @@ same-first r rs s ss h k to = elim (to r.0 (inl (let le : r.0 ≤ r.0 = omega ar
   | inr w ↦ let up : s.1 < r.0 = behind_start s.1 ss r.0 k.2 k.1 w in let some : s.0 < s.1 = k.0 in omega arith
 ]
 
--- and where both start alike, the second's end is no less than the first's
+-- and if both start at the same offset, the second's end is no less than the first's
 same-end : (r : ℕ × ℕ) (rs : List (ℕ × ℕ)) (s : ℕ × ℕ) (ss : List (ℕ × ℕ)) → AreApart (r ∷ rs) → AreApart (s ∷ ss) → r.0 ≡ s.0 → ((n : ℕ) → InRanges (r ∷ rs) n → InRanges (s ∷ ss) n) → r.1 ≤ s.1
 same-end r rs s ss h k e to = elim (cases_lt s.1 r.1) [
   | inr le ↦ le
@@ -151,7 +151,7 @@ same-end r rs s ss h k e to = elim (cases_lt s.1 r.1) [
       ]
 ]
 
--- what the first list holds behind its first range, the second does
+-- what the first list holds after its first range, the second does
 same-rest : (r : ℕ × ℕ) (rs : List (ℕ × ℕ)) (s : ℕ × ℕ) (ss : List (ℕ × ℕ)) → AreApart (r ∷ rs) → r.1 ≡ s.1 → ((n : ℕ) → InRanges (r ∷ rs) n → InRanges (s ∷ ss) n) → (n : ℕ) → InRanges rs n →
     InRanges ss n
 same-rest r rs s ss h e to n w = elim (to n (inr w)) [
@@ -187,7 +187,7 @@ only-ranges held xs ys h k = same-ranges xs ys h.apart k.apart
 pub progress-first : (s : List (ℕ × ℕ)) (x : ℕ × ℕ) (t : List (ℕ × ℕ)) → s ≡ x ∷ t → MakesProgress (λ _. Unit {0}) (item_count {S = List (ℕ × ℕ)} {A = ℕ × ℕ} (λ rest. rest)) s (Some x) t
 progress-first s x t e = rw e (search rules)
 
--- a first range that starts at the limit or behind it
+-- a first range that starts at the limit or after it
 pub behind_limit : (limit : ℕ) (xs : List (ℕ × ℕ)) (r : ℕ × ℕ) (rs : List (ℕ × ℕ)) → 0 < limit → xs ≡ r ∷ rs → limit ≤ r.0 → StartBehind (limit - 1) xs
 behind_limit limit xs r rs pos e h = rw e (let b : limit - 1 < r.0 = omega arith in b)
 
@@ -195,7 +195,7 @@ pub behind_none : (limit : ℕ) (xs : List (ℕ × ℕ)) → length xs ≡ 0 →
 behind_none limit [] e = tt
 behind_none limit (x ∷ xs) e = absurd (omega arith)
 
--- ---- gaps between the ranges that end behind an offset
+-- ---- gaps between the ranges that end after an offset
 pub skipped : (o : ℕ) (r : ℕ × ℕ) (rs : List (ℕ × ℕ)) → r.1 ≤ o → behind o (r ∷ rs) ≡ behind o rs
 skipped o r rs h = rw (le-ltb o r.1 h) refl
 

@@ -1,4 +1,5 @@
--- Of so many offsets, the ranges of those that pass a test: where they lie, what they hold, and when there is none.
+-- Of so many offsets, the ranges of the offsets that pass a test: where they lie, what they hold,
+-- and when there is none.
 use Rattle.std.proofs.Common.{◌≡◌, inl, inr, ℕ, zero, suc, ◌+◌, ◌<◌, ◌≤◌, Bool, true, false, ◌==◌, ◌&&◌, ◌||◌, eqb, List, [], ◌∷◌, refl, sym, ap, ◌∙◌, arith, if◌then◌else◌}
 use Rattle.std.specs.FinSet as set
 use Rattle.std.specs.Ordering.{nat_cmp}
@@ -44,7 +45,7 @@ ranges-in passes at (suc n) =
     (λ p. joined-in passes at (at + suc n) (at + 1 + n) (ranges_in passes (at + 1) n) p e (omega arith) (ranges-in passes (at + 1) n))
     (λ _. later passes at (at + suc n) (at + 1 + n) (ranges_in passes (at + 1) n) e (ranges-in passes (at + 1) n))
 
--- where one passes, there is a range
+-- if one passes, there is a range
 abbrev pub IsEmpty : List (ℕ × ℕ) → Type 0
 IsEmpty [] = Unit {0}
 IsEmpty (r ∷ rs) = ⊥
@@ -65,7 +66,7 @@ ranges-some passes at (suc n) k low high p h =
     above : (at k : ℕ) → at ≤ k → (at ≡ k → ⊥) → at + 1 ≤ k
     above at k low ne = omega (arith, ne)
 
--- where none passes, there is none
+-- if none passes, there is none
 pub ranges-none : (passes : ℕ → Bool) (at n : ℕ) → ((k : ℕ) → at ≤ k → k < at + n → passes k ≡ false) → ranges_in passes at n ≡ []
 unfolding ranges_in
 ranges-none passes at zero h = refl

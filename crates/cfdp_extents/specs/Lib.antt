@@ -2,3 +2,4 @@ pub mod Offsets
 pub mod Ranges
 pub mod Front
 pub mod Terms
+pub mod Count

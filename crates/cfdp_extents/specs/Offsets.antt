@@ -7,7 +7,7 @@ use Rattle.std.specs.FinSet as set
 abbrev pub Offsets : Type 0
 Offsets = set.FinSet nat_cmp
 
--- whether an offset is `start` or behind it, and before `end`
+-- true if an offset is `start` or after it, and before `end`
 abbrev pub is_within : ℕ → ℕ → ℕ → Bool
 is_within start end n = nat_le start n && nat_lt n end
 
@@ -25,16 +25,16 @@ unfoldable pub union_of : List (ℕ × ℕ) → Offsets
 union_of [] = set.empty
 union_of (r ∷ rs) = set.union (range r.0 r.1) (union_of rs)
 
--- the first of the ranges, if there is one, starts behind n
+-- the first of the ranges, if there is one, starts after n
 abbrev pub StartBehind : ℕ → List (ℕ × ℕ) → Type 0
 StartBehind n [] = Unit {0}
 StartBehind n (r ∷ rs) = n < r.0
 
--- a range with an offset at least, that lies from `start` up to `end`
+-- a range with at least one offset, that lies from `start` up to `end`
 abbrev pub LiesIn : ℕ → ℕ → ℕ × ℕ → Type 0
 LiesIn start end r = (start ≤ r.0) × (r.0 < r.1) × (r.1 ≤ end)
 
--- ranges that ascend, each with an offset at least, no two of them touching
+-- ranges that ascend, each with at least one offset, no two of them touching
 abbrev pub AreApart : List (ℕ × ℕ) → Type 0
 AreApart [] = Unit {0}
 AreApart (r ∷ rs) = (r.0 < r.1) × StartBehind r.1 rs × AreApart rs

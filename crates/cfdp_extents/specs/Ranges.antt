@@ -1,5 +1,4 @@
--- Proof-only: how ranges are kept, by their ends, and what is left to give of the gaps between
--- them.
+-- Proof-only: how ranges are kept, by their ends, and what gaps between them are left to give.
 use Rattle.std.specs.Prelude.{ℕ, ◌<◌, ◌++◌, nat_lt, nat_le, min, List, [], ◌∷◌, Option, None, Some, if◌then◌else◌}
 
 -- entries, each an end with its start, as ranges
@@ -7,22 +6,22 @@ abbrev pub turned : List (ℕ × ℕ) → List (ℕ × ℕ)
 turned [] = []
 turned (e ∷ es) = (e.1, e.0) ∷ turned es
 
--- those entries, where any are looked at
+-- these entries, if any are looked at
 abbrev pub others_of : Option (List (ℕ × ℕ)) → List (ℕ × ℕ)
 others_of None = []
 others_of (Some es) = turned es
 
--- ranges, and the greatest one behind them, where there is one
+-- ranges, and the greatest one after them, if there is one
 abbrev pub with_last : List (ℕ × ℕ) → Option (ℕ × ℕ) → List (ℕ × ℕ)
 with_last rs None = rs
 with_last rs (Some last) = rs ++ (last ∷ [])
 
--- the first range that ends at an offset or behind it
+-- the first range that ends at an offset or after it
 abbrev pub first_from : ℕ → List (ℕ × ℕ) → Option (ℕ × ℕ)
 first_from offset [] = None
 first_from offset (r ∷ rs) = if nat_lt r.1 offset then first_from offset rs else Some r
 
--- the ranges that end behind an offset, where they ascend
+-- the ranges that end after an offset, if they ascend
 abbrev pub behind : ℕ → List (ℕ × ℕ) → List (ℕ × ℕ)
 behind offset [] = []
 behind offset (r ∷ rs) = if nat_lt offset r.1 then r ∷ rs else behind offset rs
@@ -32,37 +31,37 @@ abbrev pub first_behind : ℕ → List (ℕ × ℕ) → Option (ℕ × ℕ)
 first_behind offset [] = None
 first_behind offset (r ∷ rs) = if nat_lt offset r.1 then Some r else first_behind offset rs
 
--- an offset, or the start of the first range that ends there or behind it, whichever is less
+-- an offset, or the start of the first range that ends there or after it, whichever is less
 abbrev pub low_of : ℕ → List (ℕ × ℕ) → ℕ
 low_of start [] = start
 low_of start (r ∷ rs) = if nat_lt r.1 start then low_of start rs else min start r.0
 
--- with the first range that ends at `end` or behind it starting at `low`, if `end` touches it, else
--- with one range more
+-- the first range that ends at `end` or after it starts at `low` if `end` touches it; otherwise
+-- there is one more range
 abbrev pub put_in : ℕ → ℕ → List (ℕ × ℕ) → List (ℕ × ℕ)
 put_in low end [] = (low, end) ∷ []
 put_in low end (r ∷ rs) =
     if nat_lt r.1 end then r ∷ put_in low end rs
     else (if nat_le r.0 end then (low, r.1) ∷ rs else (low, end) ∷ r ∷ rs)
 
--- the end of the first range that ends at `end` or behind it, if `end` touches it, else `end`
+-- the end of the first range that ends at `end` or after it, if `end` touches it, otherwise `end`
 abbrev pub key_at : ℕ → Option (ℕ × ℕ) → ℕ
 key_at end None = end
 key_at end (Some r) = if nat_le r.0 end then r.1 else end
 
--- no range, or one that starts behind an offset
+-- no range, or one that starts after an offset
 abbrev pub Untouched : ℕ → Option (ℕ × ℕ) → Type 0
 Untouched end None = Unit {0}
 Untouched end (Some r) = end < r.0
 
--- without the ranges that end at `start` or behind it, and before `end`
+-- without the ranges that end at `start` or after it, and before `end`
 abbrev pub outside : ℕ → ℕ → List (ℕ × ℕ) → List (ℕ × ℕ)
 outside start end [] = []
 outside start end (r ∷ rs) =
     if nat_lt r.1 start then r ∷ outside start end rs
     else (if nat_lt r.1 end then outside start end rs else r ∷ rs)
 
--- with one put in, and without those that it covers
+-- with one put in, and without the ranges that it covers
 abbrev pub joined_in : ℕ → ℕ → ℕ → List (ℕ × ℕ) → List (ℕ × ℕ)
 joined_in low start end rs = outside start end (put_in low end rs)
 
@@ -70,7 +69,7 @@ joined_in low start end rs = outside start end (put_in low end rs)
 abbrev pub with_range : ℕ → ℕ → List (ℕ × ℕ) → List (ℕ × ℕ)
 with_range start end rs = joined_in (low_of start rs) start end rs
 
--- the gaps from an offset up to a limit, before and between ranges that start behind the offset
+-- the gaps from an offset up to a limit, before and between ranges that start after the offset
 unfoldable pub gaps_between : ℕ → ℕ → List (ℕ × ℕ) → List (ℕ × ℕ)
 gaps_between start limit [] = if nat_lt start limit then (start, limit) ∷ [] else []
 gaps_between start limit (r ∷ rs) =

@@ -3,12 +3,13 @@ use Rattle.std.specs.Prelude.{ℕ, zero, suc, ◌+◌, ◌-◌, ◌==◌, max, m
 use Rattle.std.specs.FinSet as set
 use Rattle.cfdp_extents.specs.Offsets.{Offsets}
 
--- an offset before ranges that start behind it
+-- an offset before ranges that start after it
 abbrev pub joined : ℕ → List (ℕ × ℕ) → List (ℕ × ℕ)
 joined at [] = (at, at + 1) ∷ []
 joined at (r ∷ rs) = if r.0 == at + 1 then (at, r.1) ∷ rs else (at, at + 1) ∷ r ∷ rs
 
--- of so many offsets from one on, those that pass a test, as ascending ranges no two of which touch
+-- of so many offsets from one on, the offsets that pass a test, as ascending ranges no two of which
+-- touch
 unfoldable pub ranges_in : (ℕ → Bool) → ℕ → ℕ → List (ℕ × ℕ)
 ranges_in passes at zero = []
 ranges_in passes at (suc n) =
@@ -22,7 +23,7 @@ unfoldable pub end_of_items : List ℕ → ℕ
 end_of_items [] = 0
 end_of_items (k ∷ ks) = max (k + 1) (end_of_items ks)
 
--- one more than the greatest offset held; 0 where none is
+-- one more than the greatest offset held; 0 if none is
 unfoldable pub end_of : Offsets → ℕ
 end_of held = end_of_items (set.items held)
 

@@ -5,24 +5,26 @@ ghost use Rattle.std.specs.FinSet as set;
 ghost use Rattle.std.specs.List.{All};
 ghost use Rattle.cfdp_extents.specs.Offsets.{range, missing_from, AreRangesOf, LiesIn};
 ghost use Rattle.cfdp_extents.specs.Front.{IsFront};
-ghost use Rattle.cfdp_extents.specs.Terms.{gaps_of, end_of, front_of};
+ghost use Rattle.cfdp_extents.specs.Terms.{gaps_of, end_of, front_of, ranges_of};
+ghost use Rattle.cfdp_extents.specs.Count.{gap_count, admits};
 
 use crate::gaps::Gaps;
-use crate::whole::{cut_first, drop_first, first_at, first_past, join};
+use crate::ranges::Ranges;
+use crate::whole::{count_gaps, cut_first, drop_first, first_at, first_past, join};
 use std::alloc::{AllocError, Global};
 use std::collections::BTreeMap;
 use std::marker::Model;
 
-/// The parts of a file that a receiver has, or that a sender is to send again.
+/// The parts of a file that a receiver has, or that a sender must send again.
 ///
-/// It is a set of offsets, each that of an octet from the file's start, kept as ranges. Only
-/// `insert` takes memory.
+/// It is a set of offsets, each of an octet from the file's start, kept as ranges. Only `insert`
+/// takes memory.
 #[derive(Debug, Drop)]
 pub struct Extents {
-    // All but the greatest, from each range's end to its start, so that the front can be cut
+    // All except the greatest, from each range's end to its start, so that the front can be cut
     // without memory.
     ranges: BTreeMap<u64, u64>,
-    // The greatest, its start and its end: most offsets come behind all others.
+    // The greatest, its start and its end: most offsets come after all others.
     last: Option<(u64, u64)>,
 }
 
@@ -45,7 +47,7 @@ impl Model for Extents {
 }
 
 impl Extents {
-    /// No part of a file. It takes no memory; `alloc` serves what is added later.
+    /// Returns no part of a file. It takes no memory; `alloc` serves what is added later.
     pub fn new(alloc: Global) -> Self
         ensures { result ≡ set.empty }
     {
@@ -55,14 +57,14 @@ impl Extents {
         }
     }
 
-    /// Whether nothing of the file is held.
+    /// Returns `true` if nothing of the file is held.
     pub fn is_empty(&self) -> bool
         ensures { IsTrue result ↔ (self.now ≡ set.empty) }
     {
         self.last.is_none()
     }
 
-    /// Lets go of all parts.
+    /// Removes all parts.
     pub fn clear(&mut self)
         ensures { self.new ≡ set.empty }
     {
@@ -70,13 +72,14 @@ impl Extents {
         self.last = None;
     }
 
-    /// Adds a part of the file: the offsets from `start` up to, and without, `end`.
+    /// Adds a part of the file: the offsets from `start` up to, and without, `end`, which must not
+    /// be before `start`.
     ///
-    /// An empty one adds none. What is held already may be added again.
+    /// An empty part adds none. What is held already may be added again.
     ///
     /// # Errors
     ///
-    /// Where there is no memory for one more range. The set is then unchanged.
+    /// If there is no memory for one more range. The set is then unchanged.
     pub fn insert(&mut self, start: u64, end: u64) -> Result<(), AllocError>
         requires { start ≤ end }
         ensures ok { OnOk result (self.new ≡ set.union self.old (range start end)) }
@@ -94,10 +97,10 @@ impl Extents {
         join(&mut self.ranges, &mut self.last, start, end)
     }
 
-    /// Whether a part of the file is held without a gap.
+    /// Returns `true` if a part of the file is held without a gap.
     ///
-    /// So it is where each offset from `start` up to, and without, `end` is held, and of an empty
-    /// part.
+    /// It is if each offset from `start` up to, and without, `end` is held, also if the part is
+    /// empty.
     pub fn covers(&self, start: u64, end: u64) -> bool
         requires { start ≤ end }
         ensures { result ≡ set.is_subset (range start end) self.now }
@@ -111,7 +114,34 @@ impl Extents {
         }
     }
 
-    /// The gaps below `limit`: what is missing of the file's first `limit` octets, ascending.
+    /// Returns the number of gaps before the end of the last part.
+    pub fn gap_count(&self) -> usize
+        ensures { result ≡ gap_count self.now }
+    {
+        count_gaps(&self.ranges, self.last)
+    }
+
+    /// Returns `true` if a part may be added under a limit of gaps: with it there are at most
+    /// `most` gaps, or no more than without it.
+    ///
+    /// So a part that begins at offset 0, or touches what is held, may always be added: it makes no
+    /// gap. For example, with octets 0 to 10 and 20 to 30 held, and `most` 1, a part from 30 on may
+    /// be added, and a part from 40 on may not.
+    pub fn admits(&self, start: u64, end: u64, most: u64) -> bool
+        requires { start ≤ end }
+        ensures { result ≡ admits most self.now start end }
+    {
+        if start == 0 || start == end {
+            return true;
+        }
+        match first_at(&self.ranges, self.last, start) {
+            Some(range) if range.0 <= end => true,
+            _ => (self.gap_count() as u64) < most,
+        }
+    }
+
+    /// Returns the gaps below `limit`: what is missing of the file's first `limit` octets,
+    /// ascending.
     pub fn missing(&self, limit: u64) -> Gaps<'_>
         // Ascending, none empty, no two touching, and together what isn't held below the limit.
         ensures gaps { AreRangesOf (missing_from self.now 0 limit) result }
@@ -124,13 +154,13 @@ impl Extents {
         self.missing_in(0, limit)
     }
 
-    /// The gaps from `start` on and below `limit`: what is missing there, ascending.
+    /// Returns the gaps from `start` on and below `limit`: what is missing there, ascending.
     pub fn missing_in(&self, start: u64, limit: u64) -> Gaps<'_>
         ensures gaps { AreRangesOf (missing_from self.now start limit) result }
         ensures only { (gaps : List (ℕ × ℕ)) →
             AreRangesOf (missing_from self.now start limit) gaps → gaps ≡ result }
         ensures is { result ≡ gaps_of self.now start limit }
-        // Each has an offset at least, and lies in the range asked for.
+        // Each has at least one offset, and lies in the range asked for.
         ensures inside { All (LiesIn start limit) result }
     {
         let from = match first_past(&self.ranges, self.last, start) {
@@ -140,7 +170,17 @@ impl Extents {
         Gaps::new(&self.ranges, self.last, from, limit)
     }
 
-    /// Where the last part ends: one more than the greatest offset held; 0 where none is.
+    /// Returns the ranges that the set is made of, ascending. It takes no memory.
+    pub fn ranges(&self) -> Ranges<'_>
+        // Ascending, none empty, no two touching, and together what is held.
+        ensures ranges { AreRangesOf self.now result }
+        // No other list is so.
+        ensures is { result ≡ ranges_of self.now }
+    {
+        Ranges::new(&self.ranges, self.last)
+    }
+
+    /// Returns where the last part ends: one more than the greatest offset held; 0 if none is.
     pub fn end(&self) -> u64
         ensures all_before { (n : ℕ) → set.contains self.now n ≡ true → n < result }
         ensures last { 0 < result → set.contains self.now (result - 1) ≡ true }
@@ -152,10 +192,10 @@ impl Extents {
         }
     }
 
-    /// The first part of the file that is held, at most `max` octets of it.
+    /// Returns the first part of the file that is held, at most `max` octets of it.
     ///
     /// It is the front of the least range without a gap, as its start and its end, the end not in
-    /// it; `None` where no offset is held, or `max` is 0.
+    /// it; `None` if no offset is held, or `max` is 0.
     pub fn front(&self, max: u64) -> Option<(u64, u64)>
         ensures is { result ≡ front_of self.now max }
         ensures spent { IfNone result ((max ≡ 0) ⊎ (self.now ≡ set.empty)) }
@@ -170,7 +210,7 @@ impl Extents {
         }
     }
 
-    /// Takes the first part away, at most `max` octets of it: what `front` gives.
+    /// Removes the first part, at most `max` octets of it, and returns it as `front` does.
     pub fn take_front(&mut self, max: u64) -> Option<(u64, u64)>
         ensures is { result ≡ front_of self.old max }
         ensures none { IfNone result (self.new ≡ self.old) }

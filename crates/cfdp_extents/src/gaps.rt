@@ -14,10 +14,10 @@ use std::ops::Bound;
 /// Each is its start and its end, the end not in it. Going over them takes no memory.
 #[derive(Drop)]
 pub struct Gaps<'a> {
-    // Behind `start`, ascending, from each range's end to its start. `None` where the set is one range
+    // After `start`, ascending, from each range's end to its start. `None` if the set is one range
     // at most, as mostly: then no place in the map is looked for.
     ranges: Option<Range<'a, u64, u64>>,
-    // Behind these.
+    // After these.
     last: Option<(u64, u64)>,
     start: u64,
     limit: u64,
@@ -29,7 +29,7 @@ impl<'a> Model for Gaps<'a> {
     ghost view = { λ g. gaps_between g.start g.limit (with_last (others_of g.ranges) g.last) };
 }
 
-/// The range, if it ends behind an offset.
+/// Returns the range, if it ends after an offset.
 fn ending_behind(range: Option<(u64, u64)>, offset: u64) -> Option<(u64, u64)>
     ensures { with_last [] result ≡ behind offset (with_last [] range) }
 {
@@ -39,7 +39,7 @@ fn ending_behind(range: Option<(u64, u64)>, offset: u64) -> Option<(u64, u64)>
     }
 }
 
-/// Takes the next range, which is the last one where no others are left.
+/// Takes the next range, which is the last one if no others are left.
 fn next_range(
     ranges: &mut Option<Range<'_, u64, u64>>,
     last: &mut Option<(u64, u64)>,
@@ -58,7 +58,7 @@ fn next_range(
 }
 
 impl<'a> Gaps<'a> {
-    /// The gaps between the ranges that end behind `start`.
+    /// Returns the gaps between the ranges that end after `start`.
     pub(crate) fn new(
         ranges: &'a BTreeMap<u64, u64>,
         last: Option<(u64, u64)>,

@@ -15,12 +15,14 @@
 mod extents;
 mod gaps;
 mod laws;
+mod ranges;
 mod search;
 mod whole;
 
 pub use extents::Extents;
 pub use gaps::Gaps;
 pub use laws::{
-    a_set_has_one_list_of_ranges, a_set_is_what_it_holds, the_end_is_one_past_the_last,
-    the_front_is_the_first_range, the_gaps_are_those_ranges,
+    a_limit_admits_what_follows, a_set_has_one_list_of_ranges, a_set_is_what_it_holds,
+    the_end_is_one_past_the_last, the_front_is_the_first_range, the_gaps_are_those_ranges,
 };
+pub use ranges::Ranges;

@@ -8,7 +8,7 @@ use std::alloc::AllocError;
 use std::collections::BTreeMap;
 use std::ops::Bound;
 
-/// The first range that ends at an offset or behind it: its start and its end.
+/// Returns the first range that ends at an offset or after it: its start and its end.
 pub(crate) fn range_from(ranges: &BTreeMap<u64, u64>, offset: u64) -> Option<(u64, u64)>
     ensures { result ≡ first_from offset (turned ranges.now.entries) }
 {
@@ -18,7 +18,7 @@ pub(crate) fn range_from(ranges: &BTreeMap<u64, u64>, offset: u64) -> Option<(u6
     }
 }
 
-/// The first range that ends behind an offset: its start and its end.
+/// Returns the first range that ends after an offset: its start and its end.
 pub(crate) fn range_behind(ranges: &BTreeMap<u64, u64>, offset: u64) -> Option<(u64, u64)>
     ensures { result ≡ first_behind offset (turned ranges.now.entries) }
 {
@@ -31,7 +31,8 @@ pub(crate) fn range_behind(ranges: &BTreeMap<u64, u64>, offset: u64) -> Option<(
     }
 }
 
-/// Where a range starts that is joined with the first one that ends at its start or behind it.
+/// Returns where a range starts that is joined with the first one that ends at its start or after
+/// it.
 pub(crate) fn lowest(ranges: &BTreeMap<u64, u64>, start: u64) -> u64
     ensures { result ≡ low_of start (turned ranges.now.entries) }
 {
@@ -41,7 +42,7 @@ pub(crate) fn lowest(ranges: &BTreeMap<u64, u64>, start: u64) -> u64
     }
 }
 
-/// The end of the range that `end` touches, where that isn't before it, else `end`.
+/// Returns the end of the range that `end` touches, if that isn't before it, otherwise `end`.
 fn touched_end(ranges: &BTreeMap<u64, u64>, end: u64) -> u64
     ensures { result ≡ key_at end (first_from end (turned ranges.now.entries)) }
 {
@@ -51,21 +52,21 @@ fn touched_end(ranges: &BTreeMap<u64, u64>, end: u64) -> u64
     }
 }
 
-/// Lets the range that `end` touches start at `low`, or puts in the range from `low` to `end`. Only
-/// the latter takes memory.
+/// Moves the start of the range that `end` touches to `low`, or puts in the range from `low` to
+/// `end`. Only the latter takes memory.
 pub(crate) fn put(ranges: &mut BTreeMap<u64, u64>, low: u64, end: u64) -> Result<(), AllocError>
     requires { AreApart (turned ranges.old.entries) }
     ensures ok { OnOk result (turned ranges.new.entries
         ≡ put_in low end (turned ranges.old.entries)) }
     ensures err { OnErr result (ranges.new.entries ≡ ranges.old.entries) }
-    // It fails only where no range touches the end.
+    // It fails only if no range touches the end.
     ensures touched { OnErr result (Untouched end (first_from end (turned ranges.old.entries))) }
 {
     ranges.insert(touched_end(ranges, end), low)?;
     Ok(())
 }
 
-/// Removes the ranges that end at `start` or behind it, and before `end`.
+/// Removes the ranges that end at `start` or after it, and before `end`.
 pub(crate) fn remove_within(ranges: &mut BTreeMap<u64, u64>, start: u64, end: u64)
     ensures { turned ranges.new.entries ≡ outside start end (turned ranges.old.entries) }
 {

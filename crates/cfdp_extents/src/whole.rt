@@ -1,15 +1,16 @@
-// Steps on ranges of which the greatest stands beside the map of the others, so that a range put in
-// at the end, as most are, changes that one alone.
+// Steps on ranges. The greatest stands beside the map of the others, so that a range put in at the
+// end, as most are, changes that one alone.
 ghost use Rattle.std.specs.Prelude.{◌≡◌, ◌<◌, ◌≤◌, ℕ, [], None, Some, IsOk, OnOk, OnErr, drop, set};
 ghost use Rattle.cfdp_extents.specs.Offsets.{AreApart};
 ghost use Rattle.cfdp_extents.specs.Ranges.{turned, with_last, first_from, first_behind};
 ghost use Rattle.cfdp_extents.specs.Ranges.{with_range, Untouched};
+ghost use Rattle.cfdp_extents.specs.Count.{gaps_among};
 
 use crate::search::{lowest, put, range_behind, range_from, remove_within};
 use std::alloc::AllocError;
 use std::collections::BTreeMap;
 
-/// The first range that ends at an offset or behind it: its start and its end.
+/// Returns the first range that ends at an offset or after it: its start and its end.
 pub(crate) fn first_at(
     ranges: &BTreeMap<u64, u64>,
     last: Option<(u64, u64)>,
@@ -20,7 +21,7 @@ pub(crate) fn first_at(
 {
     match last {
         Some(range) if range.0 <= offset => { if offset <= range.1 { Some(range) } else { None } }
-        // A set of one range at most is mostly asked, and this is then the faster answer.
+        // Mostly the set has one range at most, and then this is the faster answer.
         _ if ranges.is_empty() => last,
         _ => match range_from(ranges, offset) {
             Some(range) => Some(range),
@@ -29,7 +30,7 @@ pub(crate) fn first_at(
     }
 }
 
-/// The first range that ends behind an offset: its start and its end.
+/// Returns the first range that ends after an offset: its start and its end.
 pub(crate) fn first_past(
     ranges: &BTreeMap<u64, u64>,
     last: Option<(u64, u64)>,
@@ -47,6 +48,25 @@ pub(crate) fn first_past(
     }
 }
 
+/// Returns the number of gaps before ranges and between them.
+pub(crate) fn count_gaps(ranges: &BTreeMap<u64, u64>, last: Option<(u64, u64)>) -> usize
+    requires apart { AreApart (with_last (turned ranges.now.entries) last) }
+    requires none { last ≡ None → ranges.now.entries ≡ [] }
+    ensures { result ≡ gaps_among (with_last (turned ranges.now.entries) last) }
+{
+    // The greatest one is in no map, so the map's length is that of all others.
+    match first_at(ranges, last, 0) {
+        Some((start, _)) => {
+            if start == 0 {
+                ranges.len()
+            } else {
+                ranges.len() + 1
+            }
+        }
+        None => 0,
+    }
+}
+
 /// Joins a range in that ends before the greatest one.
 fn join_between(ranges: &mut BTreeMap<u64, u64>, start: u64, end: u64) -> Result<(), AllocError>
     requires { AreApart (turned ranges.old.entries) }
@@ -61,7 +81,7 @@ fn join_between(ranges: &mut BTreeMap<u64, u64>, start: u64, end: u64) -> Result
     Ok(())
 }
 
-/// Joins a range in. It takes memory only where one more range is there then.
+/// Joins a range in. It takes memory only if there is one more range then.
 pub(crate) fn join(
     ranges: &mut BTreeMap<u64, u64>,
     last: &mut Option<(u64, u64)>,
@@ -75,7 +95,7 @@ pub(crate) fn join(
         ≡ with_range start end (with_last (turned ranges.old.entries) last.old)) }
     ensures err { OnErr result (ranges.new.entries ≡ ranges.old.entries) }
     ensures err_last { OnErr result (last.new ≡ last.old) }
-    // It fails only where no range touches the end.
+    // It fails only if no range touches the end.
     ensures touched { OnErr result
         (Untouched end (first_from end (with_last (turned ranges.old.entries) last.old))) }
     // What follows the greatest range takes no memory.
@@ -104,7 +124,7 @@ pub(crate) fn join(
     Ok(())
 }
 
-/// Takes the first range away.
+/// Removes the first range.
 pub(crate) fn drop_first(
     ranges: &mut BTreeMap<u64, u64>,
     last: &mut Option<(u64, u64)>,
@@ -123,7 +143,7 @@ pub(crate) fn drop_first(
     }
 }
 
-/// Lets the first range start at another offset. It takes no memory.
+/// Moves the start of the first range to another offset. It takes no memory.
 pub(crate) fn cut_first(
     ranges: &mut BTreeMap<u64, u64>,
     last: &mut Option<(u64, u64)>,

@@ -19,7 +19,7 @@ no_line_feed n less i within =
     let digit = digit_at (decimal n) i (decimal_is_IsNumeral n less).0.1 within in
     λ feed. omega (arith, digit.0, feed)
 
--- what stands behind a front
+-- what stands after a front
 pub behind_front : (front text rest x : List ℕ) (k : ℕ) → k ≡ length front → x ≡ drop k text → text ≡ front ++ rest → x ≡ rest
 behind_front front text rest x k is cut whole =
     cut ∙ ap (λ (m : ℕ). drop m text) is ∙ ap (λ (l : List ℕ). drop (length front) l) whole ∙ drop-append_seam front rest

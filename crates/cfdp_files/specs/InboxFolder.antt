@@ -5,7 +5,6 @@ use Rattle.std.specs.Prelude.{◌≡◌, ◌⊎◌, ◌≤◌, ℕ, List, ◌++�
 abbrev pub IsPartName : List ℕ → Type 0
 IsPartName name = (rest : List ℕ) × (name ≡ codes ".part-" ++ rest)
 
--- A file of this size may get a name where files of more than so many octets may not; 0 is no
--- limit.
+-- A file of this size may get a name if files of more than `most` octets may not; 0 is no limit.
 abbrev pub MayBeNamed : (most size : ℕ) → Type 0
 MayBeNamed most size = (most ≡ 0) ⊎ (size ≤ most)

@@ -4,8 +4,8 @@ use Rattle.std.specs.Prelude.{◌≡◌, ℕ, ◌+◌, ◌<◌, ◌≤◌, max, 
 use Rattle.cfdp_files.specs.declared.reserving.Reserved.{Reserved}
 use Rattle.cfdp_files.specs.declared.reserving.Taken.{Taken}
 
--- the number of a start's first transaction: the one that is said, or else the first that was not
--- reserved before and is not below the least
+-- the number of a start's first transaction: the one that is said, or otherwise the first that was
+-- not reserved before and is not below the least
 abbrev pub first_number : Option ℕ → ℕ → Reserved → ℕ
 first_number said least before = unwrap_or said (max before.numbers least)
 

@@ -15,7 +15,7 @@ abbrev pub lines_text : Reserved → List ℕ
 lines_text r = first_text r.accepted ++ (codes "numbers " ++ (decimal r.numbers
     ++ (codes "\nframes " ++ (decimal r.frames ++ codes "\n"))))
 
--- these lines, and behind them their check, CRC-32 of IEEE 802.3, in hexadecimal digits
+-- these lines, and after them their check, CRC-32 of IEEE 802.3, in hexadecimal digits
 abbrev pub state_text : Reserved → List ℕ
 state_text r = lines_text r
     ++ (codes "sum " ++ (hex_number_text (crc32_of Ieee (lines_text r)) ++ codes "\n"))

@@ -5,6 +5,7 @@ ghost use Rattle.cfdp_files.specs.InboxFolder.{IsPartName};
 
 use crate::locks::{LockError, LockedFile};
 use cfdp_report::cause_text;
+use std::collections::BTreeSet;
 use std::fs::{DirEntry, FileType};
 use std::marker::Model;
 use std::{fs, io};
@@ -12,7 +13,7 @@ use std::{fs, io};
 /// The exit status if a folder failed.
 const DEVICE: u8 = 3;
 
-/// What the name of a part file begins with. Behind it come the two numbers of its transaction.
+/// What the name of a part file begins with. After it come the two numbers of its transaction.
 const PART: &str = ".part-";
 
 /// A folder into which no other process receives, as long as this value lives. Clauses see its
@@ -39,9 +40,25 @@ impl HeldFolder {
     pub fn take(rt: &HostRuntime, path: &str) -> Result<HeldFolder, u8>
         ensures { IfOk result (λ held. held ≡ path.now) }
     {
+        HeldFolder::take_with(rt, path, &BTreeSet::new(rt.alloc()))
+    }
+
+    /// Takes a folder, and removes from it the part files of a run that died, except for those with
+    /// these names.
+    ///
+    /// # Errors
+    ///
+    /// The exit status if it can't be had; standard error says why.
+    pub fn take_with(
+        rt: &HostRuntime,
+        path: &str,
+        kept: &BTreeSet<String>,
+    ) -> Result<HeldFolder, u8>
+        ensures { IfOk result (λ held. held ≡ path.now) }
+    {
         match LockedFile::open(rt, path) {
             Ok(folder) => {
-                remove_parts(rt, path);
+                remove_parts(rt, path, kept);
                 Ok(HeldFolder { folder })
             }
             Err(error) => {
@@ -53,7 +70,7 @@ impl HeldFolder {
 
     /// Removes the part files of this folder, whose path this is: of files that never came whole.
     pub fn clear(&self, rt: &HostRuntime, path: &str) {
-        remove_parts(rt, path);
+        remove_parts(rt, path, &BTreeSet::new(rt.alloc()));
     }
 }
 
@@ -66,8 +83,9 @@ fn tell(rt: &HostRuntime, path: &str, error: &LockError) {
     };
 }
 
-/// Removes the part files of a folder, as far as they can be removed.
-fn remove_parts(rt: &HostRuntime, path: &str) {
+/// Removes the part files of a folder, as far as they can be removed, except for those with these
+/// names.
+fn remove_parts(rt: &HostRuntime, path: &str, kept: &BTreeSet<String>) {
     let Ok(entries) = fs::read_dir(rt, path) else {
         return;
     };
@@ -75,6 +93,7 @@ fn remove_parts(rt: &HostRuntime, path: &str) {
         if let Ok(entry) = entry
             && is_part_name(entry.file_name())
             && is_plain(entry.file_type())
+            && !kept.contains(entry.file_name())
         {
             remove_part(rt, &entry);
         }
@@ -88,7 +107,7 @@ fn remove_part(rt: &HostRuntime, entry: &DirEntry<HostRuntime>)
     let _ = fs::remove_file(rt, entry.path());
 }
 
-/// Whether this is the name of a part file.
+/// Returns `true` if this is the name of a part file.
 fn is_part_name(name: &str) -> bool
     ensures { result ≡ true → IsPartName name.now }
 {

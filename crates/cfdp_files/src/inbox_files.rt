@@ -19,12 +19,12 @@ pub struct InboxFile {
 }
 
 impl InboxFile {
-    /// A file that was opened, of whose place nothing is known.
+    /// Returns a file that was opened, of whose place nothing is known.
     fn new(file: File) -> InboxFile {
         InboxFile { file, place: None }
     }
 
-    /// Notes the place at which the system read or wrote so many octets more, or failed.
+    /// Notes that the system read or wrote more octets at the place, or failed.
     fn passes(&mut self, answer: &io::Result<usize>) {
         let place = self.place.take();
         if let Ok(count) = answer {
@@ -104,8 +104,9 @@ pub struct InboxFiles<'a> {
 }
 
 impl<'a> InboxFiles<'a> {
-    /// Those of the system. If it doesn't replace, no rename takes a name that is there; and
-    /// none gives a name to a file of more than `most_size` octets, unless that is 0.
+    /// Returns the files of the system. If it doesn't replace, no rename takes a name that is
+    /// there;
+    /// and none gives a name to a file of more than `most_size` octets, unless that is 0.
     pub fn new(rt: &'a HostRuntime, replaces: bool, most_size: u64) -> InboxFiles<'a> {
         InboxFiles {
             rt,
@@ -113,6 +114,20 @@ impl<'a> InboxFiles<'a> {
             most_size,
             made: MadeFiles::new(rt.alloc()),
         }
+    }
+
+    /// Takes a plain file for one that these made, since an earlier run of the station did. It says
+    /// nothing of what is no plain file.
+    ///
+    /// # Errors
+    ///
+    /// What the system says if nothing is there, or `OutOfMemory`.
+    pub fn takes_back(&self, path: &str) -> io::Result<()> {
+        let found = self.rt.symlink_metadata(path)?;
+        if found.is_file() {
+            self.made.notes(path, &found)?;
+        }
+        Ok(())
     }
 
     /// Makes a file, and notes which it is.
@@ -200,8 +215,8 @@ impl Files for InboxFiles<'_> {
         self.rt.copy(from, to)
     }
 
-    /// If the old name can't be removed behind the link, the file has both: it is there under
-    /// the new one, and the next start removes the other.
+    /// Renames a file. If the old name can't be removed after the link, the file has both: it is
+    /// there under the new one, and the next start removes the other.
     fn rename(&self, from: &str, to: &str) -> io::Result<()> {
         let made = self.made.check(from, &self.rt.symlink_metadata(from)?)?;
         if self.is_too_long(&made) {

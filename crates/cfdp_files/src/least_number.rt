@@ -8,7 +8,7 @@ const RANDOM_BITS: u32 = 42;
 
 const BELOW_RANDOM: u32 = 20;
 
-/// Returns the least number of a station's first transaction, for numbers of so many octets: the
+/// Returns the least number of a station's first transaction, for numbers of `width` octets: the
 /// microseconds since 1970, or 0 if these don't fit. A new station, which
 /// has no file of what it used, adds a random number if its numbers have 8 octets. So used numbers
 /// don't come back if the clock does, and strangers don't guess them.
@@ -21,8 +21,8 @@ pub fn least_number(rt: &HostRuntime, width: u64, is_new: bool) -> u64 {
     }
 }
 
-/// Returns the microseconds since 1970, if a number of so many octets holds them and all behind
-/// that may be reserved; else 0.
+/// Returns the microseconds since 1970, if a number of `width` octets holds them and all after that
+/// may be reserved; otherwise 0.
 fn clock_number(rt: &HostRuntime, width: u64) -> u64 {
     let micros = microseconds(rt);
     if width >= 8 || micros >> (8 * width) == 0 {

@@ -1,5 +1,5 @@
-//! Locks on files and folders. The system lets one go when the process that holds it ends, however
-//! it ends.
+//! Locks on files and folders. The system releases a lock when the process that holds it ends,
+//! however it ends.
 ghost use Rattle.std.specs.Prelude.{◌≡◌, IfOk};
 
 use past::Past;

@@ -35,7 +35,7 @@ pub struct MadeFiles {
 }
 
 impl MadeFiles {
-    /// None was made.
+    /// Returns no files: none was made.
     pub fn new(alloc: Global) -> MadeFiles {
         MadeFiles {
             alloc,

@@ -35,8 +35,8 @@ pub enum Use {
 ///
 /// # Errors
 ///
-/// That of the system; `IsADirectory` for a folder, `NotSeekable` for what is neither a folder nor
-/// a plain file.
+/// The error of the system; `IsADirectory` for a folder, `NotSeekable` for what is neither a folder
+/// nor a plain file.
 pub fn open_plain(rt: &HostRuntime, path: &str, how: Use) -> io::Result<File> {
     check_plain(&fs::metadata(rt, path)?)?;
     let file = File::options()

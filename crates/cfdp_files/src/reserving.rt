@@ -35,7 +35,7 @@ pub struct Beginning {
 pub struct Taken {
     /// With which numbers the station begins.
     pub beginning: Beginning,
-    /// The first number behind those that are reserved for the station.
+    /// The first number after those that are reserved for the station.
     pub numbers_end: u64,
     /// What is reserved then.
     pub reserved: Reserved,
@@ -59,7 +59,7 @@ impl Reserved {
         }
     }
 
-    /// Returns what a start takes that reserves a number for each of so many puts: from the one on
+    /// Returns what a start takes that reserves a number for each of `puts` puts: from the one on
     /// that is said, or otherwise after all that were reserved before and not below the least.
     /// `None` if so many numbers, or one frame more, can't be counted.
     pub fn begin(self, said: Option<u64>, least: u64, puts: u64) -> Option<Taken>
@@ -69,7 +69,7 @@ impl Reserved {
     {
         let number = said.unwrap_or(self.numbers.max(least));
         let numbers_end = number.checked_add(puts)?;
-        // The peer may await the count behind the last one that was reserved.
+        // The peer may await the count after the last one that was reserved.
         let frames = self.frames.checked_add(1)?;
         Some(Taken {
             beginning: Beginning { number, frames },
@@ -98,8 +98,8 @@ impl Reserved {
         })
     }
 
-    /// Returns what must be reserved before so many numbers more are used than those below `end`.
-    /// `None` if so many can't be counted.
+    /// Returns what must be reserved before `more` numbers are used after those below `end`. `None`
+    /// if so many can't be counted.
     pub fn adding(self, end: u64, more: u64) -> Option<Reserved>
         ensures adds { IfSome result (Adds self (end + more)) }
         ensures spent { IsNone result ↔ (2 ^ 64 ≤ end + more) }
@@ -111,7 +111,7 @@ impl Reserved {
     }
 
     /// Returns what must be reserved before the peer's frame with this sequence number is handed
-    /// on: the same as now if the number is reserved, and else so many more ahead of it.
+    /// on: the same as now if the number is reserved, and otherwise `ahead` more.
     pub fn accepting(self, number: u64, ahead: u64) -> Reserved
         ensures { Accepts self number result }
     {

@@ -86,7 +86,7 @@ pub fn read_secret(rt: &HostRuntime, path: &str) -> Result<String, SecretError> 
 ///
 /// # Errors
 ///
-/// Those of [`read_secret`], and `Keys` if the text is no file of keys.
+/// The errors of [`read_secret`], and `Keys` if the text is no file of keys.
 pub fn read_keys(rt: &HostRuntime, path: &str) -> Result<LinkKeys, SecretError> {
     let text = read_secret(rt, path)?;
     key_file::parse(text.as_str()).map_err(SecretError::Keys)

@@ -90,7 +90,7 @@ pub struct StateFile<'a> {
     file: File,
     // what the file says
     reserved: Reserved,
-    // the first number behind those that are reserved for this station
+    // the first number after those that are reserved for this station
     numbers_end: u64,
 }
 
@@ -176,7 +176,7 @@ impl<'a> StateFile<'a> {
         })
     }
 
-    /// Reserves so many transaction numbers more.
+    /// Reserves `more` transaction numbers.
     ///
     /// # Errors
     ///
@@ -230,7 +230,7 @@ fn held(rt: &HostRuntime, path: &str) -> Result<Option<File>, StateError> {
     Ok(Some(file))
 }
 
-/// Whether a path couldn't be opened since nothing is there, not even a link to nothing.
+/// Returns `true` if a path couldn't be opened since nothing is there, not even a link to nothing.
 fn is_missing(rt: &HostRuntime, path: &str, error: &io::Error) -> bool {
     error.kind() == ErrorKind::NotFound && fs::symlink_metadata(rt, path).is_err()
 }
@@ -243,7 +243,7 @@ fn check_own(file: &File, found: &Metadata) -> Result<(), StateError> {
     Err(StateError::InUse)
 }
 
-/// What a file says.
+/// Returns what a file says.
 fn read(rt: &HostRuntime, file: &File) -> Result<Reserved, StateError> {
     let mut octets = Vec::new(rt.alloc());
     file.take(MOST_OCTETS).read_to_end(&mut octets)?;
@@ -299,7 +299,7 @@ fn replaced(
     Ok(file)
 }
 
-/// The path of the file that is written before it gets the name of the one at this path.
+/// Returns the path of the file that is written before it gets the name of the one at this path.
 fn part_of(rt: &HostRuntime, path: &str) -> Result<String, AllocError> {
     format!(in rt.alloc(); "{path}.new")
 }
@@ -369,7 +369,7 @@ pub struct Reservation<'a> {
     /// How many sequence numbers are reserved ahead of the next one that isn't reserved: twice as
     /// many each time, until the file says exactly what was accepted.
     ahead: u64,
-    /// How many numbers are reserved at the start, and how many at a time behind these.
+    /// How many numbers are reserved at the start, and how many at a time after these.
     numbers: u64,
     step: u64,
 }
@@ -398,7 +398,7 @@ impl<'a> Reservation<'a> {
         })
     }
 
-    /// The number that is said, or otherwise the clock's, in no file.
+    /// Returns the number that is said, or otherwise the clock's, in no file.
     pub fn by_clock(rt: &HostRuntime, said: Option<u64>) -> Reservation<'a> {
         let now = microseconds(rt);
         Reservation {
@@ -420,12 +420,12 @@ impl<'a> Reservation<'a> {
         self.file.is_some()
     }
 
-    /// The number of the first transaction.
+    /// Returns the number of the first transaction.
     pub fn number(&self) -> u64 {
         self.beginning.number
     }
 
-    /// The count of the first frame in either lane.
+    /// Returns the count of the first frame in either lane.
     pub fn frame_count(&self) -> u32 {
         (self.beginning.frames % u64::from(FRAME_COUNTS)) as u32
     }
@@ -446,7 +446,7 @@ impl<'a> Reservation<'a> {
         self.accepted.unwrap_or(0)
     }
 
-    /// How many transaction numbers are reserved at the start.
+    /// Returns how many transaction numbers are reserved at the start.
     pub fn numbers_left(&self) -> u64 {
         self.numbers
     }

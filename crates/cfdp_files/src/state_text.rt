@@ -91,7 +91,7 @@ fn numbers_in(text: &str) -> Option<Reserved>
     })
 }
 
-/// Returns what the first line of a text says, and what is behind that.
+/// Returns what the first line of a text says, and what is after that.
 fn first_in(text: &str) -> Option<(Option<u64>, &str)>
     ensures { (accepted : Option ℕ) (rest : List ℕ) → IfSome accepted (λ number. number < 2 ^ 64)
         → text.now ≡ first_text accepted ++ rest
@@ -104,7 +104,7 @@ fn first_in(text: &str) -> Option<(Option<u64>, &str)>
     Some((Some(number), rest))
 }
 
-/// Returns the number between this front of a text and the end of its line, and what is behind that
+/// Returns the number between this front of a text and the end of its line, and what is after that
 /// line.
 fn number_behind<'a>(front: &str, text: &'a str) -> Option<(u64, &'a str)>
     ensures { (n : ℕ) (rest : List ℕ) → n < 2 ^ 64

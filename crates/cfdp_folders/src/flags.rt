@@ -1,7 +1,7 @@
 // How a file is opened, in the C library's words.
 use std::fs::OpenOptions;
 
-/// The flags of `open` for options that go together.
+/// Returns the flags of `open` for options that go together.
 pub(crate) fn flags_of(how: &OpenOptions) -> i32 {
     access_of(how) | creation_of(how)
 }

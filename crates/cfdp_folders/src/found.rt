@@ -1,10 +1,10 @@
-// What lies at a path. The calls of the C library tell the length of a file, and neither when it
+// What lies at a path. The calls of the C library give the length of a file, and neither when it
 // was changed nor its number: what `statx` writes has fields that no crate beside std can name.
 use crate::system_file::{SystemFile, last_error};
 use std::fs::Metadata;
 use std::io;
 
-/// What lies at a path. A link there isn't followed.
+/// Returns what lies at a path. A link there isn't followed.
 pub(crate) fn find(path: &str) -> io::Result<Metadata> {
     if is_link(path)? {
         return Ok(Metadata::of_symlink(0));
@@ -12,7 +12,7 @@ pub(crate) fn find(path: &str) -> io::Result<Metadata> {
     find_behind_links(path)
 }
 
-/// What lies at a path, where links are followed. A pipe is none of what can be told.
+/// Returns what lies at a path, if links are followed. A pipe is none of what can be returned.
 pub(crate) fn find_behind_links(path: &str) -> io::Result<Metadata> {
     let file = SystemFile::open(path, libc::O_RDONLY)?;
     if file.is_folder() {
@@ -21,7 +21,7 @@ pub(crate) fn find_behind_links(path: &str) -> io::Result<Metadata> {
     Ok(Metadata::of_file(file.len()?))
 }
 
-/// Whether a link lies at a path; an error where nothing does.
+/// Returns `true` if a link lies at a path; an error if nothing does.
 fn is_link(path: &str) -> io::Result<bool> {
     let mut target = [0u8; 1];
     if os::readlink(path.as_bytes(), &mut target) >= 0 {

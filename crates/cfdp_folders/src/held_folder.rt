@@ -6,7 +6,7 @@ use std::alloc::{AllocError, Global};
 use std::fs::{self, FileType};
 use std::io::{self, ErrorKind};
 
-/// What the name of a part file begins with. Behind it come the two numbers of its transaction.
+/// What the name of a part file begins with. After it come the two numbers of its transaction.
 const PART: &str = ".part-";
 
 /// Why a folder can't be had.
@@ -26,11 +26,11 @@ impl From<AllocError> for FolderRefusal {
     }
 }
 
-/// Whether a folder is there that can be read.
+/// Returns `true` if a folder is there that can be read.
 ///
 /// # Errors
 ///
-/// `Missing` or `NoMemory`.
+/// `Missing` if the folder isn't there or can't be read; `NoMemory` if there is no memory.
 pub fn look_at_folder(alloc: Global, path: &str) -> Result<(), FolderRefusal> {
     let _folder = open_folder(alloc, path)?;
     Ok(())
@@ -48,7 +48,7 @@ impl HeldFolder {
     ///
     /// # Errors
     ///
-    /// Each [`FolderRefusal`].
+    /// A [`FolderRefusal`], if the folder can't be had.
     pub fn take(alloc: Global, path: &str) -> Result<HeldFolder, FolderRefusal> {
         let folder = open_folder(alloc, path)?;
         match folder.lock() {
@@ -61,7 +61,7 @@ impl HeldFolder {
     }
 }
 
-/// Opens a folder. By the point behind its path nothing else is opened, so that no pipe is waited
+/// Opens a folder. By the point after its path nothing else is opened, so that no pipe is waited
 /// for.
 fn open_folder(alloc: Global, path: &str) -> Result<SystemFile, FolderRefusal> {
     if path.is_empty() {
@@ -96,7 +96,7 @@ fn remove_parts(alloc: Global, path: &str) {
     }
 }
 
-/// Whether this is the name of a part file.
+/// Returns `true` if this is the name of a part file.
 fn is_part_name(name: &str) -> bool {
     match name.strip_prefix(PART) {
         Some(numbers) => match numbers.split_once('-') {

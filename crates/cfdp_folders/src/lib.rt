@@ -1,8 +1,8 @@
 //! Files of the system for code that is given no runtime, as that of a static library is: what
 //! the stores over folders ask for, by calls of the C library, and a folder that is held.
 //!
-//! Beside the C library it needs two functions of its user: the number of the last error of the
-//! calling thread, and to set it. `bindings/c/errno.c` has both.
+//! Beside the C library its user must give it two functions: to get the number of the last error of
+//! the calling thread, and to set it. `bindings/c/errno.c` has both.
 //!
 //! Tested by `tests/bindings.py`, through the library for C.
 #![tactic(auto)]

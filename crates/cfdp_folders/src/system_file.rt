@@ -12,12 +12,12 @@ const MOST_TRIES: u32 = 1_000;
 /// The bits of the mode of a new file, which the process's mask narrows.
 const NEW_FILE_MODE: u32 = 0o666;
 
-/// Why the last call failed.
+/// Returns why the last call failed.
 pub(crate) fn last_error() -> io::Error {
     io::Error::from_raw_os_error(os::errno())
 }
 
-/// What a call that answers 0, or -1 where it failed, says.
+/// Checks what a call returned: 0, or -1 if it failed.
 pub(crate) fn done(status: i32) -> io::Result<()> {
     if status < 0 {
         return Err(last_error());
@@ -25,7 +25,7 @@ pub(crate) fn done(status: i32) -> io::Result<()> {
     Ok(())
 }
 
-/// How many octets a call moved, of so many.
+/// Returns how many octets a call moved, of so many.
 fn moved(count: isize, most: usize) -> io::Result<usize>
     ensures { IfOk result (λ n. n ≤ most) }
 {
@@ -44,7 +44,7 @@ enum Change {
     Lock,
 }
 
-/// An open file of the system. It is closed where it is dropped.
+/// An open file of the system. It is closed if it is dropped.
 #[derive(Drop)]
 pub struct SystemFile {
     descriptor: OwnedFd,
@@ -67,14 +67,14 @@ impl SystemFile {
         Err(last_error())
     }
 
-    /// Whether it is a folder: no octets are read of one.
+    /// Returns `true` if it is a folder: no octets are read of one.
     pub(crate) fn is_folder(&self) -> bool {
         let mut octet = [0u8; 1];
         let count = libc::pread(self.descriptor.as_raw_fd(), &mut octet, 0);
         count < 0 && os::errno() == libc::EISDIR
     }
 
-    /// How many octets it has. Where it stands is then its end.
+    /// Returns how many octets it has. It stands at its end after that.
     pub(crate) fn len(&self) -> io::Result<u64> {
         self.place(0, libc::SEEK_END)
     }
@@ -143,7 +143,7 @@ impl Seek for SystemFile {
     }
 }
 
-/// Of a file its length alone is told, and where it stands is then its end.
+/// Of a file its length alone is given, and it stands at its end after that.
 impl OpenFile for SystemFile {
     fn metadata(&self) -> io::Result<Metadata> {
         Ok(Metadata::of_file(self.len()?))

@@ -9,8 +9,8 @@ use std::io::{self, ErrorKind};
 /// The files of the system, by calls of the C library. What the stores over folders don't ask for
 /// is `Unsupported`.
 ///
-/// Of a file they tell how long it is, and nothing else: so an outbox over them sees that a file
-/// changed while it was sent where its length did, and a pipe that lies there is waited for.
+/// Of a file they say how long it is, and nothing else: so an outbox over them sees that a file
+/// changed while it was sent if its length did, and a pipe that lies there is waited for.
 #[derive(Clone, Copy)]
 pub struct SystemFiles;
 

@@ -11,7 +11,7 @@ abbrev one_if : Bool → ℕ
 one_if true = 1
 one_if false = 0
 
--- 1 where the test passes at the first of so many numbers
+-- 1 if the test passes at the first of so many numbers
 abbrev at_first : (ℕ → Bool) → ℕ → ℕ → ℕ
 at_first passes at zero = 0
 at_first passes at (suc n) = one_if (passes at)
@@ -24,7 +24,7 @@ first-few passes at (suc n) = by (passes at)
     by true = omega arith
     by false = omega arith
 
--- where the test passes at once, the first of the ranges starts there
+-- if the test passes at once, the first of the ranges starts there
 joined-start : (at : ℕ) (rs : List (ℕ × ℕ)) (r : ℕ × ℕ) (rest : List (ℕ × ℕ)) → joined at rs ≡ r ∷ rest → r.0 ≡ at
 joined-start at [] r rest is = cc
 joined-start at (x ∷ xs) r rest is = by (x.0 == at + 1) is
@@ -42,7 +42,7 @@ starts passes at (suc n) r rest is =
       | false ↦ λ h. inr refl
     ] is
 
--- an offset more before ranges
+-- one more offset before ranges
 joined-few : (passes : ℕ → Bool) (at n out : ℕ) (rs : List (ℕ × ℕ)) → ranges_in passes (at + 1) n ≡ rs → length rs ≤ at_first passes (at + 1) n + out → length (joined at rs) ≤ 1 + out
 joined-few passes at n out [] is few = omega arith
 joined-few passes at n out (r ∷ rs) is few = by (r.0 == at + 1) refl

@@ -1,3 +1,4 @@
 pub mod Greatest
 pub mod Sets
 pub mod Few
+pub mod Joined

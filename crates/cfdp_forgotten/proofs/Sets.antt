@@ -93,7 +93,7 @@ any-at q (e ∷ es) (suc n) s apart at =
     let other : (q.source == e.0) ≡ false = eqb-symm e.0 q.source (key-at (λ y. (e.0 == y) ≡ false) es n q.source s apart.0 at) in
     ap (λ b. (b && set.contains e.1 q.number) || list_any (is_of q) es) other ∙ any-at q es n s apart.1 at
 
--- where no entry has its source, a transaction is not among them
+-- if no entry has its source, a transaction is not among them
 pub any-nowhere : (q : TransactionId) (es : List (ℕ × NumberSet)) → lookup (eqb q.source) es ≡ None → list_any (is_of q) es ≡ false
 any-nowhere q [] none = refl
 any-nowhere q (e ∷ es) none =
@@ -108,7 +108,7 @@ spread true true c r = refl
 spread true false c r = refl
 spread false b c r = refl
 
--- a number more of the source at a place
+-- one more number of the source at an index
 pub any-set : (q id : TransactionId) (es : List (ℕ × NumberSet)) (place : ℕ) (s : NumberSet) → slice_get es place ≡ Some (id.source, s)
     → list_any (is_of q) (set_value_at es place (set.insert s id.number)) ≡ (same_id q id || list_any (is_of q) es)
 any-set q id [] place s at = absurd cc
@@ -123,7 +123,7 @@ any-set q id (e ∷ es) zero s at =
 any-set q id (e ∷ es) (suc n) s at =
     ap (λ b. is_of q e || b) (any-set q id es n s at) ∙ or-swap (is_of q e) (same_id q id) (list_any (is_of q) es)
 
--- a source more, with one number
+-- one more source, with one number
 pub any-push : (q id : TransactionId) (es : List (ℕ × NumberSet)) → list_any (is_of q) (es ++ (id.source, set.insert set.empty id.number) ∷ []) ≡ (same_id q id || list_any (is_of q) es)
 any-push q id [] =
     let one : set.contains (set.insert set.empty id.number) q.number ≡ (q.number == id.number)

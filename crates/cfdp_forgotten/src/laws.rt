@@ -5,8 +5,8 @@ ghost use Rattle.cfdp_extents.specs.Terms.{end_of, ranges_of};
 ghost use Rattle.cfdp_forgotten.specs.Forgotten.{NumberSet};
 ghost use Rattle.cfdp_forgotten.specs.Few.{left_out};
 
-/// A set of numbers is made of at most one range more than the numbers that it leaves out, from
-/// one on below which it has none.
+/// A set of numbers is made of at most one more range than the numbers that it leaves out, from one
+/// on below which it has none.
 pub fn ranges_are_few()
     ensures { (held : NumberSet) (first : ℕ)
         → ((n : ℕ) → set.contains held n ≡ true → first ≤ n)

@@ -1,4 +1,4 @@
-//! Transactions that an entity let go: which they are, and nothing else of them.
+//! Transactions that an entity discarded: which they are, and nothing else of them.
 //!
 //! ```rust
 //! let mut forgotten = Forgotten::new(alloc);

@@ -1,15 +1,18 @@
 // Numbers of transactions of one source.
 ghost use Rattle.std.specs.Prelude.{◌≡◌, ◌<◌, ◌-◌, ℕ, true, OnOk, OnErr, IsOk};
 ghost use Rattle.std.specs.FinSet as set;
+ghost use Rattle.cfdp_extents.specs.Offsets.{AreRangesOf, range};
+ghost use Rattle.cfdp_forgotten.specs.Forgotten.{below_greatest};
 
-use cfdp_extents::Extents;
+use cfdp_extents::{Extents, Ranges};
 use std::alloc::{AllocError, Global};
 use std::marker::Model;
 
-/// A set of numbers of transactions, kept as ranges: numbers that follow one another are one range.
+/// A set of numbers of transactions, kept as ranges: if numbers follow one another, they are one
+/// range.
 #[derive(Debug, Drop)]
 pub struct Numbers {
-    // All but the greatest there is: no range ends behind that.
+    // All except the greatest there is: no range ends after that.
     ranges: Extents,
     greatest: bool,
 }
@@ -30,7 +33,7 @@ impl Model for Numbers {
 }
 
 impl Numbers {
-    /// No numbers.
+    /// Returns a set of no numbers.
     pub fn new(alloc: Global) -> Self
         ensures { result ≡ set.empty }
     {
@@ -40,7 +43,7 @@ impl Numbers {
         }
     }
 
-    /// Whether a number is in it.
+    /// Returns `true` if a number is in it.
     pub fn contains(&self, number: u64) -> bool
         ensures { result ≡ set.contains self.now number }
     {
@@ -54,13 +57,13 @@ impl Numbers {
     ///
     /// # Errors
     ///
-    /// Where there is no memory for one more range. The set is then unchanged.
+    /// If there is no memory for one more range. The set is then unchanged.
     pub fn insert(&mut self, number: u64) -> Result<(), AllocError>
         ensures ok { OnOk result (self.new ≡ set.insert self.old number) }
         ensures err { OnErr result (self.new ≡ self.old) }
-        // A number that is in it takes no memory.
+        // If a number is in it already, it takes no memory.
         ensures held { set.contains self.old number ≡ true → IsOk result }
-        // Nor does one that follows the greatest of them.
+        // Nor does a number that follows the greatest of them.
         ensures next { ((k : ℕ) → set.contains self.old k ≡ true → k < number)
             → set.contains self.old (number - 1) ≡ true → IsOk result }
     {
@@ -69,5 +72,29 @@ impl Numbers {
             None => self.greatest = true,
         }
         Ok(())
+    }
+
+    /// Adds the numbers from `start` up to, and without, `end`; none if `end` isn't greater.
+    ///
+    /// # Errors
+    ///
+    /// `AllocError` if there is no memory for one more range. The set is then unchanged.
+    pub fn insert_range(&mut self, start: u64, end: u64) -> Result<(), AllocError>
+        ensures ok { OnOk result (self.new ≡ set.union self.old (range start end)) }
+        ensures err { OnErr result (self.new ≡ self.old) }
+    {
+        if start < end {
+            self.ranges.insert(start, end)?;
+        }
+        Ok(())
+    }
+
+    /// Returns the ranges of the numbers, ascending, of all but `u64::MAX`: no range ends after
+    /// that number. `contains` says whether it is in the set. Allocates nothing.
+    pub fn ranges(&self) -> Ranges<'_>
+        // Ascending, none empty, no two touching, and together all numbers but the greatest.
+        ensures { AreRangesOf (below_greatest self.now) result }
+    {
+        self.ranges.ranges()
     }
 }

@@ -35,7 +35,7 @@ has true len text h =
     ap₂ (λ a b. a && b) room (ends text)
 has false len text h = refl
 
--- the CRC alone, behind this text
+-- the CRC alone, after this text
 abbrev pub crc_octets : Bool → List ℕ → List ℕ
 crc_octets true text = octets 2 (crc16_of text)
 crc_octets false text = []
@@ -44,7 +44,7 @@ pub length-crc : (crc : Bool) (text : List ℕ) → length (crc_octets crc text)
 length-crc true text = length-octets 2 (crc16_of text)
 length-crc false text = refl
 
--- what stands in front stays there
+-- what stands before it stays there
 pub behind : (crc : Bool) (front back : List ℕ) → with_crc crc (front ++ back) ≡ front ++ (back ++ crc_octets crc (front ++ back))
 behind true front back = append_assoc front back (octets 2 (crc16_of (front ++ back)))
 behind false front back = ap (λ t. front ++ t) (sym (append-nil back))

@@ -11,7 +11,7 @@ use Rattle.cfdp_header.specs.declared.value.Header.{Header}
 use Rattle.cfdp_header.specs.declared.error.HeaderError.TheVariants.{Short, Version, BadCrc, Length, Unacknowledged}
 use Rattle.cfdp_header.specs.Header.{SpellsHeader, header_fault, header_len, header_len_told}
 
--- where there is no fault, the CRC is right, by the tests
+-- if there is no fault, the CRC is right, by the tests
 right_of : (a b c d e f : Bool) → (if a then Some Short else if b then Some Version else if c then Some Unacknowledged else if d then Some Short else if e then Some Length else if not f then Some BadCrc else None) ≡ None →
     f ≡ true
 right_of true b c d e f is = absurd cc

@@ -1,4 +1,5 @@
--- Exported: ids that are the same and ids that are not, and the laws of their order and of their `==`, for the crates that keep maps by id.
+-- Exported: ids that are the same and ids that are not, and the laws of their order and of their
+-- `==`, for the crates that keep maps by id.
 use Rattle.std.proofs.Common.{◌≡◌, ◌≢◌, ◌==◌, ℕ, true, false, true≢false, refl, sym, ap, ap₂, inl, inr}
 use Rattle.std.specs.declared.cmp.Ordering.{Ordering}
 use Rattle.std.specs.declared.cmp.Ordering.TheVariants.{Less, Equal, Greater}
@@ -37,7 +38,7 @@ other_id id other ne = elim (eqb_tells id.source other.source) [
 pub id_total : IsTotalOrder id_cmp
 id_total = then_total (on_total (λ i. i.source) nat_cmp_total) (on_total (λ i. i.number) nat_cmp_total)
 
--- where two orders one after another tie, each ties
+-- if two orders one after another tie, each ties
 pub both_tie : (r s : Ordering) → ordering_then r s ≡ Equal → (r ≡ Equal) × (s ≡ Equal)
 both_tie Less s e = absurd (true≢false (sym (ap is_eq e)))
 both_tie Equal s e = (refl, e)

@@ -150,11 +150,11 @@ spelled_before h rest fits len check =
       check = right;
     })
 
--- a field of whole octets behind others
+-- a field of whole octets after others
 pub field_behind : (n w : ℕ) (o : List ℕ) → field (drop n o) 0 w ≡ field o (8 * n) w
 field_behind n w o = let place : 8 * n + 0 ≡ 8 * n = omega arith in field-drop n o 0 w ∙ ap (λ (at : ℕ). field o at w) place
 
--- those of the first of eight octets, which the number of all eight has in front
+-- the first of eight octets, which the number of all eight has at the front
 pub field_in_eight : (n count : ℕ) (o : List ℕ) → count ≤ 8 → field (drop n o) 0 64 / 2 ^ (64 - 8 * count) ≡ field o (8 * n) (8 * count)
 field_in_eight n count o narrow = field-front (drop n o) 0 (8 * count) 64 (omega (arith, narrow)) ∙ field_behind n (8 * count) o
 
@@ -191,7 +191,7 @@ length-header_octets h =
     let ld = length-octets h.id_width h.destination in
     omega (arith, length-append (fixed_octets h) s, length-append (fixed_octets h ++ s) n, length-append (fixed_octets h ++ s ++ n) d)
 
--- what is written spells the header, with its CRC behind
+-- what is written spells the header, with its CRC after it
 pub spelled : (h : Header) (rest : List ℕ) → FitsHeader h → length rest + crc_len h.crc ≡ h.length → SpellsHeader h (with_crc h.crc (header_octets h ++ rest))
 spelled h rest fits len =
     let text = header_octets h ++ rest in

@@ -9,7 +9,7 @@ abbrev pub crc_len : Bool → ℕ
 crc_len true = 2
 crc_len false = 0
 
--- the octets before the CRC, and those with it
+-- the octets before the CRC, and the octets with it
 abbrev pub with_crc : Bool → List ℕ → List ℕ
 with_crc true text = text ++ octets 2 (crc16_of text)
 with_crc false text = text
@@ -19,7 +19,8 @@ abbrev pub before_crc : Bool → List ℕ → List ℕ
 before_crc true d = take (length d - 2) d
 before_crc false d = d
 
--- whether a PDU with this CRC flag, whose header has so many octets, has the CRC that it tells of
+-- true if a PDU whose header has this CRC flag and so many octets has the CRC that the flag asks
+-- for
 abbrev pub has_crc : Bool → ℕ → List ℕ → Bool
 has_crc true len text = nat_le (len + 2) (length text) && ends_in_check text
 has_crc false len text = true

@@ -1,4 +1,4 @@
--- Files by their names: what an outbox has to send, and what an inbox has published.
+-- Files by their names: what an outbox offers, and what an inbox has published.
 use Rattle.std.specs.Prelude.{ℕ, List}
 use Rattle.std.specs.Ordering.{nat_cmp}
 use Rattle.std.specs.Cmp.Lexicographic.{slice_cmp}

@@ -16,11 +16,11 @@ use Rattle.cfdp_header.specs.declared.error.HeaderError.TheVariants.{Short, Vers
 abbrev pub header_len : ℕ → ℕ → ℕ
 header_len id_width number_width = 4 + id_width + number_width + id_width
 
--- The octets that an entity id or a sequence number may have.
+-- How many octets an entity id or a sequence number may have.
 abbrev pub IsWidth : ℕ → Type 0
 IsWidth width = (1 ≤ width) × (width ≤ 8)
 
--- the bit of the PDU type, and that of the direction (CCSDS 727.0-B-5, table 5-1)
+-- the bit of the PDU type, and the bit of the direction (CCSDS 727.0-B-5, table 5-1)
 abbrev pub type_bit : PduType → ℕ
 type_bit FileDirective = 0
 type_bit FileData = 1
@@ -29,9 +29,9 @@ abbrev pub direction_bit : Direction → ℕ
 direction_bit TowardReceiver = 0
 direction_bit TowardSender = 1
 
--- The octets are this header, and behind it as many octets as its length says, which end in a CRC
--- where its flag says so (CCSDS 727.0-B-5, 5.1, table 5-1, and 4.1). Bit 24, segmentation control,
--- is in no line: it is read as anything.
+-- The octets are this header, and after it as many octets as its length says. These end in a CRC if
+-- its flag says so (CCSDS 727.0-B-5, 5.1, table 5-1, and 4.1). Bit 24, segmentation control, is in
+-- no line: any value of it is accepted.
 pub record SpellsHeader (h : Header) (text : List ℕ) : Type 0 where
   pub size : length text ≡ header_len h.id_width h.number_width + h.length
   pub version : field text 0 3 ≡ 1
@@ -50,12 +50,12 @@ pub record SpellsHeader (h : Header) (text : List ℕ) : Type 0 where
       ≡ h.destination
   pub check : has_crc h.crc (header_len h.id_width h.number_width) text ≡ true
 
--- the octets of the header that the fourth octet tells of
+-- the octets of the header, as the fourth octet gives them
 abbrev pub header_len_told : List ℕ → ℕ
 header_len_told text = header_len (field text 25 3 + 1) (field text 29 3 + 1)
 
 -- what is wrong with octets that are no header and its data field: the first cause in this order,
--- or none. LargeFile is never one.
+-- or none. LargeFile is never a cause.
 abbrev pub header_fault : List ℕ → Option HeaderError
 header_fault text =
     if nat_lt (length text) 4 then Some Short
@@ -70,7 +70,7 @@ header_fault text =
 abbrev pub FitsWidth : ℕ → ℕ → Type 0
 FitsWidth value width = IsWidth width × (value < 256 ^ width)
 
--- The header can be written: each number fits its field.
+-- The header can be written: each number must fit its field.
 pub record FitsHeader (h : Header) : Type 0 where
   pub id_width : IsWidth h.id_width
   pub number_width : IsWidth h.number_width

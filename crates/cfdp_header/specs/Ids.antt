@@ -4,7 +4,7 @@ use Rattle.std.specs.declared.cmp.Ordering.{Ordering}
 use Rattle.std.specs.Ordering.{nat_cmp, on, then_cmp}
 use Rattle.cfdp_header.specs.declared.value.TransactionId.{TransactionId}
 
--- whether two ids name one transaction
+-- true if two ids name one transaction
 abbrev pub same_id : TransactionId → TransactionId → Bool
 same_id a b = (a.source == b.source) && (a.number == b.number)
 

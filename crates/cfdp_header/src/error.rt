@@ -3,34 +3,35 @@ ghost use Rattle.cfdp_header.specs.Header.{refusal_number, refusal_name};
 
 use thiserror::Error;
 
-/// Why octets are no header with its data field: the first cause that holds, in the order in which
-/// they are told.
+/// Why octets are no header with its data field: the first cause that holds, in the order that
+/// [`decode`](crate::decode) names.
 #[derive(Clone, Copy, Debug, PartialEq, Eq, Error)]
 pub enum HeaderError {
-    /// Fewer than 4 octets, or fewer than the whole header that the fourth octet tells of.
+    /// The octets are fewer than 4, or fewer than the whole header, whose length the fourth octet
+    /// gives.
     #[error("the PDU is shorter than its header")]
     Short,
     /// The version isn't `001`.
     #[error("PDU version must be 1")]
     Version,
     /// The CRC flag is 1, and the data field doesn't end in the CRC of all octets before it (CCSDS
-    /// 727.0-B-5, 4.1). Told last.
+    /// 727.0-B-5, 4.1). It is checked last.
     #[error("the CRC of the PDU is wrong")]
     BadCrc,
-    /// The octets behind the header aren't as many as its length says.
+    /// The octets after the header aren't as many as its length says.
     #[error("the length in the PDU header is not the length of the data field")]
     Length,
     /// The transmission mode is 1, unacknowledged.
     #[error("the PDU has unacknowledged mode (class 1)")]
     Unacknowledged,
-    /// The large file flag is 1. Nothing tells it any more, since both flags are read: its number
+    /// The large file flag is 1. No call reports it any more, since both flags are read: its number
     /// stays unused.
     #[error("the large file flag is set")]
     LargeFile,
 }
 
 impl HeaderError {
-    /// The number that names this refusal in reports.
+    /// Returns the number of this refusal in reports.
     pub fn number(self) -> u8
         ensures { result ≡ refusal_number self }
     {
@@ -44,7 +45,7 @@ impl HeaderError {
         }
     }
 
-    /// The name of this refusal in reports: the variant's.
+    /// Returns the name of this refusal in reports: the name of the variant.
     pub fn name(self) -> &'static str
         ensures { result.now ≡ refusal_name self }
     {

@@ -31,8 +31,8 @@ pub use error::HeaderError;
 use value::CRC_LEN;
 pub use value::{Direction, Header, PduType, TransactionId, fits_width};
 
-/// The number of `count` octets from octet `at` on. Where eight are there they are read at once,
-/// and those behind it are cut off.
+/// Returns the number of `count` octets from octet `at` on. If eight are there, they are read at
+/// once, and the octets after the number are cut off.
 #[inline]
 #[tactic(auto, using(crate::proofs::Laws::field_behind, crate::proofs::Laws::field_in_eight))]
 fn number_at(bytes: &[u8], at: usize, count: usize) -> u64
@@ -48,7 +48,7 @@ fn number_at(bytes: &[u8], at: usize, count: usize) -> u64
     read_eight(rest) >> (64 - 8 * count)
 }
 
-/// The PDU type that the first octet tells.
+/// Returns the PDU type in the first octet.
 fn pdu_type_in(bytes: &[u8]) -> PduType
     requires { 1 ≤ length bytes.now }
     ensures { type_bit result ≡ field bytes.now 3 1 }
@@ -59,7 +59,7 @@ fn pdu_type_in(bytes: &[u8]) -> PduType
     }
 }
 
-/// The direction that the first octet tells.
+/// Returns the direction in the first octet.
 fn direction_in(bytes: &[u8]) -> Direction
     requires { 1 ≤ length bytes.now }
     ensures { direction_bit result ≡ field bytes.now 4 1 }
@@ -70,8 +70,8 @@ fn direction_in(bytes: &[u8]) -> Direction
     }
 }
 
-/// The data field behind a header of so many octets, without the CRC that its flag may tell of;
-/// none where that is wrong.
+/// Returns the data field after a header of so many octets, without its CRC if the flag says that
+/// there is one; `None` if the CRC is wrong.
 fn before_crc(bytes: &[u8], header_len: usize, crc: bool) -> Option<&[u8]>
     requires { header_len ≤ length bytes.now }
     ensures found { IfSome result (λ d. d.now
@@ -89,7 +89,7 @@ fn before_crc(bytes: &[u8], header_len: usize, crc: bool) -> Option<&[u8]>
     Some(data)
 }
 
-/// Whether the last two octets are the check of all before them.
+/// Returns `true` if the last two octets are the check of all before them.
 fn ends_in_crc(bytes: &[u8]) -> bool
     requires { 2 ≤ length bytes.now }
     ensures { result ≡ ends_in_check bytes.now }
@@ -98,14 +98,15 @@ fn ends_in_crc(bytes: &[u8]) -> bool
     read_uint(check, CRC_LEN) == u64::from(crc16(covered))
 }
 
-/// The header at the front of `bytes`, which are a whole PDU, and its data field without the CRC.
+/// Returns the header at the front of `bytes`, which must be a whole PDU, and its data field
+/// without the CRC.
 ///
-/// The bit of segmentation control is read as anything (CCSDS 727.0-B-5, table 5-1).
+/// Any value of the segmentation control bit is accepted (CCSDS 727.0-B-5, table 5-1).
 ///
 /// # Errors
 ///
 /// The first of these that holds, in this order: `Short`, `Version`, `Unacknowledged`, `Short`
-/// again for a header that isn't whole, `Length`, `BadCrc`. `HeaderError` says what each means.
+/// again if the header isn't whole, `Length`, `BadCrc`. `HeaderError` says what each means.
 pub fn decode(bytes: &[u8]) -> Result<(Header, &[u8]), HeaderError>
     // What is answered is spelled so.
     ensures found { IfOk result (λ x. SpellsHeader x.0 bytes.now) }
@@ -160,11 +161,11 @@ pub fn decode(bytes: &[u8]) -> Result<(Header, &[u8]), HeaderError>
     Ok((header, data))
 }
 
-/// Writes the header into the first octets of `out`, spare bits as 0, and says how many they are.
-/// The octets behind stay.
+/// Writes the header into the first octets of `out`, spare bits as 0, and returns how many they
+/// are. The octets after them stay as they were.
 ///
-/// The data field, of `header.length` octets, is the caller's to write behind it, and so is the CRC
-/// at its end where the header tells of one.
+/// The caller must write the data field, of `header.length` octets, after it, and must end it in
+/// the CRC if the header has the flag.
 #[tactic(auto, using(crate::proofs::Laws::flag_below, crate::proofs::Laws::type_below, crate::proofs::Laws::direction_below))]
 pub fn encode(header: &Header, out: &mut [u8]) -> usize
     requires fits { FitsHeader header.now }
@@ -200,22 +201,22 @@ pub fn no_header_begins_another()
         → (a ≡ b) × (h ≡ k) }
 {}
 
-/// A law: what is written of a header, with a data field behind it that has its length with the CRC
-/// that the header tells of, spells that header.
+/// A law: what is written of a header spells that header if a data field of its length follows,
+/// with the CRC if the header has the flag.
 pub fn written_header_is_read()
     ensures { (h : Header) (rest : List ℕ) → FitsHeader h
         → length rest + crc_len h.crc ≡ h.length
         → SpellsHeader h (with_crc h.crc (header_octets h ++ rest)) }
 {}
 
-/// A law: a header that was read can be written in the widths that it was read in, and so can a
+/// A law: a header that was read can be written in the widths in which it was read, and so can a
 /// reply that has its ids, number and widths.
 pub fn a_header_read_can_be_written()
     ensures { (h : Header) (text : List ℕ) → SpellsHeader h text → FitsHeader h }
 {}
 
-/// A law: a PDU with a CRC, of up to 2,048 octets, of which one, two or three bits were turned on
-/// the way, or any within 16 in a row, is refused, unless the CRC flag is among these.
+/// A law: a PDU with a CRC, of up to 2,048 octets, is refused if one, two or three of its bits were
+/// turned on the way, or any bits within 16 in a row, unless the CRC flag is among these.
 pub fn damage_is_seen()
     ensures { (h : Header) (sent came : List ℕ) → SpellsHeader h sent → h.crc ≡ true
         → length sent ≤ 2048 → IsDamaged sent came → header_fault came ≡ None

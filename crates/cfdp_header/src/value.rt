@@ -7,8 +7,8 @@ ghost use Rattle.cfdp_header.specs.Header.{type_bit, direction_bit};
 pub(crate) const CRC_LEN: usize = 2;
 
 /// Names a transaction: the entity that sends the file, and the number that it gave the transaction
-/// (CCSDS 727.0-B-5). Two ids are the same where both numbers are, whatever width they are written
-/// in. They are ordered by source, then by number.
+/// (CCSDS 727.0-B-5). Two ids are the same if both numbers are, whatever their widths. They are
+/// ordered by source, then by number.
 #[derive(Clone, Copy, Debug, PartialEq, Eq, PartialOrd, Ord, Hash)]
 pub struct TransactionId {
     /// The entity id of the file's sender.
@@ -27,7 +27,7 @@ pub enum PduType {
 }
 
 impl PduType {
-    /// The bit that the header has for it, 0 or 1.
+    /// Returns its bit in the header, 0 or 1.
     pub fn bit(self) -> u8
         ensures { result ≡ type_bit self }
     {
@@ -48,7 +48,7 @@ pub enum Direction {
 }
 
 impl Direction {
-    /// The bit that the header has for it, 0 or 1.
+    /// Returns its bit in the header, 0 or 1.
     pub fn bit(self) -> u8
         ensures { result ≡ direction_bit self }
     {
@@ -66,15 +66,15 @@ pub struct Header {
     pub pdu_type: PduType,
     /// Whether it goes toward the file's receiver or its sender.
     pub direction: Direction,
-    /// The CRC flag: the data field ends in two octets that are the check of all before them (CCSDS
-    /// 727.0-B-5, 4.1).
+    /// The CRC flag: if it is set, the data field ends in two octets that are the check of all
+    /// before them (CCSDS 727.0-B-5, 4.1).
     pub crc: bool,
-    /// Octets of the data field, behind the header: 0 to 65,535. Those of a CRC are counted.
+    /// Octets of the data field, after the header: 0 to 65,535. The octets of a CRC are counted.
     pub length: u16,
     /// Whether segment metadata stands before each offset of file data. This stack's senders never
     /// set it.
     pub segment_metadata: bool,
-    /// The large file flag: a file-size field, as an offset, has 8 octets where true, else 4 (CCSDS
+    /// The large file flag: a file size or an offset has 8 octets if it is true, otherwise 4 (CCSDS
     /// 727.0-B-5, 5.1 and 5.1.10).
     pub large: bool,
     /// Octets of an entity id: 1 to 8.
@@ -88,29 +88,31 @@ pub struct Header {
 }
 
 impl Header {
-    /// How many octets the header has, without the data field behind it: 7 to 28.
+    /// Returns how many octets the header has, without the data field after it: 7 to 28.
     pub fn len(&self) -> usize
         ensures { result ≡ header_len self.now.id_width self.now.number_width }
     {
         Header::len_in_widths(self.id_width, self.number_width)
     }
 
-    /// How many octets a header has, without the data field behind it, whose entity ids and
-    /// sequence number have so many octets.
+    /// Returns how many octets a header has if its entity ids and sequence number have so many
+    /// octets. The data field after it isn't counted.
     pub fn len_in_widths(id_width: u8, number_width: u8) -> usize
         ensures { result ≡ header_len id_width number_width }
     {
         4 + usize::from(id_width) + usize::from(number_width) + usize::from(id_width)
     }
 
-    /// Octets of the CRC at the end of the data field: 2, or 0 where the CRC flag is 0.
+    /// Returns the number of octets of the CRC at the end of the data field: 2, or 0 if the CRC
+    /// flag is 0.
     pub fn crc_len(&self) -> usize
         ensures { result ≡ crc.crc_len self.now.crc }
     {
         if self.crc { CRC_LEN } else { 0 }
     }
 
-    /// Whether the header can be written: both widths are 1 to 8, and each number fits its width.
+    /// Returns `true` if the header can be written: both widths must be 1 to 8, and each number
+    /// must fit its width.
     pub fn fits(&self) -> bool
         ensures { IsTrue result ↔ FitsHeader self.now }
     {
@@ -122,8 +124,8 @@ impl Header {
     }
 }
 
-/// Whether the value can be written as an entity id or a sequence number of so many octets, which
-/// are 1 to 8.
+/// Returns `true` if `width` is 1 to 8 and the value can be written as an entity id or a sequence
+/// number of so many octets.
 #[tactic(auto, using(crate::proofs::Fits::fits_below))]
 pub fn fits_width(value: u64, width: u8) -> bool
     ensures { IsTrue result ↔ FitsWidth value width }

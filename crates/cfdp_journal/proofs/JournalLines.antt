@@ -27,7 +27,7 @@ front_taken whole front is =
     subst (λ w. take (length w - 1) w ≡ front) (sym is)
     (take_at front (10 ∷ []) (length (front ++ 10 ∷ []) - 1) (omega (arith, long)))
 
--- a line behind something, to which something is added before its end
+-- a line after something, to which something is added before its end
 pub line_dressed : (old whole body made behind : List ℕ) → whole ≡ old ++ (body ++ 10 ∷ []) → made ≡ take (length whole - 1) whole ++ behind ++ 10 ∷ [] → IsDressed body made
 line_dressed old whole body made behind is made_is = record {
   front = old;
@@ -35,7 +35,7 @@ line_dressed old whole body made behind is made_is = record {
   is = made_is ∙ ap (λ w. w ++ behind ++ 10 ∷ []) (front_taken whole (old ++ body) (is ∙ sym (append_assoc old body (10 ∷ []))));
 }
 
--- a line behind something
+-- a line after something
 pub line_ends : (old body made : List ℕ) → made ≡ old ++ (body ++ 10 ∷ []) → IsDressed body made
 line_ends old body made is = record {
   front = old;

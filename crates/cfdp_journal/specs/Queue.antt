@@ -1,10 +1,10 @@
--- Lines that wait to be written, each of which is kept whole or lost whole.
+-- Lines that wait to be written, each of which must be kept whole or lost whole.
 use Rattle.std.specs.Prelude.{◌≡◌, ◌≤◌, ◌+◌, ◌++◌, ℕ, List, Option, length, true}
 use Rattle.std.specs.Io.KnownBytes.{Appends}
 use Rattle.cfdp_journal.specs.Journal.Totals.{counted}
 
 -- what waits: whole lines, but that a beginning of the first may be written; and how many lines
--- were lost that nothing tells of yet
+-- were lost that nothing reports yet
 pub record QueueState : Type 0 where
   pub waits : List ℕ
   pub lost : ℕ
@@ -13,7 +13,7 @@ pub record QueueState : Type 0 where
 abbrev pub most_waiting : ℕ
 most_waiting = 65536
 
--- So many octets find room. After a line that was lost none do, until a line tells of that.
+-- `count` octets find room. After a line that was lost none do, until a line reports that.
 abbrev pub HasRoom : QueueState → (count : ℕ) → Type 0
 HasRoom queue count = (queue.lost ≡ 0) × (length queue.waits + count ≤ most_waiting)
 
@@ -27,7 +27,7 @@ pub record LosesLine (old new : QueueState) : Type 0 where
   pub waits : new.waits ≡ old.waits
   pub lost : new.lost ≡ counted true old.lost
 
--- A line that tells how many were lost waits after the others, and they are counted anew.
+-- A line that says how many were lost waits after the others, and they are counted again.
 pub record TellsLost (line : List ℕ) (old new : QueueState) : Type 0 where
   pub waits : new.waits ≡ old.waits ++ line
   pub lost : new.lost ≡ 0

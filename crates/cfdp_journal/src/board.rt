@@ -1,21 +1,27 @@
 //! What a station's console shows of it.
-use crate::journal::meaning::condition_words;
-use crate::journal::totals::Totals;
-use cfdp_console::{Counters, Dropped, FrameCounts, Ledger, LinkStatus, Names, Samples, Status};
-use cfdp_directives::{Condition, Delivery, FileStatus, Indication};
-use cfdp_exchange::{CarrierDrop, Exchange, REFUSALS, refusal_name};
+use crate::details::{DetailsSetup, details_of};
+use crate::journal::meaning::{condition_name, condition_words, name_of_code};
+use crate::journal::noted::{Noted, NotedTopics};
+use crate::journal::style::unix_time;
+use crate::journal::totals::{CONDITIONS, Totals};
+use crate::pdu_watch::SeenPdu;
+use cfdp_console::{
+    Counters, Details, Dropped, Ending, Failed, FrameCounts, Ledger, LinkStatus, Names, NoteShown,
+    OpenPhases, Samples, Status, Told, Way,
+};
+use cfdp_directives::{Condition, Delivery, FileStatus, Indication, Limits};
+use cfdp_exchange::{CarrierDrop, Exchange, NoteKind, REFUSALS, refusal_name};
 use cfdp_header::TransactionId;
-use cfdp_report::Name;
+use cfdp_report::{Name, parse_id};
 use cfdp_service::PutNames;
-use cfdp_station::{EntityDrop, Lane, LinkDrop, Station};
+use cfdp_station::{EntityDrop, Lane, LinkDrop, Phase, Station};
 use cfdp_store::{Inbox, Outbox};
-use jiff::Timestamp;
 use std::alloc::{AllocError, Global};
 
 /// Milliseconds of a second.
 const SECOND: u64 = 1_000;
 
-/// Of which station a board is.
+/// The station that a board is of.
 #[derive(Clone, Copy)]
 pub struct BoardSetup<'a> {
     /// What has the clock.
@@ -27,8 +33,12 @@ pub struct BoardSetup<'a> {
     pub carrier: &'static str,
     /// The peer's address.
     pub to: &'a str,
+    /// The version of the program.
+    pub version: &'static str,
     /// Whether frames are authenticated.
     pub is_authenticated: bool,
+    /// How often the station sends something again.
+    pub limits: Limits,
     /// What passed over the link, and what of that was dropped.
     pub exchange: &'a Exchange,
 }
@@ -38,7 +48,7 @@ pub struct BoardSetup<'a> {
 pub struct Moment {
     /// Milliseconds since the start.
     pub now: u64,
-    /// The time that the station was told last, in units of its clock.
+    /// The time that the station was given last, in units of its clock.
     pub told: u64,
     /// Whether the link is down by plan.
     pub is_frozen: bool,
@@ -60,7 +70,7 @@ pub struct Board<'a> {
 }
 
 impl<'a> Board<'a> {
-    /// Before the first turn.
+    /// Returns a board before the first turn.
     pub fn new(setup: BoardSetup<'a>) -> Board<'a> {
         let alloc = setup.rt.alloc();
         Board {
@@ -72,12 +82,12 @@ impl<'a> Board<'a> {
         }
     }
 
-    /// The transactions.
+    /// Returns the transactions.
     pub fn ledger(&self) -> &Ledger {
         &self.ledger
     }
 
-    /// What passed over the link, second by second.
+    /// Returns what passed over the link, second by second.
     pub fn samples(&self) -> &Samples {
         &self.samples
     }
@@ -92,12 +102,13 @@ impl<'a> Board<'a> {
         self.samples.notes(now / SECOND, counts);
     }
 
-    /// Notes that a put of these names was accepted, of a file of so many octets where that is
+    /// Notes that a put of these names was accepted, of a file of `size` octets if that is
     /// known.
     pub fn put_accepted(&mut self, id: TransactionId, names: &PutNames, size: Option<u64>) {
         let (source, destination) = (names.source.as_slice(), names.destination.as_slice());
         let names = printed(self.setup.rt.alloc(), source, destination);
-        self.ledger.begins(id, names, size);
+        self.ledger
+            .begins(id, names, size, unix_time(self.setup.rt));
     }
 
     /// Notes what the station indicates.
@@ -111,7 +122,8 @@ impl<'a> Board<'a> {
             } => {
                 let alloc = self.setup.rt.alloc();
                 let names = printed(alloc, source.as_slice(), destination.as_slice());
-                self.ledger.begins(*id, names, Some(*size));
+                let time = unix_time(self.setup.rt);
+                self.ledger.begins(*id, names, Some(*size), time);
             }
             Indication::Finished {
                 id,
@@ -124,16 +136,80 @@ impl<'a> Board<'a> {
             }
             Indication::Abandoned(id, condition) => self.ends(*id, false, *condition),
             Indication::Suspended(id, _) => self.ledger.suspends(*id, true),
-            Indication::Resumed(id) => self.ledger.suspends(*id, false),
+            Indication::Resumed(id) => {
+                self.ledger.suspends(*id, false);
+                self.ledger.counts_anew(*id);
+            }
             Indication::EofSent(id) | Indication::EofRecv(id) => self.ledger.notes_eof(*id),
-            Indication::Transaction(_) | Indication::Fault(..) | Indication::Progress(..) => {}
+            Indication::Fault(id, _) => self.ledger.counts_anew(*id),
+            Indication::Transaction(_) | Indication::Progress(..) => {}
         }
     }
 
-    fn ends(&mut self, id: TransactionId, is_complete: bool, condition: Condition) {
+    /// Notes the PDUs that were seen since the last time.
+    pub fn notes_pdus<O: Outbox, I: Inbox>(&mut self, pdus: &[SeenPdu], station: &Station<O, I>) {
+        if pdus.is_empty() {
+            return;
+        }
         let time = unix_time(self.setup.rt);
-        self.ledger
-            .ends(id, is_complete, condition_words(condition), time);
+        for pdu in pdus {
+            self.notes_pdu(pdu, station, time);
+        }
+    }
+
+    fn notes_pdu<O: Outbox, I: Inbox>(
+        &mut self,
+        pdu: &SeenPdu,
+        station: &Station<O, I>,
+        time: u64,
+    ) {
+        let id = pdu.id();
+        let is_open = match station.phase(id) {
+            Some(phase) => phase != Phase::Closed,
+            None => false,
+        };
+        let Some(passed) = self.ledger.passed_mut(id, is_open) else {
+            return;
+        };
+        match pdu {
+            SeenPdu::Nak(_, nak) => passed.notes_nak(nak, time),
+            SeenPdu::Again(_, octets) => passed.notes_again(*octets),
+            SeenPdu::Eof(_, condition) => passed.notes_eof(*condition),
+            SeenPdu::Finished(_) => passed.notes_finished(),
+        }
+    }
+
+    /// Returns the details of the transaction of this id, which is a word as `1:7`; `None` if the
+    /// word is no id.
+    ///
+    /// # Errors
+    ///
+    /// `AllocError` if there is no memory for them.
+    pub fn details<O: Outbox, I: Inbox>(
+        &self,
+        station: &Station<O, I>,
+        word: &[u8],
+    ) -> Result<Option<Details>, AllocError> {
+        let Ok(id) = parse_id(word) else {
+            return Ok(None);
+        };
+        let setup = DetailsSetup {
+            alloc: self.setup.rt.alloc(),
+            ledger: &self.ledger,
+            limits: self.setup.limits,
+            now: self.setup.exchange.told.get(),
+        };
+        Ok(Some(details_of(setup, station, id)?))
+    }
+
+    fn ends(&mut self, id: TransactionId, is_complete: bool, condition: Condition) {
+        let ending = Ending {
+            is_complete,
+            why: condition_words(condition),
+            condition: condition_name(condition),
+            time: unix_time(self.setup.rt),
+        };
+        self.ledger.ends(id, ending);
     }
 
     /// The frames that were counted.
@@ -146,29 +222,39 @@ impl<'a> Board<'a> {
         }
     }
 
-    /// What the station shows of itself now.
+    /// Returns what the station shows of itself now.
     ///
     /// # Errors
     ///
-    /// `AllocError` where there is no memory for it.
+    /// `AllocError` if there is no memory for it.
     pub fn status<O: Outbox, I: Inbox>(
         &self,
         station: &Station<O, I>,
         moment: Moment,
+        noted: &NotedTopics,
     ) -> Result<Status, AllocError> {
-        let setup = self.setup;
+        let (setup, alloc) = (self.setup, self.setup.rt.alloc());
         let timeout = station.next_timeout();
+        let phases = open_phases(station);
         Ok(Status {
             station: setup.own,
             peer: setup.peer,
+            version: setup.version,
             time: unix_time(setup.rt),
             seconds: moment.now / SECOND,
             link: self.link(station, moment)?,
-            open: open_count(station),
+            open: phases.sum(),
+            phases,
             waiting: moment.waiting as u64,
             timeout: timeout.map(|deadline| deadline.saturating_sub(moment.told)),
             counters: counters(station, moment.totals),
-            dropped: dropped(setup.rt.alloc(), station, setup.exchange)?,
+            failed: failed(alloc, moment.totals)?,
+            told: Told {
+                notes: noted.notes(),
+                errors: noted.errors(),
+            },
+            notes: notes(alloc, noted, moment.now / SECOND)?,
+            dropped: dropped(alloc, station, setup.exchange)?,
         })
     }
 
@@ -187,6 +273,8 @@ impl<'a> Board<'a> {
             to: String::from_str(setup.rt.alloc(), setup.to)?,
             silent: self.came_second.map(|came| second.saturating_sub(came)),
             frames: self.frames(),
+            octets_sent: setup.exchange.octets_sent.get(),
+            octets_received: setup.exchange.octets_received.get(),
             thrown_away: setup.exchange.gaps.thrown_away(),
             control_field: control_field(station),
         })
@@ -194,7 +282,7 @@ impl<'a> Board<'a> {
 }
 
 /// The operational control field of the last frame of directives that came, or of the last one of
-/// file data where none of those did.
+/// file data if none of those did.
 fn control_field<O: Outbox, I: Inbox>(station: &Station<O, I>) -> Option<u64> {
     let control = match station.control_field(Lane::Directives) {
         Some(control) => Some(control),
@@ -203,15 +291,7 @@ fn control_field<O: Outbox, I: Inbox>(station: &Station<O, I>) -> Option<u64> {
     control.map(u64::from)
 }
 
-/// The milliseconds since 1970; 0 where the clock can't be read.
-fn unix_time(rt: &HostRuntime) -> u64 {
-    match Timestamp::now(rt) {
-        Ok(time) => u64::try_from(time.as_millisecond()).unwrap_or(0),
-        Err(_) => 0,
-    }
-}
-
-/// Names as a report prints them; `None` where there is no memory for them.
+/// Names as a report prints them; `None` if there is no memory for them.
 fn printed(alloc: Global, source: &[u8], destination: &[u8]) -> Option<Names> {
     Some(Names {
         source: format!(in alloc; "{}", Name(source)).ok()?,
@@ -219,13 +299,72 @@ fn printed(alloc: Global, source: &[u8], destination: &[u8]) -> Option<Names> {
     })
 }
 
-/// How many transactions aren't closed.
-fn open_count<O: Outbox, I: Inbox>(station: &Station<O, I>) -> u64 {
-    let mut count = 0u64;
+/// How many transactions aren't closed, by how far they have come.
+fn open_phases<O: Outbox, I: Inbox>(station: &Station<O, I>) -> OpenPhases {
+    let mut phases = OpenPhases::NONE;
     for (_, phase) in station.transactions() {
-        count = count.saturating_add(u64::from(phase != cfdp_station::Phase::Closed));
+        let count = match phase {
+            Phase::Sending => &mut phases.sending,
+            Phase::Cancelling => &mut phases.cancelling,
+            Phase::Receiving => &mut phases.receiving,
+            Phase::Finishing => &mut phases.finishing,
+            Phase::Closed => continue,
+        };
+        *count = count.saturating_add(1);
     }
-    count
+    phases
+}
+
+/// The conditions by which transactions failed, and how many did.
+fn failed(alloc: Global, totals: Totals) -> Result<Vec<Failed>, AllocError> {
+    let mut all = Vec::new(alloc);
+    for code in 0..CONDITIONS {
+        add_failed(&mut all, Way::Sends, code, totals.failures.sends_by(code))?;
+    }
+    for code in 0..CONDITIONS {
+        add_failed(
+            &mut all,
+            Way::Receives,
+            code,
+            totals.failures.receptions_by(code),
+        )?;
+    }
+    Ok(all)
+}
+
+/// Adds a condition, if its count isn't zero.
+fn add_failed(all: &mut Vec<Failed>, way: Way, code: usize, count: u64) -> Result<(), AllocError> {
+    if count > 0
+        && let Ok(code) = u8::try_from(code)
+    {
+        all.push(Failed {
+            way,
+            code: u64::from(code),
+            condition: name_of_code(code),
+            count,
+        })?;
+    }
+    Ok(())
+}
+
+/// The notes for the operator, as the console shows them in this second since the start.
+fn notes(alloc: Global, noted: &NotedTopics, second: u64) -> Result<Vec<NoteShown>, AllocError> {
+    let mut all = Vec::new(alloc);
+    for note in noted.topics() {
+        all.push(note_shown(alloc, note, second)?)?;
+    }
+    Ok(all)
+}
+
+fn note_shown(alloc: Global, note: &Noted, second: u64) -> Result<NoteShown, AllocError> {
+    Ok(NoteShown {
+        topic: note.topic.name(),
+        is_error: note.kind == NoteKind::Error,
+        text: String::from_str(alloc, note.text.as_str())?,
+        count: note.count,
+        age: second.saturating_sub(note.second),
+        holds: note.holds(second),
+    })
 }
 
 /// What the station counted.
@@ -246,6 +385,7 @@ fn counters<O: Outbox, I: Inbox>(station: &Station<O, I>, totals: Totals) -> Cou
         file_data_sent: sent.file_data,
         file_data_sent_again: sent.file_data_again,
         naks_sent: sent.naks,
+        sends_failed: totals.sends_failed as u64,
     }
 }
 
@@ -297,7 +437,7 @@ fn add_pdu_drops<O: Outbox, I: Inbox>(
     Ok(())
 }
 
-/// Adds a cause, where its count isn't zero.
+/// Adds a cause, if its count isn't zero.
 fn adds(
     all: &mut Vec<Dropped>,
     layer: &'static str,

@@ -2,6 +2,7 @@
 pub mod json;
 pub mod line;
 pub mod meaning;
+pub mod noted;
 pub mod overview;
 pub mod register;
 pub mod stopped;
@@ -10,18 +11,19 @@ pub mod telling;
 pub mod totals;
 
 use crate::journal::line::LINE_ROOM;
+use crate::journal::noted::NotedTopics;
 use crate::journal::overview::{
-    Form, Waiting, shown_alone, shown_open, write_counters, write_list,
+    Clock, Figures, Form, Waiting, shown_alone, shown_open, write_counters, write_list,
 };
-use crate::journal::register::{Register, copied, is_one_of, told_id};
-use crate::journal::style::{Log, Style};
+use crate::journal::register::{Hour, Register, copied, is_one_of, told_id};
+use crate::journal::style::{Log, Style, unix_time};
 use crate::journal::telling::{
-    Why, tell_change, tell_end, tell_file, tell_indication, tell_refusal, tell_rekey,
+    Why, tell_change, tell_end, tell_file, tell_indication, tell_note, tell_refusal, tell_rekey,
 };
 use crate::journal::totals::Totals;
 use cfdp_console::Open;
 use cfdp_directives::Indication;
-use cfdp_exchange::Exchange;
+use cfdp_exchange::{Exchange, Note};
 use cfdp_header::TransactionId;
 use cfdp_report::Exit;
 use cfdp_service::{Outcome, PutNames, Reply};
@@ -32,7 +34,7 @@ use std::io::Write;
 use std::marker::Model;
 use std::{fmt, fs};
 
-/// Of what a log is, and where it looks.
+/// What a log is of, and where it looks.
 #[derive(Clone, Copy)]
 pub struct JournalSetup<'a> {
     /// Whose log it is, and how it is written.
@@ -55,6 +57,7 @@ pub struct Journal<'a, V: Write + Drop> {
     has_failed: bool,
     register: Register,
     totals: Totals,
+    noted: NotedTopics,
     // The last put that was refused.
     refused: Option<RefusedPut>,
 }
@@ -90,11 +93,11 @@ impl<'a, V: Write + Drop> Journal<'a, V> {
     ghost use Rattle.cfdp_journal.specs.Journal.Written.{AnswersPut, CountsPut, CountsTold, Logs};
     ghost use Rattle.cfdp_journal.specs.Journal.Written.{begins};
 
-    /// Before anything was told. The log goes to this writer.
+    /// Returns a log before anything was given to it. The log goes to this writer.
     ///
     /// # Errors
     ///
-    /// `AllocError` where there is no memory for a line.
+    /// `AllocError` if there is no memory for a line.
     pub fn new(setup: JournalSetup<'a>, out: V) -> Result<Self, AllocError>
         ensures { IfOk result (λ journal. journal
             ≡ begins setup.entry.log.own setup.entry.log.style (V.contents out)
@@ -112,12 +115,13 @@ impl<'a, V: Write + Drop> Journal<'a, V> {
             has_failed: false,
             register: Register::new(alloc),
             totals: Totals::NONE,
+            noted: NotedTopics::new(alloc),
             refused: None,
         })
     }
 
-    /// Hears how a put of these names was answered; of a file that was put before where `is_again`.
-    /// A line tells one that was refused, with how many puts were made.
+    /// Hears how a put of these names was answered; of a file that was put before if `is_again`.
+    /// A line reports one that was refused, with how many puts were made.
     pub fn put_answered(&mut self, names: &PutNames, reply: Reply, is_again: bool)
         ensures { AnswersPut reply is_again self.old self.new }
     {
@@ -135,7 +139,8 @@ impl<'a, V: Write + Drop> Journal<'a, V> {
         self.totals.counts_put(Ok(id), is_again);
         self.refused = None;
         let size = length_of(self.setup, names);
-        self.register.begins(id, names, size);
+        let time = unix_time(self.setup.log.rt);
+        self.register.begins(id, names, size, time);
     }
 
     fn put_refused(&mut self, names: &PutNames, error: PutError, is_again: bool)
@@ -153,8 +158,8 @@ impl<'a, V: Write + Drop> Journal<'a, V> {
         self.has_failed = told.is_err();
     }
 
-    /// Hears how the change of a transaction was answered that was asked for last. Where it was
-    /// refused a line tells so, but in the plain style.
+    /// Hears how the change of a transaction was answered that was asked for last. If it was
+    /// refused a line says so, except in the plain style.
     pub fn change_answered(&mut self, reply: Reply)
         ensures logs { Logs Notes self.old self.new }
         ensures totals { self.new.totals ≡ self.old.totals }
@@ -180,14 +185,18 @@ impl<'a, V: Write + Drop> Journal<'a, V> {
         self.has_failed = told.is_err();
     }
 
-    /// Hears what the station indicates. A line tells it.
+    /// Hears what the station indicates. A line says it.
     pub fn hears(&mut self, indication: &Indication)
         ensures counts { CountsTold self.old.own indication.now self.old.totals self.new.totals }
         ensures logs { Logs (Tells indication.now) self.old self.new }
     {
         let (log, id) = (self.setup.log, told_id(indication));
         let is_over = self.register.is_over(id);
-        self.register.hears(indication);
+        let now = Hour {
+            told: self.setup.exchange.told.get(),
+            unix: unix_time(log.rt),
+        };
+        self.register.hears(indication, now);
         let size = self.register.size(id);
         self.totals.hears(log.own, indication, is_over, size);
         if self.has_failed {
@@ -198,7 +207,21 @@ impl<'a, V: Write + Drop> Journal<'a, V> {
         self.has_failed = told.is_err();
     }
 
-    /// Hears what became of a file that lay in a spool. A line tells it, and why, where that is
+    /// Counts a note of this second since the start. A line reports it, except in the plain style.
+    pub fn notes(&mut self, note: &Note, second: u64)
+        ensures logs { Logs Notes self.old self.new }
+        ensures totals { self.new.totals ≡ self.old.totals }
+    {
+        self.noted.counts(note, second);
+        if self.has_failed {
+            return;
+        }
+        let names = self.register.names_of(note.id);
+        let told = tell_note(&mut self.out, &mut self.line, self.setup.log, note, names);
+        self.has_failed = told.is_err();
+    }
+
+    /// Hears what became of a file that lay in a spool. A line says it, and why, if that is
     /// known, but in the plain style.
     pub fn ends_file(&mut self, name: &[u8], outcome: Outcome)
         ensures logs { Logs Notes self.old self.new }
@@ -219,8 +242,9 @@ impl<'a, V: Write + Drop> Journal<'a, V> {
         self.has_failed = told.is_err();
     }
 
-    /// Hears that the station is at its end. The last lines tell its counters, but in the plain
-    /// style, and how many of the files that it was to send were sent.
+    /// Hears that the station is at its end. The last lines report its counters, except in the
+    /// plain
+    /// style, and how many of the files that it must send were sent.
     pub fn ends<O: Outbox, I: Inbox>(&mut self, station: &Station<O, I>)
         ensures logs { Logs (Completes self.old.totals.complete self.old.totals.asked) self.old
             self.new }
@@ -238,19 +262,22 @@ impl<'a, V: Write + Drop> Journal<'a, V> {
         if self.has_failed {
             return;
         }
-        let (log, exchange) = (self.setup.log, self.setup.exchange);
+        let figures = Figures {
+            totals: &self.totals,
+            exchange: self.setup.exchange,
+            noted: &self.noted,
+        };
         let told = tell_end(
             &mut self.out,
             &mut self.line,
-            log,
-            &self.totals,
-            exchange,
+            self.setup.log,
+            figures,
             station,
         );
         self.has_failed = told.is_err();
     }
 
-    /// Writes out what was told. Lets go of what is known of transactions that are over and closed,
+    /// Writes out what was given. Drops what is known of transactions that are over and closed,
     /// once that is much. Who calls it between turns has a log that is at hand, and whose memory
     /// follows what is open.
     pub fn looks_at<O: Outbox, I: Inbox>(&mut self, station: &Station<O, I>)
@@ -261,7 +288,7 @@ impl<'a, V: Write + Drop> Journal<'a, V> {
         self.register.lets_go(station);
     }
 
-    /// Has what was told leave the buffer of the writer.
+    /// Has what was given leave the buffer of the writer.
     fn write_out(&mut self)
         ensures own { self.new.own ≡ self.old.own }
         ensures style { self.new.style ≡ self.old.style }
@@ -274,21 +301,21 @@ impl<'a, V: Write + Drop> Journal<'a, V> {
         }
     }
 
-    /// Whether the writer has failed.
+    /// Returns `true` if the writer has failed.
     pub fn has_failed(&self) -> bool
         ensures { result ≡ self.now.has_failed }
     {
         self.has_failed
     }
 
-    /// What was done, in numbers.
+    /// Returns what was done, in numbers.
     pub fn totals(&self) -> Totals
         ensures { result ≡ self.now.totals }
     {
         self.totals
     }
 
-    /// How the run ended, by whether memory was wanting in it and whether a store failed.
+    /// Returns how the run ended, by whether memory ran out in it and whether a store failed.
     pub fn exit(&self, is_short: bool, has_store_failed: bool) -> Exit
         ensures { result ≡ with_failures self.now.totals.failed (run_exit
             (is_short || self.now.totals.is_short) has_store_failed self.now.totals.complete
@@ -301,7 +328,7 @@ impl<'a, V: Write + Drop> Journal<'a, V> {
     ///
     /// # Errors
     ///
-    /// That of the writer, and an error where there is no memory.
+    /// That of the writer, and an error if there is no memory.
     pub fn list<O: Outbox, I: Inbox, W: fmt::Write>(
         &self,
         out: &mut W,
@@ -324,62 +351,91 @@ impl<'a, V: Write + Drop> Journal<'a, V> {
         form: Form,
         station: &Station<O, I>,
     ) -> fmt::Result {
-        write_counters(out, form, &self.totals, self.setup.exchange, station)
+        let figures = Figures {
+            totals: &self.totals,
+            exchange: self.setup.exchange,
+            noted: &self.noted,
+        };
+        write_counters(out, form, figures, station)
     }
 
-    /// The transactions that are open, in order of their ids, as the console shows them.
+    /// Returns the transactions that are open, in order of their ids, as the console shows them.
     ///
     /// # Errors
     ///
-    /// `AllocError` where there is no memory for them.
+    /// `AllocError` if there is no memory for them.
     pub fn shown<O: Outbox, I: Inbox>(
         &self,
         station: &Station<O, I>,
-        now: u64,
+        clock: Clock,
     ) -> Result<Vec<Open>, AllocError> {
         let log = self.setup.log;
-        shown_open(log.rt.alloc(), &self.register, station, now, log.own)
+        shown_open(log.rt.alloc(), &self.register, station, clock, log.own)
     }
 
-    /// The transaction of this id, which is a word as `1:7`, as the console shows it; nothing where
-    /// none is open.
+    /// Returns the transaction of this id, which is a word as `1:7`, as the console shows it;
+    /// the vector is empty if none is open.
     ///
     /// # Errors
     ///
-    /// `AllocError` where there is no memory for it.
+    /// `AllocError` if there is no memory for it.
     pub fn shown_alone<O: Outbox, I: Inbox>(
         &self,
         station: &Station<O, I>,
-        now: u64,
+        clock: Clock,
         word: &[u8],
     ) -> Result<Vec<Open>, AllocError> {
         let log = self.setup.log;
-        shown_alone(log.rt.alloc(), &self.register, station, now, log.own, word)
+        shown_alone(
+            log.rt.alloc(),
+            &self.register,
+            station,
+            clock,
+            log.own,
+            word,
+        )
     }
 
-    /// How many octets the file of a transaction has, where that is known.
+    /// Returns the id of the entity whose log it is.
+    pub fn own(&self) -> u64
+        ensures { result ≡ self.now.own }
+    {
+        self.setup.log.own
+    }
+
+    /// Returns the names of the file of a transaction, if they are known.
+    pub fn names(&self, id: TransactionId) -> Option<&PutNames> {
+        self.register.names(id)
+    }
+
+    /// Returns how many octets the file of a transaction has, if that is known.
     pub fn size(&self, id: TransactionId) -> Option<u64> {
         self.register.size(id)
     }
 
-    /// The writer, lent.
+    /// Returns the notes since the start.
+    pub fn noted(&self) -> &NotedTopics {
+        &self.noted
+    }
+
+    /// Borrows the writer.
     pub fn writer(&self) -> &V {
         &self.out
     }
 
-    /// The writer, lent to write to it what is no line of the log.
+    /// Borrows the writer to write to it what is no line of the log.
     pub fn writer_mut(&mut self) -> &mut V {
         &mut self.out
     }
 
-    /// The writer.
+    /// Returns the writer.
     pub fn into_writer(self) -> V
         ensures { V.contents result ≡ self.entry.written }
     {
         self.out
     }
 
-    /// Why a file wasn't sent, where that is known.
+    /// Why a file wasn't sent, if that is known.
     fn why(&self, name: &[u8], outcome: Outcome) -> Option<Why> {
         match (outcome, &self.refused) {
             (Outcome::Sent, _) => None,
@@ -394,7 +450,7 @@ impl<'a, V: Write + Drop> Journal<'a, V> {
     }
 }
 
-/// How many octets a file has that is sent, where that can be had.
+/// How many octets a file has that is sent, if that can be had.
 fn length_of(setup: JournalSetup<'_>, names: &PutNames) -> Option<u64> {
     let (folder, rt) = (setup.outbox?, setup.log.rt);
     let name = str::from_utf8(names.source.as_slice()).ok()?;
@@ -402,7 +458,7 @@ fn length_of(setup: JournalSetup<'_>, names: &PutNames) -> Option<u64> {
     Some(fs::metadata(rt, path.as_str()).ok()?.len())
 }
 
-/// A put that was refused; `None` where there is no memory.
+/// A put that was refused; `None` if there is no memory.
 fn refused_put(log: Log<'_>, names: &PutNames, error: PutError) -> Option<RefusedPut> {
     let (source, destination) = (names.source.as_slice(), names.destination.as_slice());
     let names = copied(log.rt.alloc(), source, destination).ok()?;

@@ -3,7 +3,7 @@ use cfdp_console::LogLines;
 use std::io;
 use std::io::Write;
 
-/// A writer behind which the last lines of what was written are kept, where that is asked for.
+/// A writer after which the last lines of what was written are kept, if that is asked for.
 #[derive(Drop)]
 pub struct KeptLog<V: Write + Drop> {
     out: V,
@@ -11,17 +11,17 @@ pub struct KeptLog<V: Write + Drop> {
 }
 
 impl<V: Write + Drop> KeptLog<V> {
-    /// One over this writer; with lines, what is written is added to these.
+    /// Returns a log over this writer; if lines are given, what is written is added to these.
     pub fn new(out: V, lines: Option<LogLines>) -> KeptLog<V> {
         KeptLog { out, lines }
     }
 
-    /// The last lines, where they are kept.
+    /// Returns the last lines, if they are kept.
     pub fn lines(&self) -> Option<&LogLines> {
         self.lines.as_ref()
     }
 
-    /// The writer, lent.
+    /// Borrows the writer.
     pub fn inner(&self) -> &V {
         &self.out
     }
@@ -35,7 +35,7 @@ impl<V: Write + Drop> KeptLog<V> {
         self.out.write_all(octets)
     }
 
-    /// The writer.
+    /// Returns the writer.
     pub fn into_inner(self) -> V {
         self.out
     }

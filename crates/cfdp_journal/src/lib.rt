@@ -5,17 +5,21 @@
 #![tactic(auto)]
 
 mod board;
+mod details;
 mod journal;
 mod kept_log;
 mod line_queue;
 mod lossy_log;
+mod pdu_watch;
 
 pub use board::{Board, BoardSetup, Moment};
-pub use journal::overview::{Form, Waiting};
+pub use journal::noted::{Noted, NotedTopics};
+pub use journal::overview::{Clock, Form, Waiting};
 pub use journal::stopped::Stopped;
 pub use journal::style::{Log, Style};
-pub use journal::totals::Totals;
+pub use journal::totals::{Failures, Totals};
 pub use journal::{Journal, JournalSetup};
 pub use kept_log::KeptLog;
 pub use line_queue::{LineQueue, MOST_WAITING};
 pub use lossy_log::LossyLog;
+pub use pdu_watch::{PduWatch, SeenPdu, SeenPdus};

@@ -12,8 +12,8 @@ use std::marker::Model;
 pub const MOST_WAITING: usize = 65_536;
 
 /// Whole lines that wait to be written, up to 64 KiB, and how many were lost. Once one was lost no
-/// further one is kept until a line tells of that: so the lines that are missing in the log are
-/// those in front of that line.
+/// further one is kept until a line reports that: so the lines that are missing in the log are
+/// those before that line.
 #[derive(Drop)]
 pub struct LineQueue {
     octets: Vec<u8>,
@@ -64,14 +64,14 @@ impl LineQueue {
         self.octets.is_empty()
     }
 
-    /// Returns how many lines were lost that nothing tells of yet.
+    /// Returns how many lines were lost that nothing reports yet.
     pub fn lost(&self) -> u64
         ensures { result ≡ self.now.lost }
     {
         self.lost
     }
 
-    /// Returns `true` if a line of so many octets would be kept.
+    /// Returns `true` if a line of `count` octets would be kept.
     pub fn has_room(&self, count: usize) -> bool
         ensures { IsTrue result ↔ HasRoom self.now count }
     {
@@ -80,7 +80,8 @@ impl LineQueue {
             && count <= MOST_WAITING - self.octets.len()
     }
 
-    /// Has a line wait, with its line feed, if there is room for it. Otherwise it is lost.
+    /// Adds a line, with its line feed, to what waits, if there is room for it. Otherwise it is
+    /// lost.
     pub fn add(&mut self, line: &[u8])
         ensures kept { HasRoom self.old (length line.now) → KeepsLine line.now self.old self.new }
         ensures lost { (HasRoom self.old (length line.now) → ⊥) → LosesLine self.old self.new }
@@ -99,7 +100,7 @@ impl LineQueue {
         self.lost = self.lost.saturating_add(1);
     }
 
-    /// Has a line wait that tells how many were lost, if nothing else waits.
+    /// Adds a line that says how many were lost. Nothing else may wait.
     pub fn tell_lost(&mut self, line: &[u8])
         requires waits { self.old.waits ≡ [] }
         requires short { length line.now ≤ 65536 }

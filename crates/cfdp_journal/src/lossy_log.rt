@@ -1,4 +1,4 @@
-//! A log over standard output that loses lines where standard output takes none.
+//! A log over standard output that loses lines if standard output takes none.
 use crate::journal::json::{begin_object, end_object};
 use crate::journal::line::{LINE_ROOM, add_time};
 use crate::journal::style::{Log, Style};
@@ -20,7 +20,7 @@ const STANDARD_OUTPUT: RawFd = 1;
 /// The most octets of a line, as many as may wait.
 const MOST_LINE: usize = 65_536;
 
-/// Where more octets wait, they are written in the midst of a turn.
+/// If more octets wait, they are written in the midst of a turn.
 const MANY: usize = 8192;
 
 /// The most octets that are written at once: a pipe that is ready takes so many without a wait
@@ -43,9 +43,9 @@ const LAST_PATIENCE: i32 = 2_000;
 /// After so many milliseconds a write that failed is tried again.
 const AFTER_FAILURE: u128 = 1_000;
 
-/// A log over standard output, which is never waited for long. Whole lines wait where it takes
+/// A log over standard output, which is never waited for long. Whole lines wait if it takes
 /// none, as a pipe that nobody reads or a full disk; those for which there is no room any more are
-/// lost, and counted. Once what waited is written, a line tells how many were lost there.
+/// lost, and counted. Once what waited is written, a line says how many were lost there.
 #[derive(Drop)]
 pub struct LossyLog<'a> {
     log: Log<'a>,
@@ -61,7 +61,7 @@ pub struct LossyLog<'a> {
 }
 
 impl<'a> LossyLog<'a> {
-    /// Returns a log of which nothing is written yet, with memory for all that may wait.
+    /// Returns a log to which nothing is written yet, with memory for all that may wait.
     ///
     /// # Errors
     ///
@@ -79,7 +79,7 @@ impl<'a> LossyLog<'a> {
         })
     }
 
-    /// Adds what a wait is to look at, so that it ends once standard output takes more. After a
+    /// Adds what a wait must look at, so that it ends once standard output takes more. After a
     /// failure it is tried each second instead.
     pub fn watches(&self, watched: &mut Watched) {
         if !self.queue.is_empty() && self.failed_at.is_none() {
@@ -214,7 +214,7 @@ impl<'a> LossyLog<'a> {
         }
     }
 
-    /// Has a line wait that tells how many lines were lost, if some were and there is memory for
+    /// Has a line wait that says how many lines were lost, if some were and there is memory for
     /// it.
     fn tells_lost(&mut self) {
         let lost = self.queue.lost();
@@ -296,12 +296,12 @@ fn is_passing(kind: ErrorKind) -> bool {
     matches!(kind, ErrorKind::WouldBlock | ErrorKind::Interrupted)
 }
 
-/// The milliseconds since then; `None` where that isn't known.
+/// The milliseconds since then; `None` if that isn't known.
 fn milliseconds_since(log: Log<'_>, then: Option<Instant>) -> Option<u128> {
     Some(then?.elapsed(log.rt).ok()?.as_millis())
 }
 
-/// Makes the line that tells how many lines were lost.
+/// Makes the line that says how many lines were lost.
 fn make_lost(line: &mut Vec<u8>, log: Log<'_>, lost: u64) -> io::Result<()> {
     match log.style {
         Style::Json { .. } => {

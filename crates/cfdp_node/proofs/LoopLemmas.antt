@@ -1,4 +1,4 @@
--- What is told of turns, and of the put before them.
+-- What is reported of turns, and of the put before them.
 use Rattle.std.proofs.Common.{◌≡◌, ◌⊎◌, ℕ, Bool, inl, inr, is_err, OnOk, List, OnErr, Ok, Err, Option, Result, subst, sym, ⊎_elim}
 use Rattle.std.specs.FinMap.{empty}
 use Rattle.std.specs.Io.KnownBytes.{Keeps}
@@ -19,8 +19,8 @@ use Rattle.cfdp_report.specs.declared.exit.Exit.{Exit}
 use Rattle.cfdp_report.specs.declared.exit.Exit.TheVariants.{Complete, Incomplete, BadScript, Device}
 use Rattle.cfdp_report.specs.declared.exit.Fault.TheVariants.{Unreadable, TooLong, Unwritable, NoMemoryAtStart, NoMemory}
 
--- ---- what is told
--- what follows from what is told is told
+-- ---- what is reported
+-- what follows from what is reported is reported
 pub told_too : (exit : Exit) (P Q : Type 0) → (P → Q) → IsTold exit P → IsTold exit Q
 told_too Complete P Q so told = so told
 told_too Incomplete P Q so told = so told
@@ -31,7 +31,7 @@ told_too (Device Unwritable) P Q so told = tt
 told_too (Device (Unreadable kind)) P Q so told = so told
 told_too (Device TooLong) P Q so told = so told
 
--- what is so is told
+-- what is so is reported
 pub is_told : (exit : Exit) (P : Type 0) → P → IsTold exit P
 is_told Complete P so = so
 is_told Incomplete P so = so

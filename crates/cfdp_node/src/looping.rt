@@ -25,12 +25,12 @@ use std::io;
 use std::io::{BufWriter, Write};
 use valid_config::Valid;
 
-/// What is to be sent, and how.
+/// What must be sent, and how.
 #[derive(Drop)]
 pub struct LoopOptions {
     /// The file's name in the outbox of the first station.
     pub source: Vec<u8>,
-    /// The name under which the second station is to publish it.
+    /// The name under which the second station must publish it.
     pub destination: Vec<u8>,
     /// The most turns that are taken.
     pub turns: u64,
@@ -60,22 +60,22 @@ struct Second<I: Inbox, W: Wire> {
 /// How a put and its turns ended.
 #[derive(Clone, Copy)]
 pub struct Ended {
-    /// What the put answered, where it wasn't accepted.
+    /// What the put answered, if it wasn't accepted.
     pub answer: Option<Answer>,
-    /// Whether memory was wanting.
+    /// Whether memory ran out.
     pub short: bool,
 }
 
 /// Sends a file of an outbox from one station to another, which puts it into an inbox, and writes
 /// the report, which has left the buffer then.
 ///
-/// The put is made before the first turn. A turn tells both stations its number as the time, lets
+/// The put is made before the first turn. A turn gives both stations its number as the time, lets
 /// each send, the first one first, and then lets each take what came. The run ends when
 /// the put is closed at the first station and isn't open at the second, or after so many turns.
 ///
-/// A want of memory ends it, and is told as `Device` with the report; so is a put that isn't
-/// complete where a store failed. Where there is none for the stations, nothing is written. A
-/// report that can't be written to its end is not begun again.
+/// If memory runs out, that ends it, and is reported as `Device`; so is a put that isn't
+/// complete if a store failed. If there is none for the stations, nothing is written. A
+/// report that can't be written to its end isn't restarted.
 ///
 /// Who looks on sees all that passes, and that no more does before the report is written.
 pub fn run_loop<O: Outbox, I: Inbox, W: Wire, V: Write + Drop, L: Lookout>(
@@ -168,7 +168,7 @@ fn run_second<O: Outbox, I: Inbox, J: Inbox, W: Wire, V: Write, L: Lookout>(
 }
 
 /// Runs all at two stations that did nothing yet, and writes the report. Both are left as the turns
-/// left them, also where the report can't be written.
+/// left them, also if the report can't be written.
 pub fn run_both<O: Outbox, I: Inbox, P: Outbox, J: Inbox, W: Wire, V: Write, L: Lookout>(
     options: &LoopOptions,
     one: &mut Port<O, J, W>,
@@ -190,15 +190,15 @@ pub fn run_both<O: Outbox, I: Inbox, P: Outbox, J: Inbox, W: Wire, V: Write, L: 
     }
 }
 
-/// Whether a run failed by a store: one that failed counts only where the put isn't complete.
+/// Whether a run failed by a store: one that failed counts only if the put isn't complete.
 fn has_failed(failed: bool, complete: usize) -> bool
     ensures { result ≡ (failed && not (complete == 1)) }
 {
     failed && complete != 1
 }
 
-/// Whether the stores have failed more often than so: the first station's outbox, and the second
-/// one's inbox.
+/// Returns `true` if the stores have failed more often than so: the first station's outbox, and the
+/// second one's inbox.
 pub fn have_failed<O: Outbox, I: Inbox, P: Outbox, J: Inbox, W: Wire>(
     one: &Port<O, J, W>,
     two: &Port<P, I, W>,
@@ -234,7 +234,7 @@ fn run<O: Outbox, I: Inbox, P: Outbox, J: Inbox, W: Wire, L: Lookout>(
     }
 }
 
-/// What is told of a put that was refused.
+/// Returns what is reported of a put that was refused.
 pub fn refused(error: PutError) -> Ended
     ensures answer { result.answer ≡ Some (refusal_answer error) }
     ensures short { result.short ≡ is_no_memory error }
@@ -256,7 +256,7 @@ pub fn refused(error: PutError) -> Ended
     }
 }
 
-/// Writes the report, and answers how many puts it tells complete.
+/// Writes the report, and returns how many puts it says to be complete.
 ///
 /// # Errors
 ///

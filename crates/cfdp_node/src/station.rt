@@ -2,25 +2,33 @@
 ghost use Rattle.std.specs.Prelude.{IfOk};
 
 pub mod console_door;
+pub mod earlier;
 pub mod notices;
 pub mod operation;
 pub mod operator;
+pub mod refusals;
+pub mod resuming;
 pub mod setup;
 
 use crate::station::console_door::door;
-use crate::station::operation::{Context, SecuredEnds, StationParts, StationSpool, ran};
+use crate::station::operation::{Context, SecuredEnds, StationParts, StationSpool, Transfers, ran};
+use crate::station::resuming::{Found, found_journal, held_folder};
 use crate::station::setup::{StationSetup, key_hint};
 use crate::transfers::named_files::{check_file, check_name, folder, folder_outbox, tell_untold};
 use crate::transfers::secured_links::keys_in;
-use cfdp_command_line::{CarrierKind, StationNumbers, StationRequest, TimeUnit, note_losses};
-use cfdp_control::{LineSources, address_cause};
+use crate::transfers::teller::{SpoolNotes, Teller, note};
+use cfdp_command_line::{
+    CarrierKind, StationNumbers, StationRequest, TimeUnit, note_losses, tell_line,
+};
+use cfdp_control::{LineSources, address_cause, is_malformed, remove_socket, socket_path};
 use cfdp_datagrams::{Carrier, Pace, PeerSocket, SharedNumbers, Unit, Unusable};
-use cfdp_exchange::{Beacon, Exchange};
+use cfdp_exchange::{Beacon, Exchange, NoteTopic};
 use cfdp_files::{
     HeldFolder, Reservation, StateError, Wanted, is_same_folder, lies_in, try_folder,
 };
+use cfdp_journal::SeenPdus;
 use cfdp_report::{Hint, LineError, cause_text, parse_number, parse_setting};
-use cfdp_spool::{FolderSpool, StandardErrorTeller};
+use cfdp_spool::FolderSpool;
 use cfdp_station::StationConfig;
 use cfdp_watch::{Progress, shown_status};
 use frame_security::LinkKeys;
@@ -28,12 +36,13 @@ use station_pair::{Side, WorldConfig};
 use std::cell::Cell;
 use std::io::ErrorKind;
 use std::{fs, io};
+use transfer_journal::{JournalSetup, TransferJournal};
 use valid_config::Valid;
 
 /// The exit status of bad arguments.
 const MISTAKE: u8 = 2;
 
-/// The exit status where a folder, a file, a socket or memory failed.
+/// The exit status if a folder, a file, a socket or memory failed.
 const DEVICE: u8 = 3;
 
 /// What a station has before it opens its socket.
@@ -50,13 +59,15 @@ struct Prepared<'a> {
     held: Option<HeldFolder>,
     /// Its spool, if it has one.
     spool: Option<StationSpool<'a>>,
+    /// What its journal says.
+    found: Found,
 }
 
 /// Runs the station that is asked for, writes the report to standard output, and says on standard
 /// error what went wrong. Answers the exit status.
 ///
 /// What may be wrong is looked for in this order: the console, the control address, what is set,
-/// the file of keys, the names of files that are to be sent, the folders, those files, the file of
+/// the file of keys, the names of files that must be sent, the folders, those files, the file of
 /// reserved numbers,
 /// the addresses.
 pub fn station_status(rt: &HostRuntime, request: &StationRequest) -> u8 {
@@ -69,16 +80,28 @@ pub fn station_status(rt: &HostRuntime, request: &StationRequest) -> u8 {
 ///
 /// # Errors
 ///
-/// The exit status, where something is wrong at its start, which was told on standard error.
+/// The exit status, if something is wrong at its start, as standard error says.
 fn started_status(rt: &HostRuntime, request: &StationRequest) -> Result<u8, u8> {
     // First of all: a process that was given no standard input has none once a file is opened.
-    let sources = sources(rt, request)?;
-    match prepare(rt, request) {
-        Ok(prepared) => bound_status(rt, request, sources, prepared),
+    let exchange = Exchange::new(rt.alloc());
+    let sources = sources(rt, request, &exchange)?;
+    let status = match prepare(rt, request, &exchange) {
+        Ok(prepared) => bound_status(rt, request, sources, prepared, &exchange),
         Err(status) => {
             drop(sources);
             Err(status)
         }
+    };
+    remove_control(rt, request);
+    status
+}
+
+/// Removes the file of the control address, if that is a Unix socket.
+fn remove_control(rt: &HostRuntime, request: &StationRequest) {
+    if let Some(address) = &request.control
+        && let Some(path) = socket_path(address.as_str())
+    {
+        remove_socket(rt, path);
     }
 }
 
@@ -86,24 +109,29 @@ fn started_status(rt: &HostRuntime, request: &StationRequest) -> Result<u8, u8> 
 ///
 /// # Errors
 ///
-/// The exit status, where something is wrong, which was told on standard error.
-fn prepare<'a>(rt: &'a HostRuntime, request: &StationRequest) -> Result<Prepared<'a>, u8> {
+/// The exit status, where something is wrong, which was reported on standard error.
+fn prepare<'a>(
+    rt: &'a HostRuntime,
+    request: &StationRequest,
+    exchange: &'a Exchange,
+) -> Result<Prepared<'a>, u8> {
     check_addresses(rt, request)?;
     let setup = set_up(rt, request)?;
     check_fields(rt, request, &setup)?;
-    begun(rt, request, &setup)
+    begun(rt, request, &setup, exchange)
 }
 
 /// Opens the station's socket, and runs the station.
 ///
 /// # Errors
 ///
-/// The exit status, where the socket can't be had, which was told on standard error.
+/// The exit status, if the socket can't be had, as standard error says.
 fn bound_status<'a>(
     rt: &'a HostRuntime,
     request: &'a StationRequest,
     sources: LineSources<'a>,
     prepared: Prepared<'a>,
+    exchange: &'a Exchange,
 ) -> Result<u8, u8> {
     let Prepared {
         config,
@@ -113,8 +141,8 @@ fn bound_status<'a>(
         reservation,
         held: _held,
         spool,
+        found,
     } = prepared;
-    let exchange = Exchange::new();
     exchange.numbers_left.set(reservation.numbers_left());
     let frame_count = reservation.frame_count();
     let own = WorldConfig::station(config, side_of(request)).get();
@@ -122,7 +150,7 @@ fn bound_status<'a>(
     let pace = pace_of(request, &on_link, carrier);
     let ends = secured_ends(&setup, keys, &reservation);
     let numbers = SharedNumbers::over(reservation);
-    match socket(rt, request, pace, &numbers, &exchange) {
+    match socket(rt, request, pace, &numbers, exchange) {
         Ok(socket) => {
             let parts = StationParts {
                 socket,
@@ -134,7 +162,7 @@ fn bound_status<'a>(
                 numbers: &numbers,
                 ends,
             };
-            let status = ran_status(rt, request, parts, spool, &exchange);
+            let status = ran_status(rt, request, parts, (spool, found), exchange);
             let _ = numbers.settles();
             Ok(status)
         }
@@ -161,12 +189,12 @@ fn secured_ends(
     })
 }
 
-/// Looks whether the station has another address than its peer, and says where none of its frames
-/// can arrive.
+/// Looks whether the station has another address than its peer, and says if none of its frames can
+/// arrive.
 ///
 /// # Errors
 ///
-/// The exit status, where both are one, which was told on standard error.
+/// The exit status, if both are one, as standard error says.
 fn check_addresses(rt: &HostRuntime, request: &StationRequest) -> Result<(), u8> {
     note_losses(rt, request.numbers.losses);
     let to = request.to.as_str();
@@ -181,9 +209,13 @@ fn check_addresses(rt: &HostRuntime, request: &StationRequest) -> Result<(), u8>
 ///
 /// # Errors
 ///
-/// The exit status, where the control address or the console can't be had, which was told on
+/// The exit status, where the control address or the console can't be had, which was reported on
 /// standard error.
-fn sources<'a>(rt: &'a HostRuntime, request: &StationRequest) -> Result<LineSources<'a>, u8> {
+fn sources<'a>(
+    rt: &'a HostRuntime,
+    request: &StationRequest,
+    exchange: &Exchange,
+) -> Result<LineSources<'a>, u8> {
     let control = match &request.control {
         Some(address) => Some(address.as_str()),
         None => None,
@@ -194,24 +226,26 @@ fn sources<'a>(rt: &'a HostRuntime, request: &StationRequest) -> Result<LineSour
         Err(error) => {
             let address = control.unwrap_or("");
             let _ = eprintln!(rt; "error: --control {address}: {error}");
-            return Err(DEVICE);
+            return Err(if error.is_mistake() { MISTAKE } else { DEVICE });
         }
     };
     if has_any_port(control)
         && let Some(address) = sources.control_address()
     {
-        let _ = eprintln!(rt; "note: accepting commands at {address}");
+        let text = format!(in rt.alloc(); "accepting commands at {address}");
+        note(rt, &exchange.notes, NoteTopic::Control, text);
     }
-    tell_console(rt, &sources);
+    tell_console(rt, &sources, exchange);
     Ok(sources)
 }
 
 /// Says where a browser is shown the station.
-fn tell_console(rt: &HostRuntime, sources: &LineSources<'_>) {
+fn tell_console(rt: &HostRuntime, sources: &LineSources<'_>, exchange: &Exchange) {
     if let Some(door) = sources.door()
         && let Ok(address) = door.listener().local_addr()
     {
-        let _ = eprintln!(rt; "note: console at http://{address}/");
+        let text = format!(in rt.alloc(); "console at http://{address}/");
+        note(rt, &exchange.notes, NoteTopic::Console, text);
     }
 }
 
@@ -223,24 +257,27 @@ fn has_any_port(address: Option<&str>) -> bool {
     }
 }
 
-/// Looks at what is set, at names, folders and the files that are to be sent, takes the folder of
+/// Looks at what is set, at names, folders and the files that must be sent, takes the folder of
 /// the inbox, and reserves numbers.
 ///
 /// # Errors
 ///
-/// The exit status, where something is wrong, which was told on standard error.
+/// The exit status, if something is wrong, as standard error says.
 fn begun<'a>(
     rt: &'a HostRuntime,
     request: &StationRequest,
     setup: &StationSetup,
+    exchange: &'a Exchange,
 ) -> Result<Prepared<'a>, u8> {
-    let _ = configuration(rt, request, setup)?;
+    let (config, _) = configuration(rt, request, setup)?;
     let keys = keys(rt, request)?;
-    let held = held_inbox(rt, request)?;
+    let found = found_journal(rt, request, config, exchange)?;
+    let held = held_inbox(rt, request, &found)?;
     check_outbox(rt, request)?;
-    let spool = spool(rt, request)?;
+    let spool = spool(rt, request, exchange)?;
     let reservation = reserved(rt, request, setup)?;
     check_kept(rt, request, &reservation)?;
+    found.check_number(rt, request, reservation.number())?;
     let setup = setup.beginning_at(reservation.number());
     let (config, carrier) = configuration(rt, request, &setup)?;
     Ok(Prepared {
@@ -251,10 +288,11 @@ fn begun<'a>(
         reservation,
         held,
         spool,
+        found,
     })
 }
 
-/// Reads the keys, if frames are to be authenticated.
+/// Reads the keys, if frames must be authenticated.
 ///
 /// # Errors
 ///
@@ -309,10 +347,11 @@ fn check_kept(
 ///
 /// # Errors
 ///
-/// The exit status, where it can't be had, which was told on standard error.
+/// The exit status, if it can't be had, as standard error says.
 fn spool<'a>(
     rt: &'a HostRuntime,
     request: &StationRequest,
+    exchange: &'a Exchange,
 ) -> Result<Option<StationSpool<'a>>, u8> {
     let Some(path) = &request.spool else {
         return Ok(None);
@@ -323,8 +362,12 @@ fn spool<'a>(
     }
     folder(rt, path.as_str())?;
     check_apart(rt, request, path.as_str())?;
-    let teller = StandardErrorTeller(rt);
-    let spool = FolderSpool::open(rt, path.as_str(), request.flags.remove_sent, teller)?;
+    let teller = SpoolNotes {
+        rt,
+        notes: &exchange.notes,
+    };
+    let (names, removes_sent) = (request.names, request.flags.remove_sent);
+    let spool = FolderSpool::open(rt, path.as_str(), names, removes_sent, teller)?;
     Ok(Some(spool))
 }
 
@@ -332,7 +375,7 @@ fn spool<'a>(
 ///
 /// # Errors
 ///
-/// The exit status, where it is, which was told on standard error.
+/// The exit status, if it is, as standard error says.
 fn check_apart(rt: &HostRuntime, request: &StationRequest, spool: &str) -> Result<(), u8> {
     if let Some(inbox) = &request.inbox
         && matches!(is_same_folder(rt, inbox.as_str(), spool), Ok(true))
@@ -350,7 +393,7 @@ fn check_apart(rt: &HostRuntime, request: &StationRequest, spool: &str) -> Resul
 ///
 /// # Errors
 ///
-/// The exit status, where they can't be, which was told on standard error.
+/// The exit status, if they can't be, as standard error says.
 fn configuration(
     rt: &HostRuntime,
     request: &StationRequest,
@@ -392,13 +435,20 @@ fn check_fields(
 
 /// Says why a station can't be set up so.
 fn tell_bad(rt: &HostRuntime, setup: &StationSetup, id: u64, peer: u64) {
-    let _ = match setup.out_of_range() {
+    match setup.out_of_range() {
         Some((setting, value)) => {
             let (key, range) = (setting.key(), setting.range());
-            eprintln!(rt; "error: {key} must be {range} (got {value})")
+            let _ = eprintln!(rt; "error: {key} must be {range} (got {value})");
+            tell_line(rt, key);
         }
-        None => eprintln!(rt; "error: {}", setup.misfit(id, peer)),
-    };
+        None => {
+            let misfit = setup.misfit(id, peer);
+            let _ = eprintln!(rt; "error: {misfit}");
+            if let Some(key) = misfit.key() {
+                tell_line(rt, key);
+            }
+        }
+    }
 }
 
 /// What is set.
@@ -425,12 +475,12 @@ fn set_up(rt: &HostRuntime, request: &StationRequest) -> Result<StationSetup, u8
     Ok(setup)
 }
 
-/// Looks whether the number of the first transaction fits its octets, where these are so many as
+/// Looks whether the number of the first transaction fits its octets, if these are so many as
 /// may be.
 ///
 /// # Errors
 ///
-/// The exit status, where it doesn't, which was told on standard error.
+/// The exit status, if it doesn't, as standard error says.
 fn check_number(rt: &HostRuntime, setup: &StationSetup) -> Result<(), u8> {
     if setup.out_of_range().is_none()
         && let Some(misfit) = setup.number_misfit()
@@ -454,23 +504,25 @@ fn set_one(rt: &HostRuntime, setup: &mut StationSetup, key: &str, word: &str) ->
     let Some(value) = parse_number(word.as_bytes()) else {
         let hint = value_hint(key);
         let _ = eprintln!(rt; "error: --set {key} {word}: {}{hint}", LineError::BadNumber);
+        tell_line(rt, key);
         return Err(MISTAKE);
     };
     if !setup.set(key, value) {
         let hint = key_hint(rt.alloc(), key);
         let _ = eprintln!(rt; "error: --set {key} {word}: unknown key{hint}");
+        tell_line(rt, key);
         return Err(MISTAKE);
     }
     Ok(())
 }
 
-/// Reserves numbers in the file that is said; or, where none is and the first number isn't said
-/// either, in the one beside the outbox, or beside the inbox where there is no outbox. Without that
+/// Reserves numbers in the file that is said; or, if none is and the first number isn't said
+/// either, in the one beside the outbox, or beside the inbox if there is no outbox. Without that
 /// file a station that puts nothing goes by the clock.
 ///
 /// # Errors
 ///
-/// The exit status, where that file can't be used, which was told on standard error.
+/// The exit status, if that file can't be used, as standard error says.
 fn reserved<'a>(
     rt: &'a HostRuntime,
     request: &StationRequest,
@@ -508,7 +560,7 @@ fn reserved<'a>(
 }
 
 /// The folder beside which the file of reserved numbers lies: that of the outbox or of the spool,
-/// or of the inbox where there is none of these.
+/// or of the inbox if there is none of these.
 fn numbers_folder(request: &StationRequest) -> Option<&str> {
     match (&request.outbox, &request.spool, &request.inbox) {
         (Some(path), _, _) | (None, Some(path), _) | (None, None, Some(path)) => {
@@ -522,7 +574,7 @@ fn numbers_folder(request: &StationRequest) -> Option<&str> {
 ///
 /// # Errors
 ///
-/// The exit status, where that file can't be used, which was told on standard error. Where it is
+/// The exit status, if that file can't be used, as standard error says. If it is
 /// the system that refuses it, a station that puts nothing does without.
 fn reserved_in<'a>(
     rt: &'a HostRuntime,
@@ -541,7 +593,7 @@ fn reserved_in<'a>(
 ///
 /// # Errors
 ///
-/// The exit status, where the folder can't be found, which was told on standard error.
+/// The exit status, if the folder can't be found, as standard error says.
 fn beside_told(rt: &HostRuntime, folder: &str) -> Result<String, u8> {
     match beside(rt, folder) {
         Ok(path) => Ok(path),
@@ -553,7 +605,7 @@ fn beside_told(rt: &HostRuntime, folder: &str) -> Result<String, u8> {
 ///
 /// # Errors
 ///
-/// The exit status, where it lies in the inbox, which was told on standard error.
+/// The exit status, if it lies in the inbox, as standard error says.
 fn check_state_place(rt: &HostRuntime, request: &StationRequest, path: &str) -> Result<(), u8> {
     if let Some(inbox) = &request.inbox
         && lies_in(rt, path, inbox.as_str())
@@ -582,20 +634,32 @@ fn beside(rt: &HostRuntime, folder: &str) -> io::Result<String> {
     Ok(format!(in rt.alloc(); "{}.state", path.display())?)
 }
 
-/// Looks at the names of files that are to be sent, and takes the folder of the inbox and tries it,
+/// Returns the path of the file of reserved numbers, if it can be found.
+pub fn state_path(rt: &HostRuntime, request: &StationRequest) -> Option<String> {
+    match &request.state {
+        Some(path) => String::from_str(rt.alloc(), path.as_str()).ok(),
+        None => beside(rt, numbers_folder(request)?).ok(),
+    }
+}
+
+/// Looks at the names of files that must be sent, and takes the folder of the inbox and tries it,
 /// if there is one.
 ///
 /// # Errors
 ///
-/// The exit status, where something is wrong, which was told on standard error.
-fn held_inbox(rt: &HostRuntime, request: &StationRequest) -> Result<Option<HeldFolder>, u8> {
+/// The exit status, if something is wrong, as standard error says.
+fn held_inbox(
+    rt: &HostRuntime,
+    request: &StationRequest,
+    found: &Found,
+) -> Result<Option<HeldFolder>, u8> {
     for put in 0..request.puts.len() / 2 {
-        check_name(rt, request.puts[2 * put].as_str())?;
+        check_name(rt, request.names, request.puts[2 * put].as_str())?;
     }
     match &request.inbox {
         Some(path) => {
             folder(rt, path.as_str())?;
-            let held = HeldFolder::take(rt, path.as_str())?;
+            let held = held_folder(rt, request, path.as_str(), found)?;
             try_folder(rt, path.as_str(), !request.flags.no_overwrite)?;
             Ok(Some(held))
         }
@@ -603,12 +667,12 @@ fn held_inbox(rt: &HostRuntime, request: &StationRequest) -> Result<Option<HeldF
     }
 }
 
-/// Looks at the folder of the outbox, and whether what has the names of files that are to be sent
+/// Looks at the folder of the outbox, and whether what has the names of files that must be sent
 /// are files. Each is looked for again when its put is made, so it may be missing here.
 ///
 /// # Errors
 ///
-/// The exit status, where something is wrong, which was told on standard error.
+/// The exit status, if something is wrong, as standard error says.
 fn check_outbox(rt: &HostRuntime, request: &StationRequest) -> Result<(), u8> {
     let Some(path) = outbox_of(request) else {
         if request.puts.is_empty() {
@@ -618,10 +682,10 @@ fn check_outbox(rt: &HostRuntime, request: &StationRequest) -> Result<(), u8> {
         return Err(MISTAKE);
     };
     folder(rt, path)?;
-    check_files(rt, path, request.puts.as_slice())
+    check_files(rt, path, request)
 }
 
-/// The folder that files are sent from: that of the outbox, or of the spool.
+/// Returns the folder that files are sent from: the outbox, or the spool.
 pub fn outbox_of(request: &StationRequest) -> Option<&str> {
     match (&request.outbox, &request.spool) {
         (Some(path), _) | (None, Some(path)) => Some(path.as_str()),
@@ -629,13 +693,14 @@ pub fn outbox_of(request: &StationRequest) -> Option<&str> {
     }
 }
 
-/// Looks at the files of a folder that are to be sent, by pairs of words.
+/// Looks at the files of a folder that must be sent, by pairs of words of the request.
 ///
 /// # Errors
 ///
-/// The exit status, where one can't be sent, which was told on standard error.
-fn check_files(rt: &HostRuntime, path: &str, words: &[String]) -> Result<(), u8> {
-    let Ok(mut outbox) = folder_outbox(rt, path) else {
+/// The exit status, if one can't be sent, as standard error says.
+fn check_files(rt: &HostRuntime, path: &str, request: &StationRequest) -> Result<(), u8> {
+    let words = request.puts.as_slice();
+    let Ok(mut outbox) = folder_outbox(rt, path, request.names) else {
         let _ = eprintln!(rt; "error: {path}: {}", cause_text(ErrorKind::OutOfMemory));
         return Err(DEVICE);
     };
@@ -662,7 +727,7 @@ fn pace_of(request: &StationRequest, config: &StationConfig, carrier: Carrier) -
 ///
 /// # Errors
 ///
-/// The exit status, where an address can't be used, which was told on standard error.
+/// The exit status, if an address can't be used, as standard error says.
 fn socket<'a, 'n>(
     rt: &'a HostRuntime,
     request: &StationRequest,
@@ -676,22 +741,18 @@ fn socket<'a, 'n>(
             if has_any_port(Some(listen))
                 && let Ok(address) = socket.local_address()
             {
-                let _ = eprintln!(rt; "note: listening at {address}");
+                let text = format!(in rt.alloc(); "listening at {address}");
+                note(rt, &exchange.notes, NoteTopic::Listening, text);
             }
             Ok(socket)
         }
         Err(unusable) => {
-            let _ = match unusable {
-                Unusable::Own(error) => eprintln!(rt;
-                    "error: --listen {listen}: {}",
-                    address_cause(error.kind())
-                ),
-                Unusable::Peer(error) => eprintln!(rt;
-                    "error: --to {to}: {}",
-                    address_cause(error.kind())
-                ),
+            let (option, address, kind) = match unusable {
+                Unusable::Own(error) => ("listen", listen, error.kind()),
+                Unusable::Peer(error) => ("to", to, error.kind()),
             };
-            Err(DEVICE)
+            let _ = eprintln!(rt; "error: --{option} {address}: {}", address_cause(kind));
+            Err(if is_malformed(kind) { MISTAKE } else { DEVICE })
         }
     }
 }
@@ -704,7 +765,7 @@ fn unit_of(request: &StationRequest) -> Unit {
     }
 }
 
-/// Which of both stations it is.
+/// Returns which of both stations it is.
 pub fn side_of(request: &StationRequest) -> Side {
     if request.numbers.id < request.numbers.peer {
         Side::One
@@ -713,21 +774,49 @@ pub fn side_of(request: &StationRequest) -> Side {
     }
 }
 
+/// Returns the journal of the station, if it has one.
+fn journal_of<'a>(
+    rt: &'a HostRuntime,
+    request: &'a StationRequest,
+    found: &Found,
+) -> Option<TransferJournal<'a>> {
+    let path = request.journal.as_ref()?.as_str();
+    let inbox = match &request.inbox {
+        Some(folder) => Some(folder.as_str()),
+        None => None,
+    };
+    let setup = JournalSetup {
+        path,
+        inbox,
+        owner: found.owner,
+        every: request.limits.journal_every,
+    };
+    Some(TransferJournal::new(rt, setup))
+}
+
 /// Runs the station, shows what is seen of that, and answers the exit status.
 fn ran_status<'a>(
     rt: &'a HostRuntime,
     request: &'a StationRequest,
     parts: StationParts<'a, '_>,
-    spool: Option<StationSpool<'a>>,
+    source: (Option<StationSpool<'a>>, Found),
     exchange: &'a Exchange,
 ) -> u8 {
+    let (spool, found) = source;
     let (told, progress) = (Cell::new(false), Progress::new(rt));
+    let pdus = SeenPdus::new(rt.alloc());
+    let journal = journal_of(rt, request, &found);
     let context = Context {
         rt,
         request,
         exchange,
+        pdus: &pdus,
+        transfers: journal.as_ref().map(|journal| Transfers {
+            journal,
+            found: &found,
+        }),
         progress: &progress,
-        told: &told,
+        teller: Teller::new(rt, &progress, &told, Some(&exchange.notes)),
     };
     let ran = ran(context, parts, spool);
     tell_untold(rt, ran.exit, &told);

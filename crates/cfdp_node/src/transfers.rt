@@ -3,4 +3,5 @@
 pub mod fault;
 pub mod named_files;
 pub mod secured_links;
+pub mod teller;
 pub mod telling;

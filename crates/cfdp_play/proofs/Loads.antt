@@ -33,7 +33,7 @@ too-many Octets load line left all leaves over = omega (arith, leaves.octets, ov
 too-many Puts load line left all leaves over = omega (arith, leaves.puts, over, puts-more line left)
 too-many Sent load line left all leaves over = absurd over
 
--- where no line is left
+-- if no line is left
 pub octets-are : (load : Load) (all : List (List ℕ)) → Leaves load [] all → load.octets ≡ octets_in all
 octets-are load all leaves = omega (arith, leaves.octets)
 

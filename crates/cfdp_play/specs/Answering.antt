@@ -13,7 +13,7 @@ use Rattle.cfdp_play.specs.declared.asking.Asked.{Asked}
 use Rattle.cfdp_play.specs.declared.asking.Asked.TheVariants.{Page, Run, Fields}
 use Rattle.cfdp_play.specs.declared.load.TooMuch.{TooMuch}
 
--- the status of HTTP that tells why nothing is done
+-- the status of HTTP that says why nothing is done
 abbrev pub status_of : Denial → ℕ
 status_of denial.NotFound = 404
 status_of denial.WrongMethod = 405
@@ -31,7 +31,7 @@ RunAnswers script response =
     ⊎ ((response.status ≡ 413) × ((why : TooMuch) × AreTooMany why (lines_of script)))
     ⊎ ((response.status ≡ 500) × HasNoText script)
 
--- What frames or PDUs are answered: their fields, or 400 where the first line doesn't say what they
+-- What frames or PDUs are answered: their fields, or 400 if the first line doesn't say what they
 -- are.
 abbrev pub FieldsAnswer : (body : List ℕ) → Response → Type 0
 FieldsAnswer body response = ((response.status ≡ 200) × TellsFields body response.body.items)
@@ -42,7 +42,7 @@ AnswersAsked Page body response = response.status ≡ 200
 AnswersAsked Run body response = RunAnswers body response
 AnswersAsked Fields body response = FieldsAnswer body response
 
--- Each request is answered what it asks for, where it may ask that, or why it is denied.
+-- Each request is answered what it asks for, if it may ask that, or why it is denied.
 abbrev pub Answers : Request (List ℕ) → Response → Type 0
 Answers request response =
     ((it : Asked) × MayAsk request it × AnswersAsked it (body_of request) response)

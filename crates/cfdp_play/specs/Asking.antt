@@ -10,7 +10,7 @@ use Rattle.cfdp_console.specs.declared.denial.Denial.TheVariants as denial
 use Rattle.cfdp_play.specs.declared.asking.Asked.{Asked}
 use Rattle.cfdp_play.specs.declared.asking.Asked.TheVariants.{Page, Run, Fields}
 
--- where it is asked for
+-- the path at which it is asked for
 abbrev pub path_of : Asked → List ℕ
 path_of Page = codes "/"
 path_of Run = codes "/run"
@@ -22,12 +22,12 @@ IsMethodOf Page method = (method ≡ codes "GET") ⊎ (method ≡ codes "HEAD")
 IsMethodOf Run method = method ≡ codes "POST"
 IsMethodOf Fields method = method ≡ codes "POST"
 
--- The request tells its origin. By `IsOwn` that is then the server's own address: the page itself
+-- The request says its origin. By `IsOwn` that must be the server's own address: the page itself
 -- sends it.
 abbrev pub TellsOrigin : Request (List ℕ) → Type 0
 TellsOrigin request = (origin : FieldValue) × (field_of request (codes "origin") ≡ Some origin)
 
--- The page may be asked for by anybody on this machine, all else by the page.
+-- The page may be asked for by anybody on this machine, everything else by the page alone.
 abbrev pub ComesFrom : Asked → Request (List ℕ) → Type 0
 ComesFrom Page request = ⊤
 ComesFrom Run request = TellsOrigin request
@@ -55,8 +55,8 @@ pub record TakesAnother (request : Request (List ℕ)) : Type 0 where
   pub path : path_in request ≡ path_of it
   pub method : ¬ IsMethodOf it (head_of request).method
 
--- Why a request is denied. Of `Foreign` nothing is said: the console's test, whether a request is
--- for this server by its own address, may deny more than it has to.
+-- Why a request is denied. Of `Foreign` nothing is said: the console's test, if a request is for
+-- this server by its own address, may deny more than it must.
 abbrev pub IsDenied : Request (List ℕ) → Denial → Type 0
 IsDenied request denial.Foreign = ⊤
 IsDenied request denial.NotFound = IsOwn request × IsNowhere (path_in request)

@@ -1,4 +1,4 @@
--- What is asked of frames and PDUs, and what is told of them.
+-- What is asked of frames and PDUs, and what is said of them.
 use Rattle.std.specs.Prelude.{◌≡◌, ◌⊎◌, ◌++◌, ◌∷◌, ℕ, Bool, true, false, List, [], codes, Some}
 use Rattle.cfdp_report.specs.Numbers.{number_of}
 use Rattle.cfdp_dump.specs.declared.spelled.form.DumpForm.TheVariants.{Fields}
@@ -27,17 +27,17 @@ pub record SayShape (words : List (List ℕ)) (shape : FrameShape) : Type 0 wher
   pub control_is : number_of control ≡ Some (flag_of shape.fields.control_field)
   pub check_is : number_of check ≡ Some (flag_of shape.fields.error_control)
 
--- The first line says what the lines behind it are: `pdus`, or `frames` with a shape.
+-- The first line says what the lines after it are: `pdus`, or `frames` with a shape.
 abbrev pub Says : List ℕ → DumpKind → FrameShape → Type 0
 Says line Pdus shape = words_of line ≡ codes "pdus" ∷ []
 Says line Frames shape = (behind : List (List ℕ))
     × (next_word (words_of line) ≡ Some (codes "frames", behind)) × SayShape behind shape
 
--- a text is its first line and what stands behind that, where a line feed ends it
+-- a text is its first line and what stands after that, if a line feed ends it
 abbrev pub IsCut : (text first behind : List ℕ) → Type 0
 IsCut text first behind = (text ≡ first ++ 10 ∷ behind) ⊎ ((text ≡ first) × (behind ≡ []))
 
--- A text says of what stands behind the first line what it spells, field by field, as `dump
+-- A text says of what stands after the first line what it spells, field by field, as `dump
 -- --fields` does.
 pub record TellsFields (body text : List ℕ) : Type 0 where
   pub first : List ℕ

@@ -11,12 +11,12 @@ use Rattle.cfdp_play.specs.declared.load.TooMuch.TheVariants as too_many
 abbrev pub lines_of : List ℕ → List (List ℕ)
 lines_of text = parts 10 text
 
--- the octets that a file has by the words behind `fill`
+-- the octets that a file has by the words after `fill`
 abbrev pub filled_by : List (List ℕ) → ℕ
 filled_by words = option_map_or (λ count. count)
     (option_and_then (λ all. number_of all.2) (four_of words)) 0
 
--- the octets that a line gives a file, whose first word and the words behind it are these
+-- the octets that a line gives a file, whose first word and the words after it are these
 abbrev pub octets_for : List ℕ → List (List ℕ) → List ℕ → ℕ
 octets_for verb behind line = if bytes_eq verb (codes "fill") then filled_by behind
     else (if bytes_eq verb (codes "file") then length line else 0)

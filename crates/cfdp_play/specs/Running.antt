@@ -1,4 +1,4 @@
--- What is told of a run, and of frames and PDUs.
+-- What is said of a run, and of frames and PDUs.
 use Rattle.std.specs.Prelude.{◌≡◌, ◌≤◌, ℕ, List, [], codes, Some}
 use Rattle.std.specs.Str.{IsUtf8}
 use Rattle.serde_json.specs.Data.{Data, depth, number, string, unsigned}
@@ -14,13 +14,13 @@ pub record Ends (script : List ℕ) (exit : Exit) (report : List ℕ) : Type 0 w
   pub ends : EndsScript exit script (Some []) (Some report)
   pub silent : IsSilentAt exit (Some []) (Some report)
 
--- this is told of a run that ended so and wrote this report
+-- this is said of a run that ended so and wrote this report
 pub record Tells (exit : Exit) (report : List ℕ) (told : Data) : Type 0 where
   pub report_told : get (codes "report") told ≡ Some (string report)
   pub status_told : get (codes "status") told ≡ Some (number (unsigned (exit_status exit)))
   pub shallow : depth told ≤ max_depth
 
--- A text in JSON tells of a run of this script.
+-- A text in JSON says this of a run of this script.
 pub record TellsRun (script text : List ℕ) : Type 0 where
   pub exit : Exit
   pub report : List ℕ

@@ -37,7 +37,7 @@ impl Kind {
 ///
 /// # Errors
 ///
-/// `AllocError` where there is no memory for the answer.
+/// `AllocError` if there is no memory for the answer.
 pub fn answer(
     rt: &HostRuntime,
     asked: Asked,
@@ -58,7 +58,7 @@ pub fn answer(
 ///
 /// # Errors
 ///
-/// `AllocError` where there is no memory for the answer.
+/// `AllocError` if there is no memory for the answer.
 pub fn deny(denial: Denial, response: &mut Response) -> Result<(), AllocError>
     requires { IsBlank response.old }
     ensures { OnOk result (response.new.status ≡ status_of denial) }
@@ -70,7 +70,7 @@ pub fn deny(denial: Denial, response: &mut Response) -> Result<(), AllocError>
     fill(response, status(denial), Kind::Text, why.as_bytes())
 }
 
-/// The status of HTTP that tells why nothing is done.
+/// Returns the status of HTTP that says why nothing is done.
 fn status(denial: Denial) -> StatusCode
     ensures { result ≡ status_of denial }
 {
@@ -119,9 +119,9 @@ fn answer_fields(alloc: Global, body: &[u8], response: &mut Response) -> Result<
     }
 }
 
-/// Fills an answer, the last one over its connection: nothing of it is kept, taken for something
-/// else, or shown within another page; and the page has nothing run or loaded but what it has
-/// itself.
+/// Fills an answer, the last one over its connection: nothing of it may be kept, taken for
+/// something else, or shown within another page; and the page must run and load nothing but what it
+/// has itself.
 fn fill(
     response: &mut Response,
     status: StatusCode,

@@ -18,13 +18,13 @@ pub enum Asked {
     Fields,
 }
 
-/// What a request asks for, where its sender may: it is sent to this server by its own address, by
-/// no page of another site, and what is posted by the page itself.
+/// Returns what a request asks for, if its sender may ask that: it must be sent to this server by
+/// its own address, by no page of another site, and what is posted must be sent by the page itself.
 ///
 /// # Errors
 ///
-/// The `Denial`: `Foreign` goes before all others where it is sent to a foreign name or by a page
-/// of another site, and behind them where it is posted by no page.
+/// The `Denial`: `Foreign` goes before all others if it is sent to a foreign name or by a page
+/// of another site, and after them if it is posted by no page.
 pub fn what_is_asked(request: &Request<Bytes>) -> Result<Asked, Denial>
     ensures may { IfOk result (MayAsk request.now) }
     ensures denied { IfErr result (IsDenied request.now) }
@@ -45,7 +45,7 @@ pub fn what_is_asked(request: &Request<Bytes>) -> Result<Asked, Denial>
     }
 }
 
-/// What is asked for at this path.
+/// Returns what is asked for at this path.
 fn asked_at(path: &str) -> Option<Asked>
     ensures { MatchOption result (IsNowhere path.now) (λ it. path.now ≡ path_of it) }
 {
@@ -60,7 +60,7 @@ fn asked_at(path: &str) -> Option<Asked>
     }
 }
 
-/// Whether it is asked for by this method.
+/// Returns `true` if it is asked for by this method.
 fn is_method_of(asked: Asked, method: &str) -> bool
     ensures { IsTrue result ↔ IsMethodOf asked method.now }
 {
@@ -70,7 +70,7 @@ fn is_method_of(asked: Asked, method: &str) -> bool
     }
 }
 
-/// Whether it is asked for by who may.
+/// Returns `true` if it is asked for by a sender that may ask for it.
 fn comes_from(asked: Asked, request: &Request<Bytes>) -> bool
     ensures { IsTrue result → ComesFrom asked request.now }
 {
@@ -80,7 +80,7 @@ fn comes_from(asked: Asked, request: &Request<Bytes>) -> bool
     }
 }
 
-/// Whether a request tells which page sends it.
+/// Returns `true` if a request says which page sends it.
 fn tells_origin(request: &Request<Bytes>) -> bool
     ensures { IsTrue result → TellsOrigin request.now }
 {

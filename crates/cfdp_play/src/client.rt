@@ -15,29 +15,30 @@ const MOST_BODY: usize = 65_536;
 /// The most octets that are read over a connection in one turn.
 const MOST_READ: usize = 4096;
 
-/// For so many milliseconds it is waited for a request, and until its answer has gone.
+/// The most milliseconds until its request came, and then until its answer was sent.
 const PATIENCE: u64 = 10_000;
 
-/// For so many milliseconds what comes behind the answer is thrown away, at most.
+/// The most milliseconds in which what comes after the answer is discarded.
 const LEAVING: u64 = 1_000;
 
 /// A connection of a browser over TCP, for one request. No call waits. It is left once the answer
-/// has gone: it is told that nothing more comes, and what it sends until it is closed at its other
-/// end is thrown away; where something lay in a socket that is closed, the answer would be lost.
+/// was sent: the browser is notified that nothing more comes, and what it sends until it is closed
+/// at its other end is discarded; if something lay in a socket that is closed, the answer would be
+/// lost.
 #[derive(Drop)]
 pub struct Client {
     stream: TcpStream,
     connection: Connection,
-    // Since when its request is waited for, or until its answer has gone, or it is left; in
-    // milliseconds, from the next turn on where it is `None`.
+    // Since when its request is waited for, or until its answer was sent, or it is left; in
+    // milliseconds, from the next turn on if it is `None`.
     since: Option<u64>,
     is_left: bool,
     is_over: bool,
 }
 
 impl Client {
-    /// One that has come. The names of its fields are kept under secret keys, since it chooses
-    /// them.
+    /// Returns a new connection. The names of its fields are kept under secret keys, since the
+    /// browser chooses them.
     pub fn new(alloc: Global, keys: RandomState, stream: TcpStream) -> Client {
         let config = Config {
             limits: Limits::default(),
@@ -54,12 +55,12 @@ impl Client {
         }
     }
 
-    /// Whether it is over: its stream is to be closed.
+    /// Returns `true` if it is over: its stream must be closed.
     pub fn is_over(&self) -> bool {
         self.is_over
     }
 
-    /// Its descriptor, and the events of `poll` that it waits for.
+    /// Returns its descriptor, and the events of `poll` that it waits for.
     pub fn watched(&self) -> (RawFd, i16) {
         let events = if self.connection.wants_write() {
             POLLOUT
@@ -101,14 +102,14 @@ impl Client {
         }
     }
 
-    /// Tells it that nothing more comes.
+    /// Notifies it that nothing more comes.
     fn leaves(&mut self) {
         let _ = self.stream.shutdown(Shutdown::Write);
         self.is_left = true;
         self.since = None;
     }
 
-    /// Throws away what came, until its other end is closed, or it was waited for so long.
+    /// Discards what came, until its other end is closed, or it was waited for so long.
     fn throws_away(&mut self, waited: u64) {
         let mut buffer = [0u8; MOST_READ];
         match self.stream.read(&mut buffer) {
@@ -121,7 +122,7 @@ impl Client {
         }
     }
 
-    /// Nothing was sent or read, for this cause.
+    /// Notes why nothing was sent or read: it is over, unless it must only wait.
     fn fails(&mut self, kind: ErrorKind) {
         if kind != ErrorKind::WouldBlock && kind != ErrorKind::Interrupted {
             self.is_over = true;

@@ -16,7 +16,7 @@ const MOST_CLIENTS: usize = 16;
 /// The places of what is looked at: the listener's, and one for each connection.
 const PLACES: usize = 17;
 
-/// For so many milliseconds it is waited at most until something comes.
+/// The most milliseconds of a wait for something to come.
 const LONGEST_WAIT: i32 = 1_000;
 
 /// A place with no descriptor, at which the system doesn't look.
@@ -37,7 +37,7 @@ pub struct Clients<'a> {
 }
 
 impl<'a> Clients<'a> {
-    /// Before the first one comes, of a listener that doesn't wait.
+    /// Returns no connections, before the first one comes, of a listener that doesn't wait.
     pub fn new(rt: &'a HostRuntime, listener: TcpListener) -> Clients<'a> {
         Clients {
             rt,
@@ -59,7 +59,8 @@ impl<'a> Clients<'a> {
         self.all.retain(|client| !client.is_over());
     }
 
-    /// What is looked at while it is waited. Those that find no room wait until one has gone.
+    /// Returns what is looked at during the wait. If a connection finds no room, it waits until
+    /// another one has gone.
     fn places(&self) -> [pollfd; 17] {
         let mut places = [FREE; 17];
         if self.has_room() {
@@ -82,7 +83,7 @@ impl<'a> Clients<'a> {
         self.all.len() < MOST_CLIENTS
     }
 
-    /// The milliseconds since the start; 0 where the clock can't be read.
+    /// Returns the milliseconds since the start; 0 if the clock can't be read.
     fn now(&self) -> u64 {
         match &self.start {
             Some(start) => match start.elapsed(self.rt) {
@@ -93,7 +94,7 @@ impl<'a> Clients<'a> {
         }
     }
 
-    /// Takes a connection, if one waits for that.
+    /// Accepts a connection, if one waits for that.
     fn accepts(&mut self) {
         if self.all.len() >= MOST_CLIENTS {
             return;

@@ -19,7 +19,7 @@ const MOST_ZONE: u64 = 2040;
 
 const MOST_INSERT: u64 = 64;
 
-/// What frames are made of where PDUs are told, of which it says nothing.
+/// What frames are made of if PDUs are printed, which say nothing of it.
 const ANY_SHAPE: FrameShape = FrameShape {
     zone: 16,
     fields: FrameFields {
@@ -29,14 +29,14 @@ const ANY_SHAPE: FrameShape = FrameShape {
     },
 };
 
-/// What the lines behind the first one spell, field by field, as `cfdp_node dump --fields` tells
-/// it. The first line says what they are: `pdus`, or `frames ZONE INSERT CONTROL CHECK` with the
-/// octets of the packet zone and of the insert zone, and 1 or 0 for the operational control field
-/// and the frame error control field. `None` where it says neither.
+/// Returns what the lines after the first one spell, field by field, as `cfdp_node dump --fields`
+/// prints it. The first line must say what they are: `pdus`, or `frames ZONE INSERT CONTROL CHECK`
+/// with the octets of the packet zone and of the insert zone, and 1 or 0 for the operational
+/// control field and the frame error control field. Returns `None` if it says neither.
 ///
 /// # Errors
 ///
-/// `AllocError` where there is no memory.
+/// `AllocError` if there is no memory.
 pub fn fields(alloc: Global, text: &[u8]) -> Result<Option<Vec<u8>>, AllocError>
     ensures { IfOk result (λ found. IfSome found (λ told. TellsFields text.now told.items)) }
 {
@@ -54,7 +54,7 @@ pub fn fields(alloc: Global, text: &[u8]) -> Result<Option<Vec<u8>>, AllocError>
     Ok(Some(told(alloc, request, lines)?))
 }
 
-/// The first line of a text, and what stands behind it.
+/// Returns the first line of a text, and what stands after it.
 fn cut_first(text: &[u8]) -> (&[u8], &[u8])
     ensures { IsCut text.now result.0.now result.1.now }
 {
@@ -64,7 +64,7 @@ fn cut_first(text: &[u8]) -> (&[u8], &[u8])
     }
 }
 
-/// What lines are, and what the frames are made of that they are.
+/// Returns what the lines are and, if they are frames, what these are made of.
 fn kind_and_shape(line: &[u8]) -> Option<(DumpKind, FrameShape)>
     ensures says { IfSome result (λ found. Says line.now found.0 found.1) }
     ensures shape { IfSome result (λ found. IsShape found.1) }
@@ -80,7 +80,7 @@ fn kind_and_shape(line: &[u8]) -> Option<(DumpKind, FrameShape)>
     }
 }
 
-/// What frames are made of, by these words; `None` where they don't say it.
+/// Returns what frames are made of, by these words; `None` if they don't say it.
 fn shape(words: Words<'_>) -> Option<FrameShape>
     ensures says { IfSome result (SayShape (left words.entry)) }
     ensures shape { IfSome result IsShape }
@@ -100,7 +100,7 @@ fn shape(words: Words<'_>) -> Option<FrameShape>
     })
 }
 
-/// Whether a field is there, by 1 or 0.
+/// Returns `true` if a field is there, by 1 or 0; `None` if the word is another.
 fn flag(word: &[u8]) -> Option<bool>
     ensures { IfSome result (λ flag. number_of word.now ≡ Some (flag_of flag)) }
 {
@@ -111,11 +111,11 @@ fn flag(word: &[u8]) -> Option<bool>
     }
 }
 
-/// What lines spell.
+/// Returns what lines spell.
 ///
 /// # Errors
 ///
-/// `AllocError` where there is no memory.
+/// `AllocError` if there is no memory.
 fn told(alloc: Global, request: DumpRequest, text: &[u8]) -> Result<Vec<u8>, AllocError>
     requires { IsShape request.shape }
     ensures { IfOk result (λ told. WritesFile request text.now (Some []) (Some told.items)) }

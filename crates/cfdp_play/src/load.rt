@@ -20,7 +20,7 @@ const MOST_PUTS: u64 = 64;
 /// The most octets that all puts together may send: those of all files, once for each put.
 const MOST_SENT: u64 = 1_048_576;
 
-/// What a script asks for too much of, so that it is not run here: `sim` runs it.
+/// What a script asks for too much of, so that it isn't run here: `sim` runs it.
 #[derive(Clone, Copy, PartialEq, Eq)]
 pub enum TooMuch {
     /// It has too many lines.
@@ -34,7 +34,7 @@ pub enum TooMuch {
 }
 
 impl fmt::Display for TooMuch {
-    /// One line, without its end.
+    /// Returns one line, without its end.
     fn fmt<W: fmt::Write>(&self, f: &mut fmt::Formatter<W>) -> fmt::Result {
         match self {
             TooMuch::Lines => write!(f, "the script has more than {MOST_LINES} lines"),
@@ -61,7 +61,7 @@ struct Load {
 }
 
 impl Load {
-    /// Takes one more line, unless with it there is too much of something, which is answered.
+    /// Takes one more line. If there is too much of something with it, returns that.
     fn takes(&mut self, line: &[u8]) -> Option<TooMuch>
         requires { IsWithin self.old }
         ensures takes { MatchOption result (Takes self.old line.now self.new)
@@ -84,7 +84,7 @@ impl Load {
     }
 }
 
-/// How many octets a line gives a file, and how many puts it is.
+/// Returns how many octets a line gives a file, and how many puts it is.
 #[tactic(auto, unfolding(crate::specs::Load::octets_by, crate::specs::Load::puts_by))]
 fn asked_by(line: &[u8]) -> (u64, u64)
     ensures octets { result.0 ≡ octets_by line.now }
@@ -100,7 +100,7 @@ fn asked_by(line: &[u8]) -> (u64, u64)
     }
 }
 
-/// How many octets a line gives a file that begins with this word, with these behind it.
+/// Returns how many octets a line gives a file that begins with this word, with these after it.
 fn octets_for(verb: &[u8], behind: Words<'_>, line: &[u8]) -> u64
     ensures { result ≡ loads.octets_for verb.now (left behind.entry) line.now }
 {
@@ -113,7 +113,7 @@ fn octets_for(verb: &[u8], behind: Words<'_>, line: &[u8]) -> u64
     }
 }
 
-/// How many octets a file has, by the words behind `fill`; 0 where they don't say it.
+/// Returns how many octets a file has, by the words after `fill`; 0 if they don't say it.
 fn filled(words: Words<'_>) -> u64
     ensures { result ≡ filled_by (left words.entry) }
 {
@@ -123,7 +123,7 @@ fn filled(words: Words<'_>) -> u64
     }
 }
 
-/// What a script asks for too much of; `None` where it doesn't, and is run here.
+/// Returns what a script asks for too much of; `None` if it doesn't, and is run here.
 pub fn excess_of(text: &[u8]) -> Option<TooMuch>
     ensures { MatchOption result (AreFewEnough (lines_of text.now))
         (λ why. AreTooMany why (lines_of text.now)) }

@@ -4,7 +4,7 @@
 /// checksums (SHA-256 of what stands between their tags), and it asks nobody but this program.
 pub const POLICY: &str = "default-src 'none'; connect-src 'self'; img-src data:; \
     style-src 'sha256-+3fUDDRyN+MFSZaeEB4jEf//+SIuqJR2s5wu4SJMySs='; \
-    script-src 'sha256-heb0Bnh53eGyHYVkmtLyIqmW51uIQGTAjuySrEoRjkY='; \
+    script-src 'sha256-aSB9LOHjoOZgok9h6F3D18F3BzOkbD1d/X4iU4jIa8Q='; \
     base-uri 'none'; form-action 'none'; frame-ancestors 'none'";
 
 /// The page, in HTML.
@@ -218,7 +218,8 @@ textarea { width: 100%; height: 13rem; resize: vertical; white-space: pre; }
         no station restarts.</span></div>
     <div class="world">
       <div class="station" id="station-1"></div>
-      <div id="scene" role="group" aria-label="The link: frames waiting in its lanes"></div>
+      <div id="scene" role="group" tabindex="-1"
+        aria-label="The link: frames waiting in its lanes"></div>
       <div class="station" id="station-2"></div>
     </div>
     <div class="bar" role="group" aria-label="Controls">
@@ -668,7 +669,19 @@ function showScene() {
     stationDrawing(2, places.width - places.end + 14));
   for (const key of laneKeys) svg.append(laneDrawing(key, places), ...laneFrames(key, places));
   box.replaceChildren(svg);
-  if (focused !== undefined) svg.querySelector(`[data-place="${focused}"]`)?.focus();
+  if (focused !== undefined) focusNear(svg, seen[focused], Number(focused));
+}
+
+// Moves the focus to the frame that has this place in the trace. If it has left the link, the focus
+// goes to the next one of its lane, or else to another frame.
+function focusNear(svg, frame, place) {
+  const all = [...svg.querySelectorAll("[data-place]")];
+  const placeOf = (it) => Number(it.dataset.place);
+  const isNear = (it) => seen[placeOf(it)]?.lane === frame?.lane
+    && seen[placeOf(it)]?.station === frame?.station;
+  const near = all.filter(isNear).sort((a, b) => placeOf(a) - placeOf(b));
+  const next = near.find((it) => placeOf(it) >= place) ?? near[near.length - 1] ?? all[0];
+  (next ?? byId("scene")).focus();
 }
 
 // ---- motion
@@ -682,7 +695,9 @@ async function moves(frame, is_lost, time) {
   const svg = byId("scene").querySelector("svg");
   const it = svg?.querySelector(`[data-place="${frame.place}"]`);
   if (!it) return;
+  const hadFocus = it === document.activeElement;
   svg.append(it);
+  if (hadFocus) it.focus();
   const key = `${frame.station} ${frame.lane}`;
   const rank = waitingIn(frame.station, frame.lane).indexOf(frame);
   const spots = spotsIn(key, waitingIn(frame.station, frame.lane).length, places);
@@ -1183,11 +1198,27 @@ function gapsIn(heard, size) {
   return gaps;
 }
 
+// What a station reported of the end of a transaction: the condition, the delivery and the status.
+function endOf(it) {
+  const told = seen.filter((one) => one.kind === "tells" && one.station === it.station
+    && one.words.startsWith(`finished ${it.id} `));
+  return told.length ? told[told.length - 1].words.split(" ").slice(2) : null;
+}
+
+// What a receiver has whose file isn't being received any more: its record holds no octets then.
+function endedCell(it, size) {
+  const end = endOf(it);
+  if (!end) return [`${it.progress ?? 0}${size ? ` of ${size}` : ""}`];
+  const [, delivery, status] = end;
+  if (delivery === "complete" && status === "retained") return [`received ${size} of ${size}`];
+  return [`${delivery}, ${status}`];
+}
+
 function octetsCell(it, file) {
   const is_sender = it.id.split(":")[0] === String(it.station);
   const size = file ? ` of ${file.size}` : "";
   if (is_sender) return [`sent ${it.progress ?? 0}${size}`];
-  if (it.phase !== "receiving" || !file) return [`${it.progress ?? 0}${size}`];
+  if (it.phase !== "receiving" || !file) return endedCell(it, file?.size);
   const heard = heardBy(it.station, it.id);
   const gaps = gapsIn(heard, file.size);
   const bar = draw("svg", {class: "gaps", viewBox: "0 0 100 10", preserveAspectRatio: "none",

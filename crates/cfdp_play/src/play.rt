@@ -9,11 +9,11 @@ use std::net::{SocketAddr, TcpListener, ToSocketAddrs};
 /// The exit status of bad arguments.
 const MISTAKE: u8 = 2;
 
-/// The exit status where a socket or memory failed.
+/// The exit status if a socket or memory failed.
 const DEVICE: u8 = 3;
 
-/// Serves the page at this address until the process is ended. Answers the exit status, where the
-/// address can't be had, which is told on standard error: it has to be one of this machine alone.
+/// Serves the page at this address, which must be one of this machine alone, until the process
+/// ends. Returns the exit status if the address can't be had, as standard error says then.
 pub fn play_status(rt: &HostRuntime, listen: &str) -> u8 {
     let address = match address_of(rt, listen) {
         Ok(address) => address,
@@ -36,7 +36,7 @@ pub fn play_status(rt: &HostRuntime, listen: &str) -> u8 {
     }
 }
 
-/// The address that these words say.
+/// Returns the address that these words say.
 fn address_of(rt: &HostRuntime, listen: &str) -> io::Result<SocketAddr> {
     match listen.to_socket_addrs(rt)?.next() {
         Some(address) => Ok(address),
@@ -44,14 +44,14 @@ fn address_of(rt: &HostRuntime, listen: &str) -> io::Result<SocketAddr> {
     }
 }
 
-/// What takes connections there.
+/// Returns what accepts connections there.
 fn listener(rt: &HostRuntime, address: SocketAddr) -> io::Result<TcpListener> {
     let listener = TcpListener::bind(rt, address)?;
     listener.set_nonblocking(true)?;
     Ok(listener)
 }
 
-/// Tells why an address can't be had.
+/// Reports why an address can't be had.
 fn fails(rt: &HostRuntime, listen: &str, error: &io::Error) -> u8 {
     let cause = match error.kind() {
         ErrorKind::InvalidInput | ErrorKind::InvalidData => {

@@ -22,7 +22,7 @@ pub struct Ended {
 ///
 /// # Errors
 ///
-/// `AllocError` where there is no memory for the report.
+/// `AllocError` if there is no memory for the report.
 pub fn run_script(rt: &HostRuntime, text: &[u8]) -> Result<Ended, AllocError>
     ensures { IfOk result (λ it. Ends text.now it.ran.exit it.report.items) }
 {
@@ -48,7 +48,7 @@ fn run_into(rt: &HostRuntime, text: &[u8], out: &mut BufWriter<Vec<u8>>) -> Ran
     run_sim(rt, &kept_alone(), text, out)
 }
 
-/// What is shown of a run here: nothing but what is kept.
+/// Returns what is shown of a run here: nothing but what is kept.
 fn kept_alone() -> Shown {
     Shown {
         explain: false,

@@ -19,7 +19,7 @@ pub struct Serving<'a> {
 impl Service for Serving<'_> {
     ghost answers = { λ old request response new. (new ≡ old) × Answers request response };
 
-    /// Answers a request: with the page, a run or fields, where it may ask for these, and else by
+    /// Answers a request: with the page, a run or fields, if it may ask for these, and otherwise by
     /// the status that says why not.
     fn call(
         &mut self,

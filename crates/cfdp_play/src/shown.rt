@@ -1,4 +1,4 @@
-//! What the page is told of a run, as JSON (RFC 8259).
+//! What a run is shown as to the page, in JSON (RFC 8259).
 ghost use Rattle.std.specs.Prelude.{◌≤◌, IfOk};
 ghost use Rattle.serde_json.specs.Data.{depth};
 ghost use Rattle.serde_json.specs.View.{view};
@@ -13,11 +13,11 @@ use serde_json::{Value, json};
 use std::alloc::{AllocError, Global};
 use std::io::BufWriter;
 
-/// What the page is told of a run that wrote this report.
+/// Returns what the page shows of a run that wrote this report.
 ///
 /// # Errors
 ///
-/// `AllocError` where there is no memory for it.
+/// `AllocError` if there is no memory for it.
 pub fn run_value(alloc: Global, ran: &Ran, report: &str) -> Result<Value, AllocError>
     ensures { IfOk result (λ it. Tells ran.now.exit report.now (view it)) }
 {
@@ -30,7 +30,7 @@ pub fn run_value(alloc: Global, ran: &Ran, report: &str) -> Result<Value, AllocE
     })
 }
 
-/// What was seen of a run, where anything was.
+/// Returns what was seen of a run, if anything was.
 fn kept_of(ran: &Ran) -> Option<&Kept> {
     match &ran.seen {
         Some(seen) => seen.kept.as_ref(),
@@ -38,7 +38,7 @@ fn kept_of(ran: &Ran) -> Option<&Kept> {
     }
 }
 
-/// What is wrong with a script or its run, in one line; null where nothing is.
+/// Returns what is wrong with a script or its run, in one line; null if nothing is.
 fn error_of(alloc: Global, exit: Exit) -> Result<Value, AllocError>
     ensures { IfOk result (λ it. depth (view it) ≤ 0) }
 {
@@ -49,7 +49,7 @@ fn error_of(alloc: Global, exit: Exit) -> Result<Value, AllocError>
     }
 }
 
-/// What failed.
+/// Returns what failed.
 fn fault_text(fault: Fault) -> &'static str {
     match fault {
         Fault::TooLong => "the script is longer than 1,048,576 octets",
@@ -58,7 +58,8 @@ fn fault_text(fault: Fault) -> &'static str {
     }
 }
 
-/// What was seen: the trace, the octets of each line of it, and how far the transactions are.
+/// Returns what was seen: the trace, the octets of each line of it, and how far the transactions
+/// are.
 fn seen_value(alloc: Global, kept: Option<&Kept>) -> Result<Value, AllocError>
     ensures { IfOk result (λ it. depth (view it) ≤ 3) }
 {
@@ -82,12 +83,12 @@ fn seen_value(alloc: Global, kept: Option<&Kept>) -> Result<Value, AllocError>
     })
 }
 
-/// A text that is ASCII, as all that the program tells.
+/// Returns a text, which must be ASCII, as all that the program prints.
 fn text_of(octets: &[u8]) -> &str {
     str::from_utf8(octets).unwrap_or("")
 }
 
-/// The trace of what was seen.
+/// Returns the trace of what was seen.
 fn trace(alloc: Global, kept: &Kept) -> Result<Vec<u8>, AllocError> {
     let Ok(mut out) = BufWriter::new(alloc, Vec::new(alloc)) else {
         return Err(AllocError);
@@ -100,7 +101,8 @@ fn trace(alloc: Global, kept: &Kept) -> Result<Vec<u8>, AllocError> {
     Ok(trace)
 }
 
-/// The octets of each frame and each PDU that was seen, in hexadecimal; of anything else nothing.
+/// Returns the octets of each frame and each PDU that was seen, in hexadecimal; nothing of anything
+/// else.
 fn octets_value(alloc: Global, sightings: &[Sighting]) -> Result<Value, AllocError>
     ensures { IfOk result (λ it. depth (view it) ≤ 2) }
 {
@@ -122,7 +124,7 @@ fn octets_text(alloc: Global, it: &Sighting) -> Result<String, AllocError> {
     }
 }
 
-/// What the frames are made of that each station sends.
+/// Returns what the frames are made of that each station sends.
 fn shapes_value(alloc: Global, shapes: FrameShapes) -> Result<Value, AllocError>
     ensures { IfOk result (λ it. depth (view it) ≤ 2) }
 {
@@ -144,7 +146,7 @@ fn shape_value(alloc: Global, shape: FrameShape) -> Result<Value, AllocError>
     })
 }
 
-/// How far the transactions are that have a record at a station.
+/// Returns how far the transactions are that have a record at a station.
 fn standings_value(alloc: Global, standings: &[Standing]) -> Result<Value, AllocError>
     ensures { IfOk result (λ it. depth (view it) ≤ 2) }
 {
@@ -171,7 +173,7 @@ fn standing_value(alloc: Global, it: &Standing) -> Result<Value, AllocError>
     })
 }
 
-/// A number, or null where it isn't known.
+/// Returns a number, or null if it isn't known.
 fn number(value: Option<u64>) -> Value
     ensures { depth (view result) ≤ 0 }
 {
@@ -181,7 +183,7 @@ fn number(value: Option<u64>) -> Value
     }
 }
 
-/// The word for how far a transaction is.
+/// Returns the word for how far a transaction is.
 fn phase_word(phase: Phase) -> &'static str {
     match phase {
         Phase::Sending => "sending",

@@ -6,7 +6,7 @@ ghost use Rattle.serde_json.specs.View.{view};
 use serde_json::Value;
 use std::alloc::{AllocError, Global};
 
-/// Values of which none has more than arrays or objects of plain values.
+/// Values that have no more than arrays or objects of plain values.
 #[derive(Drop)]
 pub struct Values {
     all: Vec<Value>,
@@ -14,25 +14,25 @@ pub struct Values {
 }
 
 impl Values {
-    /// None of them.
+    /// Returns no values.
     pub fn new(alloc: Global) -> Values {
         Values {
             all: Vec::new(alloc),
         }
     }
 
-    /// Adds one.
+    /// Adds a value.
     ///
     /// # Errors
     ///
-    /// `AllocError` where there is no memory for it.
+    /// `AllocError` if there is no memory for it.
     pub fn push(&mut self, value: Value) -> Result<(), AllocError>
         requires { depth (view value) ≤ 1 }
     {
         Ok(self.all.push(value)?)
     }
 
-    /// All of them, as an array.
+    /// Returns all of them, as an array.
     pub fn into_value(self) -> Value
         ensures { depth (view result) ≤ 2 }
     {

@@ -1,4 +1,4 @@
--- What a station told its user stays, and more comes behind it, whatever a turn does.
+-- What a station indicated stays, and more comes after it, whatever a turn does.
 use Rattle.std.proofs.Common.{◌≡◌, inl, inr, not, ℕ, zero, suc, List, [], ◌∷◌, ◌++◌, Option, Some, None, Result, Ok, Err, Bool, true, false, ap, subst, sym, ◌∙◌, ⊎_elim}
 use Rattle.std.proofs.lemmas.List.{append-nil, append_assoc}
 use Rattle.cfdp_directives.specs.Pdu.Faults.{pdu_fault}
@@ -24,7 +24,7 @@ use Rattle.cfdp_port.specs.Port.{PortState, table_of}
 use Rattle.cfdp_port.specs.Turn.{Asks, AsksOn, HearsAll, TellsTime}
 use Rattle.cfdp_port.specs.declared.wire.WireFault.{WireFault}
 
--- ---- what was told stays
+-- ---- what was indicated stays
 pub gains-same : (a b : TableState) → b ≡ a → Gains a b
 gains-same a b same = record {
   gained = [];
@@ -41,11 +41,11 @@ gains-both a b c one two = record {
   stood = λ stand. one.stood (two.stood stand);
 }
 
--- what an entity told, over a step with which it goes on
+-- what an entity indicated, over a step with which it goes on
 pub goes : (a b : EntityState) → GoesOn a b → Gains a.table b.table
 goes a b on = record { gained = on.gained; told = on.told; gone = on.gone; stood = λ stand. sym on.stands ∙ stand }
 
--- a station with the same entity told the same
+-- a station with the same entity indicated the same
 pub same-entity : (a b : StationState) → b.entity ≡ a.entity → Gains (table_of a) (table_of b)
 same-entity a b same = gains-same (table_of a) (table_of b) (ap (λ (e : Counted). e.state.table) same)
 
@@ -82,7 +82,7 @@ module _ (laws : GoesOnLaws) where
   serves-gains : (stored : Stored) (a b : EntityState) → b ≡ served stored (turn a) a → Gains a.table b.table
   serves-gains stored a b is = subst (λ (e : EntityState). Gains a.table e.table) (sym is) (goes a (served stored (turn a) a) (laws.served stored a))
 
-  -- what was read says nothing of what was told
+  -- what was read says nothing of what was indicated
   lent-gains : (answer : Polled) (a b : StationState) → PollsOnce answer a b → Gains (table_of (station_lent b a)) (table_of b) → Gains (table_of a) (table_of b)
   lent-gains answer a b once g = record { gained = g.gained; told = g.told; gone = g.gone; stood = λ stand. (polls-stood answer a b once.shows stand).0 }
 

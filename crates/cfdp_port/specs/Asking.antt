@@ -38,7 +38,7 @@ pub record FailsToLook (old new : StationState) : Type 0 where
   pub inbox : new.entity.inbox_failures ≡ old.entity.inbox_failures
   pub link : KeepsLink old new
 
--- ---- what is let go
+-- ---- what is discarded
 -- Transactions that are over were forgotten, and nothing else changed.
 pub record LetsGo (old new : StationState) : Type 0 where
   pub forgets : ForgetsSome old.entity.state new.entity.state
@@ -46,7 +46,7 @@ pub record LetsGo (old new : StationState) : Type 0 where
   pub outbox : new.entity.outbox_failures ≡ old.entity.outbox_failures
   pub link : KeepsLink old new
 
--- So many indications were let go, or all where there are fewer.
+-- So many indications were discarded, or all if there are fewer.
 pub record ForgetsTold (count : ℕ) (old new : StationState) : Type 0 where
   pub entity : new.entity ≡ record old.entity {
     state = with_table old.entity.state (without_told count old.entity.state.table);

@@ -2,8 +2,8 @@
 use Rattle.std.specs.Prelude.{ℕ, Bool, List, take, Option, Some, None, Result, Ok, Err}
 use Rattle.cfdp_port.specs.declared.wire.WireFault.{WireFault}
 
--- A frame was to be sent; it was asked what came, and these octets had, or none; whether a frame
--- may leave; what time it is; or whether it has been silent for long enough, where a transaction is
+-- It was asked to send a frame; what came, and these octets had, or none; if a frame
+-- may leave; what time it is; or if it has been silent for long enough, if a transaction is
 -- open or none is.
 pub data WireCall : Type 0 where
   Sent : (frame : List ℕ) (answer : Result (Unit {0}) WireFault) → WireCall
@@ -12,7 +12,7 @@ pub data WireCall : Type 0 where
   Timed : (now : ℕ) → WireCall
   Rested : (is_open answer : Bool) → WireCall
 
--- what came, of which a buffer holds so many octets at its front
+-- what came, if a buffer holds so many octets of it at its front
 abbrev pub brought : Result (Option ℕ) WireFault → List ℕ → Result (Option (List ℕ)) WireFault
 brought (Ok (Some len)) buffer = Ok (Some (take len buffer))
 brought (Ok None) buffer = Ok None

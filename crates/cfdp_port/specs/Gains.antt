@@ -1,9 +1,9 @@
--- What a station told its user stays, and more comes behind it.
+-- What a station indicated stays, and more comes after it.
 use Rattle.std.specs.Prelude.{◌≡◌, List, ◌++◌, IsTrue}
 use Rattle.cfdp_directives.specs.declared.user.indication.Indication.{Indication}
 use Rattle.cfdp_entity.specs.Table.{TableState}
 
--- More was indicated, behind what was, and none of it was let go. Where the files to send stand,
+-- More was indicated, after what was, and none of it was discarded. If the files to send stand,
 -- they stood before.
 pub record Gains (old new : TableState) : Type 0 where
   pub gained : List Indication

@@ -15,7 +15,7 @@ pub record PairState (W : Type 0) : Type 0 where
 abbrev pub pair : {W : Type 0} → (one two : PortState W) → PairState W
 pair one two = record { one = one; two = two }
 
--- The transaction is closed at the first station; the second has it closed, or never heard of it.
+-- The transaction is closed at the first station; if the second heard of it, it has it closed.
 abbrev pub IsClosed : TransactionId → (one two : StationState) → Type 0
 IsClosed id one two = (phase_told id one.entity.state.table ≡ Some Closed)
     × ((phase_told id two.entity.state.table ≡ None)
@@ -31,14 +31,14 @@ module _ {W : Type 0} (Steps : W → WireCall → W → Type 0) where
     pub one_hears : HearsAll Steps one new.one
     pub two_hears : HearsAll Steps two new.two
 
-  -- A port found no memory where it was to send, and there the turn ended.
+  -- A port that must send found no memory, and there the turn ended.
   abbrev pub TurnsInPart : (now : ℕ) → (old new : PairState W) → Type 0
   TurnsInPart now old new =
       (SendsInPart now old.one new.one × (new.two ≡ old.two))
       ⊎ (Sends Steps now old.one new.one × SendsInPart now old.two new.two)
 
   module _ (id : TransactionId) where
-    -- So many turns, numbered from 1 on, each from a state in which the transaction was open.
+    -- So many turns, numbered from 1 on; before each the transaction must have been open.
     abbrev pub Turns : ℕ → (old new : PairState W) → Type 0
     Turns zero old new = new ≡ old
     Turns (suc count) old new = (mid : PairState W) × Turns count old mid
@@ -50,7 +50,7 @@ module _ {W : Type 0} (Steps : W → WireCall → W → Type 0) where
       pub turns : Turns count old new
       pub ends : (IsClosed id new.one.station new.two.station × (count ≤ most)) ⊎ (count ≡ most)
 
-    -- The next of these turns ended where there was no memory.
+    -- The next of these turns ended, since there was no memory.
     pub record RunsInPart (most : ℕ) (old new : PairState W) : Type 0 where
       pub count : ℕ
       pub few : count < most

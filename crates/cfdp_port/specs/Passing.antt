@@ -9,12 +9,12 @@ use Rattle.cfdp_port.specs.Port.{PortState}
 use Rattle.cfdp_port.specs.Turn.{AsksOn, SendsFrame}
 use Rattle.cfdp_port.specs.declared.wire.WireFault.{WireFault}
 
--- the octets that came, where some did
+-- the octets that came, if some did
 abbrev pub what_came : Result (Option (List ℕ)) WireFault → List (List ℕ)
 what_came (Ok (Some frame)) = frame ∷ []
 what_came _ = []
 
--- a frame of a lane, where that is this one
+-- a frame of a lane, if that is this one
 abbrev pub in_lane : (lane its : Lane) → List ℕ → List (List ℕ)
 in_lane Directives Directives frame = frame ∷ []
 in_lane Directives Data frame = []

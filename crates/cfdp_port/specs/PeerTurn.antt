@@ -1,4 +1,4 @@
--- What a port does in a turn whose wire says when a frame may leave.
+-- What a port does in a turn if its wire says when a frame may leave.
 use Rattle.std.specs.Prelude.{◌≡◌, ◌≢◌, ◌⊎◌, ◌<◌, ℕ, Bool, true, false, not, None}
 use Rattle.link_stack.specs.Downward.{frame_lane}
 use Rattle.cfdp_station.specs.Station.{StationState}
@@ -8,8 +8,8 @@ use Rattle.cfdp_port.specs.Port.{PortState}
 use Rattle.cfdp_port.specs.Turn.{HearsAll, SendsFrame, TellsTime}
 
 -- ---- polls
--- how polls end, and whether that is since nothing is due or has room; else a whole frame waits, or
--- 16 moved a PDU
+-- how polls end, and `true` if nothing is due or has room; otherwise a whole frame waits, or 16
+-- moved a PDU
 abbrev pub EndsPolls : (rests : Bool) → (count : ℕ) → (last new : StationState) → Type 0
 EndsPolls true count last new = (count < 16) × FindsNone last new
 EndsPolls false count last new =
@@ -22,8 +22,8 @@ pub record PollsDry (rests : Bool) (old new : StationState) : Type 0 where
   pub moved : Times MovesMore count old last
   pub ends : EndsPolls rests count last new
 
--- A station was polled so, and what is begun was filled up: in both lanes where nothing is due or
--- has room, and else in that of directives.
+-- A station was polled so, and what is begun was filled up: in both lanes if nothing is due or
+-- has room, otherwise in the lane of directives.
 pub record Pulls (old new : StationState) : Type 0 where
   pub rests : Bool
   pub polled : StationState
@@ -46,7 +46,7 @@ module _ {W : Type 0} (Steps : W → WireCall → W → Type 0) where
     pub asked : Steps old.wire (Readied true) ready
     pub sends : SendsFrame Steps (record { station = pulled; wire = ready }) new
 
-  -- Polls brought none; or the wire isn't ready for the one that waits.
+  -- Polls brought no frame, or the wire isn't ready for the one that waits.
   pub record SendsNone (old new : PortState W) : Type 0 where
     pub pulls : Pulls old.station new.station
     pub ends : ((frame_lane new.station.down ≡ None) × (new.wire ≡ old.wire))
@@ -69,7 +69,7 @@ module _ {W : Type 0} (Steps : W → WireCall → W → Type 0) where
     pub wire : new.wire ≡ last.wire
 
   -- ---- the turn
-  -- The station took what came, was told what time it is by its wire, and sent.
+  -- The station took what came, was given the time by its wire, and sent.
   pub record TakesOne (old new : PortState W) : Type 0 where
     pub now : ℕ
     pub heard : PortState W
@@ -80,7 +80,7 @@ module _ {W : Type 0} (Steps : W → WireCall → W → Type 0) where
     pub tells : TellsTime now heard.station told
     pub sends : SendsSome (record { station = told; wire = timed }) new
 
-  -- There was no memory to tell it the time, and nothing changed; or for one of the polls.
+  -- There was no memory to give it the time, and nothing changed; or for one of the polls.
   pub record TakesInPart (old new : PortState W) : Type 0 where
     pub now : ℕ
     pub heard : PortState W

@@ -27,11 +27,11 @@ pub record AtStation (Happens : (old new : StationState) → Type 0) {W : Type 0
   pub happens : Happens old.station new.station
   pub wire : new.wire ≡ old.wire
 
--- The zones of both lanes have an octet.
+-- The zones of both lanes must have an octet.
 abbrev pub HasZones : DownState → Type 0
 HasZones d = (1 ≤ d.directives.link.zone) × (1 ≤ d.file_data.link.zone)
 
--- A buffer of so many octets is as long as the frames that a station sends.
+-- A buffer of so many octets must be as long as the frames that a station sends.
 abbrev pub FitsFrames : ℕ → StationState → Type 0
 FitsFrames len s = HasZones s.down × (len ≡ frame_len s.down.directives.link)
 
@@ -49,6 +49,7 @@ abbrev pub is_closed : Phase → Bool
 is_closed Closed = true
 is_closed _ = false
 
--- whether all transactions of a station are closed: those that it sends, and those that it receives
+-- `true` if all transactions of a station are closed: those that it sends, and those that it
+-- receives
 abbrev pub all_closed : StationState → Bool
 all_closed s = list_all (λ known. is_closed known.1) (phases_of s.entity.state.table)

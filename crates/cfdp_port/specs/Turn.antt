@@ -1,4 +1,4 @@
--- What a port does in a turn: it is told the time, polled and flushed, frames leave it, and others
+-- What a port does in a turn: it is given the time, polled and flushed, frames leave it, and others
 -- come.
 use Rattle.std.specs.Prelude.{◌≡◌, ◌≢◌, ◌⊎◌, ◌<◌, ℕ, List, Option, Some, None, Result, Ok, Err}
 use Rattle.cfdp_store.specs.Chains.{Raises}
@@ -18,8 +18,8 @@ use Rattle.cfdp_port.specs.Port.{PortState}
 use Rattle.cfdp_port.specs.declared.wire.WireFault.{WireFault}
 
 -- ---- time
--- The time was told to a station. What the steps of its timers asked of the inbox was counted where
--- it failed.
+-- The time was given to a station. If what the steps of its timers asked of the inbox failed, that
+-- was counted.
 pub record TellsTime (now : ℕ) (old new : StationState) : Type 0 where
   pub ticked : Ticks now old.entity.state.table new.entity.state.table
   pub table : new.entity.state ≡ with_table old.entity.state new.entity.state.table
@@ -33,7 +33,7 @@ pub record TellsTime (now : ℕ) (old new : StationState) : Type 0 where
 abbrev pub PollMoves : (old new : StationState) → Type 0
 PollMoves old new = (answer : Polled) × IsMore answer × PollsOnce answer old new
 
--- Nothing was due, or it found no room.
+-- Nothing was due, or if something was, it found no room.
 abbrev pub PollRests : (old new : StationState) → Type 0
 PollRests old new = (answer : Polled) × (IsMore answer → ⊥) × PollsOnce answer old new
 
@@ -52,8 +52,8 @@ pub record PollsInPart (old new : StationState) : Type 0 where
 
 -- ---- frames that leave
 module _ {W : Type 0} (Steps : W → WireCall → W → Type 0) where
-  -- The oldest whole frame of the lane whose turn it is left the station, and the wire was to send
-  -- it.
+  -- The oldest whole frame of the lane whose turn it is left the station, and the wire was asked to
+  -- send it.
   pub record SendsFrame (old new : PortState W) : Type 0 where
     pub frame : List ℕ
     pub lane : Lane
@@ -67,7 +67,7 @@ module _ {W : Type 0} (Steps : W → WireCall → W → Type 0) where
     pub sent : Times SendsFrame count old new
     pub none_whole : frame_lane new.station.down ≡ None
 
-  -- A station was told the time, polled, and flushed, and all whole frames left.
+  -- A station was given the time, polled, and flushed, and all whole frames left.
   pub record Sends (now : ℕ) (old new : PortState W) : Type 0 where
     pub told : StationState
     pub polled : StationState
@@ -101,8 +101,8 @@ module _ {W : Type 0} (Steps : W → WireCall → W → Type 0) where
     pub heard : Times AsksOn count old last
     pub ends : ((count < 4096) × Asks (Ok None) last new) ⊎ ((count ≡ 4096) × (new ≡ last))
 
--- There was no memory to tell a station the time, and nothing changed; or for a poll, and there its
--- turn ended. Nothing was asked of its wire.
+-- There was no memory to give a station the time, and nothing changed; or for a poll, and its
+-- turn ended there. Nothing was asked of its wire.
 pub record SendsInPart (now : ℕ) {W : Type 0} (old new : PortState W) : Type 0 where
   pub ends : (new.station ≡ old.station)
       ⊎ ((told : StationState) × TellsTime now old.station told × PollsInPart told new.station)

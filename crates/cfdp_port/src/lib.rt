@@ -1,8 +1,8 @@
 //! A port: a station of CFDP, class 2 (CCSDS 727.0-B-5), on a wire of whoever uses it.
 //!
 //! A wire takes frames to the peer, and brings frames from it: a UDP socket, say, or a queue. It
-//! may lose what it is given. A port is asked for files that are to be sent, and takes turns: it
-//! tells its station the time, gives the wire the frames that leave, and the station those that
+//! may lose what it is given. A port is asked for files that it must send, and takes turns: it
+//! gives its station the time, gives the wire the frames that leave, and the station those that
 //! came.
 //!
 //! ```

@@ -4,12 +4,12 @@ use cfdp_station::Station;
 use cfdp_store::{Inbox, Outbox};
 use station_pair::Side;
 
-/// One who looks on at stations, which are lent: so it changes nothing there.
+/// One who looks on at stations, which it borrows: so it can change nothing there.
 pub trait Lookout {
     /// Hears that the turn of this number begins: what it sees from here on is of it.
     fn begins(&mut self, turn: u64);
 
-    /// Sees what passed at a station, and the station behind that.
+    /// Sees what passed at a station, and the station after that.
     fn sees<O: Outbox, I: Inbox>(
         &mut self,
         side: Side,
@@ -17,7 +17,7 @@ pub trait Lookout {
         station: &Station<O, I>,
     );
 
-    /// Hears that so many turns were taken, which are all that may be, and the transaction isn't
+    /// Hears that so many turns were taken, if these are all that may be, and the transaction isn't
     /// over.
     fn runs_out(&mut self, _turns: u64) {}
 

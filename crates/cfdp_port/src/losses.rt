@@ -1,4 +1,4 @@
-//! Which of the frames that are to be sent are lost, to try what losses do.
+//! Which of the frames that a station sends are lost, to try what losses do.
 ghost use Rattle.std.specs.Prelude.{◌≡◌, ◌==◌, Bool, false, true};
 ghost use Rattle.cfdp_port.specs.Lossy.{LosesNext, LossState, drawn, generator_after};
 ghost use Rattle.cfdp_port.specs.Lossy.{generator_at, generator_of_seed, is_in_share, next_left};
@@ -11,23 +11,23 @@ use std::marker::Model;
 /// The stream of the random generator: that of PCG's reference.
 const GENERATOR_STREAM: u64 = 721347520444481703;
 
-/// What says of each frame that is to be sent whether it is lost.
+/// What decides of each frame that a station sends if it is lost.
 pub trait Losses: Drop {
     /// What a question may do: it leads from one state, with its answer, to another. An
     /// implementation says by it which frames are lost, or nothing.
     ghost loses: { Self → Bool → Self → Type 0 } = { λ _ _ _. Unit {0} };
 
-    /// Whether the next frame is lost. It counts as one that was to be sent.
+    /// Returns `true` if the next frame is lost. It counts as one that was sent.
     fn is_next_lost(&mut self) -> bool
         ensures { loses self.old result self.new };
 }
 
-/// Losses of each so-manieth frame, and of a share of all frames at random.
+/// Losses of each Nth frame, and of a share of all frames at random.
 #[derive(Clone, Copy)]
 pub struct FrameLosses {
-    /// Of so many frames one is lost, 0 where none is.
+    /// One frame of this many is lost; 0 if none is.
     every: u64,
-    /// How many frames it is to the next one that is lost so.
+    /// How many frames it is to the next Nth one.
     left: u64,
     /// How many of a hundred are lost at random.
     percent: u32,
@@ -56,8 +56,9 @@ impl Model for FrameLosses {
 }
 
 impl FrameLosses {
-    /// Each frame of that number is lost, from the next one on, with 0 none is; and of a hundred so
-    /// many at random, with 0 none is and from 100 on all are. With the same seed the same are.
+    /// Returns losses of each frame of that number, from the next one on, or of none if it is 0;
+    /// and of so many of a hundred at random: none if it is 0, all if it is at least 100. With the
+    /// same seed the same frames are lost.
     pub fn new(every: u64, percent: u32, seed: u64) -> Self
         ensures { result ≡ record {
           every = every;
@@ -74,7 +75,7 @@ impl FrameLosses {
         }
     }
 
-    /// Whether the next frame is the so-manieth one. It is counted.
+    /// Returns `true` if the next frame is the Nth one. It is counted.
     fn is_next_counted(&mut self) -> bool
         ensures lost { result ≡ (self.old.left == 1) }
         ensures left { self.new.left ≡ next_left self.old.every self.old.left }
@@ -91,7 +92,7 @@ impl FrameLosses {
         }
     }
 
-    /// Whether the next random number is in the share of those by which a frame is lost.
+    /// Returns `true` if the next random number is in the share of those by which a frame is lost.
     fn is_next_drawn(&mut self) -> bool
         ensures lost { result ≡ is_in_share self.old.percent (drawn self.old.generator) }
         ensures none { self.old.percent ≡ 0 → result ≡ false }
@@ -111,8 +112,8 @@ impl FrameLosses {
 impl Losses for FrameLosses {
     ghost loses = { LosesNext };
 
-    /// It is lost where it is the so-manieth one, or by a random number. With 0 percent the
-    /// so-manieth alone are lost, with 100 all.
+    /// Returns `true` if it is the Nth one, or by a random number. If it is 0 percent, only the Nth
+    /// ones are lost, and if it is 100, all are.
     fn is_next_lost(&mut self) -> bool
         ensures loses { LosesNext self.old result self.new }
         ensures counted { self.old.percent ≡ 0 → result ≡ (self.old.left == 1) }
@@ -125,7 +126,7 @@ impl Losses for FrameLosses {
 }
 
 /// Losses that several wires share: they count the frames of all of them, in the order in which
-/// these are to be sent. No clause says what a cell holds, so none says which frames are lost.
+/// these are sent. No clause says what a cell holds, so none says which frames are lost.
 impl<'a> Losses for &'a Cell<FrameLosses> {
     fn is_next_lost(&mut self) -> bool {
         let mut losses = self.get();

@@ -6,8 +6,8 @@ use crate::losses::Losses;
 use crate::wire::{PeerWire, Wire, WireFault};
 use std::marker::Model;
 
-/// A wire that loses some of the frames that are to be sent over the wire behind it, to try what
-/// losses do. What comes, comes all.
+/// A wire that loses some of the frames that are sent over the wire after it, to try what
+/// losses do. If something comes, all of it comes.
 #[derive(Drop)]
 pub struct LossyWire<W: Wire, L: Losses> {
     wire: W,
@@ -23,7 +23,7 @@ impl<W: Wire, L: Losses> Model for LossyWire<W, L> {
 }
 
 impl<W: Wire, L: Losses> LossyWire<W, L> {
-    /// The frames that these losses name are lost.
+    /// Returns a wire that loses the frames that these losses name.
     pub fn new(wire: W, losses: L) -> Self
         ensures { result ≡ record { wire = wire; losses = losses } }
     {

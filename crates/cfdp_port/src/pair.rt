@@ -12,12 +12,12 @@ use cfdp_store::{Inbox, Outbox};
 use std::alloc::AllocError;
 
 /// Takes turns until a transaction is over at both stations, or so many were taken. In a turn both
-/// are told its number as the time and send, the first one first, and then each takes what came.
-/// Where the transaction isn't over after so many, who looks on hears it.
+/// are given its number as the time and send, the first one first, and then each takes what came.
+/// If the transaction isn't over after so many, who looks on hears it.
 ///
 /// # Errors
 ///
-/// `AllocError` where a station that was to send found no memory: the turns end there.
+/// `AllocError` if a station that must send found no memory: the turns end there.
 pub fn take_turns<O: Outbox, I: Inbox, P: Outbox, J: Inbox, W: Wire, L: Lookout>(
     id: TransactionId,
     most: u64,
@@ -40,7 +40,7 @@ pub fn take_turns<O: Outbox, I: Inbox, P: Outbox, J: Inbox, W: Wire, L: Lookout>
     Ok(())
 }
 
-/// Lets a lookout hear that so many turns were taken, where the transaction isn't over.
+/// Lets a lookout hear that so many turns were taken, if the transaction isn't over.
 fn tell_end<O: Outbox, I: Inbox, P: Outbox, J: Inbox, W: Wire, L: Lookout>(
     id: TransactionId,
     most: u64,
@@ -73,8 +73,8 @@ fn take_turn<O: Outbox, I: Inbox, P: Outbox, J: Inbox, W: Wire, L: Lookout>(
     Ok(())
 }
 
-/// Whether a transaction is closed at the first station, and isn't open at the second: that may
-/// never have heard of it.
+/// Returns `true` if a transaction is closed at the first station, and isn't open at the second:
+/// the second may never have heard of it.
 fn are_closed<O: Outbox, I: Inbox, P: Outbox, J: Inbox, W: Wire>(
     id: TransactionId,
     one: &Port<O, J, W>,

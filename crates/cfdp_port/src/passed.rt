@@ -6,11 +6,11 @@ use cfdp_station::Polled;
 pub enum Passed<'a> {
     /// It accepted a put.
     Put,
-    /// It was told the time.
+    /// It was given the time.
     Ticked(u64),
     /// It was polled, and answered so.
     Polled(Polled),
-    /// The frame left it, in this lane. One that isn't sent is lost.
+    /// The frame left it, in this lane. If it isn't sent, it is lost.
     Left {
         lane: Lane,
         frame: &'a [u8],

@@ -24,12 +24,12 @@ const MOST_FRAMES: u32 = 64;
 /// The most PDUs that are moved for one frame.
 const MOST_POLLS: u32 = 16;
 
-/// Takes one turn: the station takes what came, is told the time, and sends. The first buffer has
-/// the octets of a frame that leaves, and the second takes what comes.
+/// Takes one turn: the station takes what came, is given the time, and sends. The first buffer must
+/// have the octets of a frame that leaves, and the second takes what comes.
 ///
 /// # Errors
 ///
-/// `AllocError` where the station finds no memory for a call: the turn ends there.
+/// `AllocError` if the station finds no memory for a call: the turn ends there.
 pub(crate) fn take_turn<O: Outbox, I: Inbox, W: PeerWire, L: Lookout>(
     side: Side,
     station: &mut Station<O, I>,
@@ -55,11 +55,11 @@ pub(crate) fn take_turn<O: Outbox, I: Inbox, W: PeerWire, L: Lookout>(
 }
 
 /// Sends frames as long as the wire is ready for one, at most 64, and polls for them as they are
-/// wanted.
+/// needed.
 ///
 /// # Errors
 ///
-/// `AllocError` where the station finds no memory for a poll: it ends there.
+/// `AllocError` if the station finds no memory for a poll: it ends there.
 fn send_some<O: Outbox, I: Inbox, W: PeerWire, L: Lookout>(
     side: Side,
     station: &mut Station<O, I>,
@@ -83,12 +83,12 @@ fn send_some<O: Outbox, I: Inbox, W: PeerWire, L: Lookout>(
     Ok(())
 }
 
-/// Polls for the frame that is to leave next, and fills up what is begun: directives alone where a
-/// whole frame waits, so that none waits for the file data behind it, and else both lanes.
+/// Polls for the frame that leaves next, and fills up what is begun: directives alone if a
+/// whole frame waits, so that none waits for the file data after it, otherwise both lanes.
 ///
 /// # Errors
 ///
-/// `AllocError` where the station finds no memory for a poll, which changed nothing then.
+/// `AllocError` if the station finds no memory for a poll, which changed nothing then.
 fn pull<O: Outbox, I: Inbox, L: Lookout>(
     side: Side,
     station: &mut Station<O, I>,
@@ -106,12 +106,12 @@ fn pull<O: Outbox, I: Inbox, L: Lookout>(
     Ok(())
 }
 
-/// Polls until a whole frame waits, or nothing is due or has room: whether that is why it ends. At
-/// most 16 polls move a PDU.
+/// Polls until a whole frame waits, or nothing is due or has room. Returns `true` if nothing is due
+/// or has room. At most 16 polls move a PDU.
 ///
 /// # Errors
 ///
-/// `AllocError` where the station finds no memory for a poll, which changed nothing then.
+/// `AllocError` if the station finds no memory for a poll, which changed nothing then.
 fn poll_dry<O: Outbox, I: Inbox, L: Lookout>(
     side: Side,
     station: &mut Station<O, I>,
@@ -135,7 +135,7 @@ fn poll_dry<O: Outbox, I: Inbox, L: Lookout>(
     Ok(false)
 }
 
-/// Sends the frame that leaves next. False where none waits, or the wire isn't ready for it.
+/// Sends the frame that leaves next. Returns `false` if none waits, or the wire isn't ready for it.
 fn send_ready<O: Outbox, I: Inbox, W: PeerWire, L: Lookout>(
     side: Side,
     station: &mut Station<O, I>,

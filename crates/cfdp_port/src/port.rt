@@ -1,7 +1,9 @@
 //! A station on a wire, with all that its turns need.
-ghost use Rattle.std.specs.Prelude.{◌≡◌, drop, is_some, IfOk, OnErr, OnOk};
+ghost use Rattle.std.specs.Prelude.{◌≡◌, drop, is_some, IfErr, IfOk, OnErr, OnOk};
 ghost use Rattle.std.specs.FinMap as map;
 ghost use Rattle.cfdp_entity.specs.Entity.{phase_told};
+ghost use Rattle.cfdp_entity.specs.Restoring.{ForgottenCause, ReceiverCause, RestoresReceiver};
+ghost use Rattle.cfdp_entity.specs.Restoring.{RestoresSender, SenderCause, with_forgotten};
 ghost use Rattle.cfdp_station.specs.Requests.{StationAnswers};
 ghost use Rattle.cfdp_station.specs.New.{IsNewAt};
 ghost use Rattle.cfdp_port.specs.Asking.{CountsFrom, FailsToLook, ForgetsTold, LetsGo, LooksAt};
@@ -21,8 +23,11 @@ use crate::wire::{PeerWire, Wire};
 use cfdp_directives::{Indication, Phase};
 use cfdp_entity::an_entity_goes_on;
 use cfdp_header::TransactionId;
-use cfdp_station::{Lane, PutError, Request, RequestError, Station, StationConfig};
-use cfdp_store::{Inbox, Outbox, SeekingOutbox, StoreError};
+use cfdp_station::{
+    CommittedReceiver, CommittedSender, Extents, Lane, PutError, Request, RequestError,
+    RestoreError, Station, StationConfig,
+};
+use cfdp_store::{Inbox, Outbox, ResumingInbox, SeekingOutbox, StoreError};
 use station_pair::Side;
 use std::alloc::{AllocError, Global};
 use std::marker::Model;
@@ -31,7 +36,7 @@ use valid_config::Valid;
 /// The most octets of a datagram that are looked at: more than a frame has.
 const MOST_COMING: usize = 4096;
 
-/// Whether a transaction that has come so far is closed.
+/// Returns `true` if a transaction that has come so far is closed.
 fn is_closed(phase: Phase) -> bool
     ensures { result ≡ spec.is_closed phase }
 {
@@ -67,11 +72,11 @@ impl<O: Outbox, I: Inbox, W: Wire> Model for Port<O, I, W> {
 }
 
 impl<O: Outbox, I: Inbox, W: Wire> Port<O, I, W> {
-    /// A new station on this wire. To one who looks on it is the one on this side.
+    /// Returns a new station on this wire. To one who looks on it is the one on this side.
     ///
     /// # Errors
     ///
-    /// `AllocError` only where the memory for the station, or for a frame, was refused.
+    /// `AllocError` only if the memory for the station, or for a frame, was refused.
     pub fn new(
         alloc: Global,
         side: Side,
@@ -87,7 +92,7 @@ impl<O: Outbox, I: Inbox, W: Wire> Port<O, I, W> {
         let len = config.get().sends.lane(Lane::Directives).frame_len();
         let frame = vec![in alloc; 0u8; len]?;
         let datagram = vec![in alloc; 0u8; MOST_COMING]?;
-        // Last, so that no error lets a station go.
+        // Last, so that no error drops a station.
         let station = Station::new(alloc, config, outbox, inbox)?;
         Ok(Port {
             station,
@@ -106,28 +111,65 @@ impl<O: Outbox, I: Inbox, W: Wire> Port<O, I, W> {
         self.station.count_frames_from(count);
     }
 
-    /// The station, lent.
+    /// Restores the record of a file that was being sent, as [`Station::restore_sender`] says.
+    ///
+    /// # Errors
+    ///
+    /// If [`Station::restore_sender`] fails: no record is restored then.
+    pub fn restore_sender(&mut self, kept: CommittedSender, sent: u64) -> Result<(), RestoreError>
+        ensures restored { OnOk result (RestoresSender kept sent
+            self.old.station.entity.state self.new.station.entity.state) }
+        ensures refused { IfErr result (λ by. SenderCause by kept sent
+            self.old.station.entity.state) }
+        ensures wire { self.new.wire ≡ self.old.wire }
+    {
+        self.station.restore_sender(kept, sent)
+    }
+
+    /// Forgets the transactions of a source with these numbers, as [`Station::restore_forgotten`]
+    /// says.
+    ///
+    /// # Errors
+    ///
+    /// If [`Station::restore_forgotten`] fails: nothing changed then.
+    pub fn restore_forgotten(
+        &mut self,
+        source: u64,
+        start: u64,
+        end: u64,
+    ) -> Result<(), RestoreError>
+        ensures restored { OnOk result (self.new.station.entity.state
+            ≡ with_forgotten source start end self.old.station.entity.state) }
+        ensures refused { IfErr result (λ by. ForgottenCause by source end
+            self.old.station.entity.state) }
+        ensures err { OnErr result (self.new ≡ self.old) }
+        ensures wire { self.new.wire ≡ self.old.wire }
+    {
+        self.station.restore_forgotten(source, start, end)
+    }
+
+    /// Borrows the station.
     pub fn station(&self) -> &Station<O, I>
         ensures { result.now ≡ self.now.station }
     {
         &self.station
     }
 
-    /// How often the outbox failed.
+    /// Returns how often the outbox failed.
     pub fn outbox_failures(&self) -> u64
         ensures { result ≡ self.now.station.entity.outbox_failures }
     {
         self.station.outbox().failures()
     }
 
-    /// How often the inbox failed.
+    /// Returns how often the inbox failed.
     pub fn inbox_failures(&self) -> u64
         ensures { result ≡ self.now.station.entity.inbox_failures }
     {
         self.station.inbox().failures()
     }
 
-    /// What the station told its user, but for what was let go.
+    /// Returns what the station indicated, except for what was discarded.
     pub fn indications(&self) -> &[Indication]
         ensures { result.now ≡ drop self.now.station.entity.state.table.gone
             self.now.station.entity.state.table.told }
@@ -135,15 +177,15 @@ impl<O: Outbox, I: Inbox, W: Wire> Port<O, I, W> {
         self.station.indications()
     }
 
-    /// How far a transaction has come; `None` where it has no record here.
+    /// Returns how far a transaction has come; `None` if it has no record here.
     pub fn phase(&self, id: TransactionId) -> Option<Phase>
         ensures { result ≡ phase_told id self.now.station.entity.state.table }
     {
         self.station.phase(id)
     }
 
-    /// Whether all transactions of the station are closed: those that it sends, and those that it
-    /// receives.
+    /// Returns `true` if all transactions of the station are closed: those that it sends, and those
+    /// that it receives.
     pub fn are_all_closed(&self) -> bool
         ensures { result ≡ all_closed self.now.station }
     {
@@ -152,11 +194,11 @@ impl<O: Outbox, I: Inbox, W: Wire> Port<O, I, W> {
             .all(|known| is_closed(known.1))
     }
 
-    /// Asks the station to send a file, which is shown where it does.
+    /// Asks the station to send a file, which is shown if it does.
     ///
     /// # Errors
     ///
-    /// Those of [`Station::put`].
+    /// If [`Station::put`] refuses it.
     pub fn put<L: Lookout>(
         &mut self,
         source: &[u8],
@@ -179,7 +221,7 @@ impl<O: Outbox, I: Inbox, W: Wire> Port<O, I, W> {
     ///
     /// # Errors
     ///
-    /// Those of [`Station::request`].
+    /// If [`Station::request`] refuses it.
     pub fn request(&mut self, id: TransactionId, request: Request) -> Result<(), RequestError>
         ensures answers { AtStation (StationAnswers request id result) self.old self.new }
         ensures gains { Gains (table_of self.old.station) (table_of self.new.station) }
@@ -188,7 +230,7 @@ impl<O: Outbox, I: Inbox, W: Wire> Port<O, I, W> {
         self.station.request(id, request)
     }
 
-    /// Lets go of the records of all transactions that are over, as far as there is memory to note
+    /// Discards the records of all transactions that are over, as far as there is memory to note
     /// it.
     pub fn forget_closed(&mut self)
         ensures { AtStation LetsGo self.old self.new }
@@ -196,20 +238,20 @@ impl<O: Outbox, I: Inbox, W: Wire> Port<O, I, W> {
         let _ = self.station.forget_closed();
     }
 
-    /// Lets go of the first so many indications, as [`Station::forget_indications`] says.
+    /// Discards the first so many indications, as [`Station::forget_indications`] says.
     pub fn forget_indications(&mut self, count: usize)
         ensures { AtStation (ForgetsTold count) self.old self.new }
     {
         self.station.forget_indications(count);
     }
 
-    /// Sends: the station is told the time, polled until nothing is due or nothing more has room,
-    /// at most 16 times, and flushed, and all its whole frames leave. One that the wire fails to
-    /// send is lost.
+    /// Sends: the station is given the time, polled until nothing is due or nothing more has room,
+    /// at most 16 times, and flushed, and all its whole frames leave. If the wire fails to
+    /// send one, it is lost.
     ///
     /// # Errors
     ///
-    /// `AllocError` where the station finds no memory for a call: the turn ends there.
+    /// `AllocError` if the station finds no memory for a call: the turn ends there.
     pub fn send<L: Lookout>(&mut self, now: u64, lookout: &mut L) -> Result<(), AllocError>
         ensures ok { OnOk result (Sends W.steps now self.old self.new) }
         ensures err { OnErr result (SendsInPart now self.old self.new) }
@@ -225,8 +267,8 @@ impl<O: Outbox, I: Inbox, W: Wire> Port<O, I, W> {
         )
     }
 
-    /// Gives the station what came over the wire, until nothing does; asks at most 4,096 times. A
-    /// failure of the wire is a frame that is lost.
+    /// Gives the station what came over the wire, until nothing does; asks at most 4,096 times. If
+    /// the wire fails, a frame is lost.
     pub fn receive<L: Lookout>(&mut self, lookout: &mut L)
         ensures { HearsAll W.steps self.old self.new }
     {
@@ -242,12 +284,12 @@ impl<O: Outbox, I: Inbox, W: Wire> Port<O, I, W> {
 }
 
 impl<O: Outbox, I: Inbox, W: PeerWire> Port<O, I, W> {
-    /// Takes one turn: the station takes what came, is told the time, and sends as long as the wire
-    /// is ready, at most 64 frames. It is polled for a frame as that can leave.
+    /// Takes one turn: the station takes what came, is given the time, and sends as long as the
+    /// wire is ready, at most 64 frames. It is polled for a frame if that can leave.
     ///
     /// # Errors
     ///
-    /// `AllocError` where the station finds no memory for a call: the turn ends there.
+    /// `AllocError` if the station finds no memory for a call: the turn ends there.
     pub fn turn<L: Lookout>(&mut self, lookout: &mut L) -> Result<(), AllocError>
         ensures ok { OnOk result (TakesOne W.steps self.old self.new) }
         ensures err { OnErr result (TakesInPart W.steps self.old self.new) }
@@ -264,8 +306,8 @@ impl<O: Outbox, I: Inbox, W: PeerWire> Port<O, I, W> {
         )
     }
 
-    /// Asks the wire whether the peer has been silent for long enough, and tells it whether a
-    /// transaction is open.
+    /// Returns `true` if the peer has been silent for long enough, by the wire, which is given
+    /// whether a transaction is open.
     pub fn is_silent(&mut self, is_open: bool) -> bool
         ensures wire { W.steps self.old.wire (Rested is_open result) self.new.wire }
         ensures station { self.new.station ≡ self.old.station }
@@ -274,12 +316,35 @@ impl<O: Outbox, I: Inbox, W: PeerWire> Port<O, I, W> {
     }
 }
 
-impl<O: SeekingOutbox, I: Inbox, W: Wire> Port<O, I, W> {
-    /// Looks for the file of a name, so that a put can send it as it is now: whether there is one.
+impl<O: Outbox, I: ResumingInbox, W: Wire> Port<O, I, W> {
+    /// Restores the record of a file that was being received, with what was held of it, as
+    /// [`Station::restore_receiver`] says.
     ///
     /// # Errors
     ///
-    /// Those of [`Station::look_for`].
+    /// If [`Station::restore_receiver`] fails: no record is restored then.
+    pub fn restore_receiver(
+        &mut self,
+        kept: CommittedReceiver,
+        held: Extents,
+    ) -> Result<(), RestoreError>
+        ensures restored { OnOk result (RestoresReceiver kept held
+            self.old.station.entity.state self.new.station.entity.state) }
+        ensures refused { IfErr result (λ by. ReceiverCause by kept held
+            self.old.station.entity.state) }
+        ensures wire { self.new.wire ≡ self.old.wire }
+    {
+        self.station.restore_receiver(kept, held)
+    }
+}
+
+impl<O: SeekingOutbox, I: Inbox, W: Wire> Port<O, I, W> {
+    /// Looks for the file of a name, so that a put can send it as it is now. Returns `true` if
+    /// there is one.
+    ///
+    /// # Errors
+    ///
+    /// If [`Station::look_for`] fails.
     pub fn look_for(&mut self, name: &[u8]) -> Result<bool, StoreError>
         ensures has { IfOk result (λ has. has
             ≡ is_some (map.get self.new.station.entity.state.table.sources name.now)) }

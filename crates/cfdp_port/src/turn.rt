@@ -19,9 +19,9 @@ const MOST_POLLS: u32 = 16;
 /// The most datagrams that it is asked for in a turn.
 const MOST_DATAGRAMS: u32 = 4096;
 
-/// Tells a station the time, polls it until nothing is due or nothing more has room, at most 16
-/// times, flushes it, and sends all its whole frames. A frame that the wire fails to send is lost.
-/// The buffer has the octets of a frame.
+/// Gives a station the time, polls it until nothing is due or nothing more has room, at most 16
+/// times, flushes it, and sends all its whole frames. If the wire fails to send a frame, it is
+/// lost. The buffer must have the octets of a frame.
 pub(crate) fn send<O: Outbox, I: Inbox, W: Wire, L: Lookout>(
     now: u64,
     side: Side,
@@ -81,7 +81,7 @@ fn send_whole<O: Outbox, I: Inbox, W: Wire, L: Lookout>(
     while send_one(side, station, wire, frame, lookout) {}
 }
 
-/// Sends the whole frame of a station that leaves next. False where none waits.
+/// Sends the whole frame of a station that leaves next. Returns `false` if none waits.
 pub(crate) fn send_one<O: Outbox, I: Inbox, W: Wire, L: Lookout>(
     side: Side,
     station: &mut Station<O, I>,
@@ -115,8 +115,8 @@ pub(crate) fn send_one<O: Outbox, I: Inbox, W: Wire, L: Lookout>(
     true
 }
 
-/// Gives a station what came over a wire, until nothing does; asks at most 4,096 times. A failure
-/// of the wire is a frame that is lost.
+/// Gives a station what came over a wire, until nothing does; asks at most 4,096 times. If the wire
+/// fails, a frame is lost.
 pub(crate) fn receive<O: Outbox, I: Inbox, W: Wire, L: Lookout>(
     side: Side,
     station: &mut Station<O, I>,

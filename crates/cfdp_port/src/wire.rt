@@ -13,39 +13,39 @@ pub trait Wire: Drop {
     /// to another. A wire says by it what is true of this wire alone, or nothing.
     ghost steps: { Self → WireCall → Self → Type 0 } = { λ _ _ _. Unit {0} };
 
-    /// Sends a frame, without waiting.
+    /// Sends a frame. It must not wait.
     ///
     /// # Errors
     ///
-    /// `WireFault` where it isn't sent: it is lost.
+    /// `WireFault` if it isn't sent: it is lost.
     fn send(&mut self, frame: &[u8]) -> Result<(), WireFault>
         ensures { steps self.old (Sent frame.now result) self.new };
 
-    /// Writes the next octets that came to the front of the buffer, and answers how many they are;
-    /// `None` where nothing has come. Whether it waits for some, and how long, is the wire's
+    /// Writes the next octets that came to the front of the buffer, and returns how many they are;
+    /// `None` if nothing has come. The wire decides if it waits for some, and how long.
     /// affair.
     ///
     /// # Errors
     ///
-    /// `WireFault` where it couldn't be asked, or what came is lost.
+    /// `WireFault` if it couldn't be asked, or what came is lost.
     fn receive(&mut self, buffer: &mut [u8]) -> Result<Option<usize>, WireFault>
         ensures steps { steps self.old (Asked (brought result buffer.new)) self.new }
         ensures within { IfOk result (λ came. IfSome came (λ len. len ≤ length buffer.new)) };
 }
 
-/// A wire that says what time it is, when a frame may leave, and whether its peer is silent.
+/// A wire that says what time it is, if a frame may leave, and if its peer is silent.
 pub trait PeerWire: Wire {
-    /// The time now, in the units of the station's timers.
+    /// Returns the time now, in the units of the station's timers.
     fn now(&mut self) -> u64
         ensures { Self.steps self.old (Timed result) self.new };
 
-    /// Whether a frame may leave now. Where none may, frames stay in the station, so that
+    /// Returns `true` if a frame may leave now. If none may, frames stay in the station, so that
     /// directives that come to be due still overtake file data.
     fn is_ready(&mut self) -> bool
         ensures { Self.steps self.old (Readied result) self.new };
 
-    /// Whether nothing has come, and no transaction was open at the station, for as long as is
-    /// waited. It is told whether one is open now.
+    /// Returns `true` if nothing has come, and no transaction was open at the station, for as long
+    /// as is waited. It is given whether one is open now.
     fn is_silent(&mut self, is_open: bool) -> bool
         ensures { Self.steps self.old (Rested is_open result) self.new };
 }

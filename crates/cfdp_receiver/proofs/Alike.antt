@@ -38,7 +38,7 @@ module _ (files other : FileMap) where
       PublishesAlike files other (if test then a else x) (if test then b else y)
   either test {a} {b} {x} {y} h k = elim test as (λ t. PublishesAlike files other (if t then a else x) (if t then b else y)) [ true ↦ h | false ↦ k ]
 
-  -- what is done about all that a step leaves, but for the files
+  -- what is done about all that a step leaves, except for the files
   through : (f : ReceiverAfter → ReceiverAfter) → ((a : ReceiverAfter) (published : FileMap) → f (record a { files = published }) ≡ record (f a) { files = published }) → {a b : ReceiverAfter} →
       PublishesAlike files other a b → PublishesAlike files other (f a) (f b)
   through f keeps {a} {b} h = record {

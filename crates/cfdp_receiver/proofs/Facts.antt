@@ -74,7 +74,7 @@ module _ (stored : Stored) (files : FileMap) where
     publishes = inl (record { same_files = still; no_completion = none });
   }
 
-  -- a Finished is told last, and nothing is published
+  -- a Finished is indicated last, and nothing is published
   told_over : (r : ReceiverState) (a : ReceiverAfter) (o : Outcome) → a.receiver.outcome ≡ Some o → a.files ≡ files → ((own : ℕ) → completions own a.told ≡ [])
       → Contains a.told (finished_told r.addressing.id o) → After r a
   told_over r a o is still none told = record {

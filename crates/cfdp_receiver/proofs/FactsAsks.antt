@@ -41,9 +41,9 @@ asks-same : (cursor : Option ℕ) (r r1 : ReceiverState) → ((c : ℕ) → miss
 asks-same (Some cursor) r r1 h = ap (λ (pairs : List (ℕ × ℕ)). not (is_empty pairs)) (h cursor)
 asks-same None r r1 h = refl
 
--- ---- ranges behind the first ones
+-- ---- ranges after the first ones
 module _ (ranges : RangesHold) (unions : UnionsHold) (differences : DifferencesHold) (gaps : GapsAre) where
-  -- an offset that lies in the ranges, behind the end of the first k
+  -- an offset that lies in the ranges, after the end of the first k
   record Behind (end : ℕ) (rs : List (ℕ × ℕ)) : Type 0 where
     pub offset : ℕ
     pub inside : set.contains (union_of rs) offset ≡ true
@@ -75,7 +75,7 @@ module _ (ranges : RangesHold) (unions : UnionsHold) (differences : DifferencesH
         past = b.past;
       }
 
-  -- where an offset is missing there is a gap
+  -- if an offset is missing there is a gap
   some-gap : (held : Offsets) (start limit k : ℕ) → start ≤ k → k < limit → set.contains held k ≡ false → is_empty (gaps_of held start limit) ≡ false
   some-gap held start limit k low high isnt =
       let rs : List (ℕ × ℕ) = gaps_of held start limit in
@@ -92,7 +92,7 @@ module _ (ranges : RangesHold) (unions : UnionsHold) (differences : DifferencesH
       let inside = and_parts (nat_le start k) (nat_lt k limit) (sym (ranges start limit k) ∙ parts.0) in
       (ltb-true k limit inside.1, not_true (set.contains held k) parts.1)
 
-  -- behind the first gaps there is one, where there are more
+  -- after the first gaps there is one, if there are more
   gap-behind : (held : Offsets) (start limit end k : ℕ) → suc k < length (gaps_of held start limit) → is_empty (gaps_of held (last_end end (take (suc k) (gaps_of held start limit))) limit) ≡ false
   gap-behind held start limit end k more =
       let b : Behind (last_end end (take (suc k) (gaps_of held start limit))) (gaps_of held start limit) = beyond-some k end (gaps_of held start limit) (gaps held start limit).apart more in
@@ -129,7 +129,7 @@ module _ (ranges : RangesHold) (unions : UnionsHold) (differences : DifferencesH
     abbrev Tidy : ReceiverAfter → Type 0
     Tidy a = is_tidy a.receiver ≡ true
 
-    -- where neither the cursor nor what is missing changes
+    -- if neither the cursor nor what is missing changes
     still : (r1 : ReceiverState) → r1.nak_cursor ≡ r.nak_cursor → ((c : ℕ) → missing_pairs c r1 ≡ missing_pairs c r) → is_tidy r1 ≡ true
     still r1 cursor missing = ap (λ o. asks_from o r1) cursor ∙ asks-same r.nak_cursor r r1 missing ∙ was
 

@@ -29,7 +29,7 @@ GapsAre = (held : Offsets) (start limit : ℕ) → AreRangesOf (missing_from hel
 abbrev pub GapsLieIn : Type 0
 GapsLieIn = (held : Offsets) (start limit : ℕ) → All (LiesIn start limit) (gaps_of held start limit)
 
--- what stands where octets were written
+-- what stands if octets were written
 pub record OctetsStand : Type 0 where
   pub inside : (m : OctetMap) (at : ℕ) (xs : List ℕ) (n : ℕ) → at ≤ n → n < at + length xs → maps.get (written m at xs) n ≡ Some (slice_index xs (n - at))
   pub below : (m : OctetMap) (at : ℕ) (xs : List ℕ) (n : ℕ) → n < at → maps.get (written m at xs) n ≡ maps.get m n

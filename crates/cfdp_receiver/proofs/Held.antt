@@ -67,7 +67,7 @@ held_with held s e n is =
       | inr new ↦ inr (within_parts s e n (sym (contains-range s e n) ∙ new))
     ]
 
--- so none is beyond the greatest size, where the range isn't
+-- so none is beyond the greatest size, if the range isn't
 pub held_below_with : (most : ℕ) (held all : Offsets) (s e n : ℕ) → all ≡ set.union held (range s e) →
     ((k : ℕ) → set.contains held k ≡ true → k < most) → e ≤ most →
     set.contains all n ≡ true → n < most

@@ -17,3 +17,5 @@ pub mod StepLemmas
 pub mod AskedLemmas
 pub mod Chains
 pub mod ReadOff
+pub mod Limited
+mod ReadAnew

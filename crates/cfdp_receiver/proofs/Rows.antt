@@ -164,7 +164,7 @@ unsupported : (m : OctetMap) (files : FileMap) →
 unfolding is_known
 unsupported m files = refl
 
--- file data behind the EOF's size
+-- file data beyond the EOF's size
 behind_the_end : (m : OctetMap) (files : FileMap) →
     (hears_data Done false 4 (1 ∷ 2 ∷ []) m files (record x { ending = Some five })).told
     ≡ indication.Fault a.id 6 ∷ indication.Finished a.id 6 Incomplete Discarded ∷ []
@@ -287,7 +287,7 @@ smaller_size : (held : Offsets) (m : OctetMap) (files : FileMap) → end_of held
     ≡ indication.EofRecv a.id ∷ indication.Fault a.id 6 ∷ indication.Finished a.id 6 Incomplete Discarded ∷ []
 smaller_size held m files seven = rw seven refl
 
--- file data behind the greatest size there is
+-- file data beyond the greatest size there is
 behind_all : (m : OctetMap) (files : FileMap) →
     (hears_data Done false 4294967295 (1 ∷ []) m files x).told
     ≡ indication.Fault a.id 6 ∷ indication.Finished a.id 6 Incomplete Discarded ∷ []

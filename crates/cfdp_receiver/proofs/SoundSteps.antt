@@ -81,7 +81,7 @@ pub record LowerLaws : Type 0 where
       map.get (staged_with m (new_pieces held offset bytes)) n
       ≡ (if is_within offset (offset + length bytes) n && not (set.contains held n) then slice_get bytes (n - offset) else map.get m n)
 
--- What a step leaves is true of the put, and it publishes the put's file or nothing. Where the put
+-- What a step leaves is true of the put, and it publishes the put's file or nothing. If the put
 -- can be received it raises no fault of the file.
 pub record TrueAfter (put : Put) (heard_pdus : List (List ℕ)) (fits : Type 0) (id : TransactionId) (files : FileMap) (a : ReceiverAfter) : Type 0 where
   pub sound : Sound put heard_pdus a.receiver a.octets

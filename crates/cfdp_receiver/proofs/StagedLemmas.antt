@@ -210,7 +210,7 @@ some_staged held gaps m offset bytes n is all old new =
     ]))
 
 -- ---- a receiver once octets were staged
--- it is ready, where no more is held than was, and the octets of the file data
+-- it is ready, if no more is held than was, and the octets of the file data
 pub ready_staged : (staged_old staged_new : TransactionId →
     Option OctetMap) (old r new : ReceiverState) (gaps : List (ℕ × ℕ)) (offset : ℕ)
     (bytes : List ℕ) →
@@ -277,7 +277,7 @@ on_err : {T E P : Type 0} (r : Result T E) → P → OnErr r P
 on_err (Ok x) p = tt
 on_err (Err e) p = p
 
--- where there was no room to hold them
+-- if there was no room to hold them
 pub keeps_unheld : {T E : Type 0} (result : Result T E) (old : Scene) (r : ReceiverState) (held : Offsets) (files : FileMap) (staged : TransactionId → Option OctetMap) (failures : ℕ)
     (gaps : List (ℕ × ℕ)) (offset : ℕ) (bytes : List ℕ) →
     r ≡ old.receiver → held ≡ r.held → files ≡ old.files → failures ≡ old.failures →

@@ -157,7 +157,7 @@ sums-with sets law wanted file held sums offset bytes truth s =
 pub sums-named : ChecksumsHold → (kind : ℕ) (file : List ℕ) (held : Offsets) (sums : Checksums) → SumsHeld None held file sums → SumsHeld (Some kind) held file sums
 sums-named law kind file held sums s = record { pieces = s.pieces; cut = s.cut; are = law.named kind s.pieces sums s.are }
 
--- Where all is held, it is the file's checksum.
+-- If all is held, it is the file's checksum.
 pub sums-all : ChecksumsHold → (wanted : Option ℕ) (kind : ℕ) (file : List ℕ) (held : Offsets) (sums : Checksums) → wants wanted kind ≡ true → SumsHeld wanted held file sums →
     ((k : ℕ) → k < length file → set.contains held k ≡ true) → sum_told kind sums ≡ checksum_of kind file
 sums-all law wanted kind file held sums its s all =
@@ -171,6 +171,6 @@ sums-none law wanted file = record {
   are = law.none wanted;
 }
 
--- a type that was told is wanted
+-- a type that was said is needed
 pub wants-it : (kind other : ℕ) → kind ≡ other → wants (Some kind) other ≡ true
 wants-it kind other e = eq-eqb kind other e

@@ -9,7 +9,7 @@ abbrev pub with_documents : List (List ℕ × List ℕ) → FileMap → FileMap
 with_documents [] files = files
 with_documents (d ∷ rest) files = with_documents rest (map.insert files d.0 d.1)
 
--- The same step was made twice, once where these files were published before, and once where others
+-- The same step was made twice, once after these files were published, and once after others
 -- were: both times it published the same documents, and left all else the same.
 pub record PublishesAlike (files other : FileMap) (a b : ReceiverAfter) : Type 0 where
   pub documents : List (List ℕ × List ℕ)

@@ -7,7 +7,7 @@ use Rattle.cfdp_receiver.specs.declared.asked.Asked.{Asked}
 use Rattle.cfdp_receiver.specs.State.{ReceiverState}
 use Rattle.cfdp_receiver.specs.Missing.{asked, has_more, last_end, missing_pairs}
 
--- gaps, and Metadata ahead of them if it is asked for
+-- gaps, and Metadata before them if it is asked for
 abbrev pub with_metadata : Bool → List (ℕ × ℕ) → List (ℕ × ℕ)
 with_metadata metadata gaps = (if metadata then (0, 0) ∷ [] else []) ++ gaps
 

@@ -27,7 +27,7 @@ use Rattle.cfdp_receiver.specs.Steps.{ReceiverAfter, waits}
 use Rattle.cfdp_receiver.specs.Pieces.{staged_with}
 use Rattle.cfdp_receiver.specs.Storing.{Discards, Settles, StopsAt, writes}
 
--- what a receiver asks of its timers, where one of them is to be armed anew
+-- what a receiver asks of its timers, if one of them must be armed again
 abbrev pub waits_of : Times → Option Kind → ReceiverState → Waits
 waits_of times anew r = record {
   eof_ack = wait_by (waits kind.EofAck r) (is_anew anew kind.EofAck) times.eof;
@@ -42,7 +42,7 @@ timers_set times anew r timers = record timers {
   armed = waited timers.time r.addressing.id (waits_of times anew r) timers.armed;
 }
 
--- the timers where a step leaves it to its caller to set them
+-- the timers if a step leaves it to its caller to set them: the caller must
 abbrev pub timers_kept : Option Kind → ReceiverState → TimersState → TimersState
 timers_kept anew r timers = timers
 
@@ -69,7 +69,7 @@ at inbox r effects store = record {
   failures = inbox.failures store;
 }
 
--- A transaction that is received, ready for a step, with room for so many indications.
+-- A transaction that is received, ready for a step: there must be room for so many indications.
 pub record IsOpen {S : Type 0} (inbox : Inbox S) (count : ℕ) (r : ReceiverState)
     (effects : Effects) (store : S) : Type 0 where
   pub receiving : r.phase ≡ Receiving
@@ -108,7 +108,7 @@ pub record Does (timed : Option Kind → ReceiverState → TimersState → Timer
       → new.staged (after step old).receiver.addressing.id ≡ Some (after step old).octets
   pub counts : Counts stored old.failures new.failures
 
--- The same of a receiver, its effects and its inbox.
+-- A receiver, its effects and its inbox made this step.
 abbrev pub Performs : {S : Type 0} → Inbox S
     → (timed : Option Kind → ReceiverState → TimersState → TimersState) → Stored → Step
     → (old new : ReceiverState) → (before now : Effects) → (store store_now : S) → Type 0
@@ -132,9 +132,9 @@ pub record DoesAlone (times : Times) (step : Step) (old new : ReceiverState)
       now.timers ≡ timers_set times (step m files old).anew new before.timers
 
 -- ---- what stays
--- What every call that is lent the inbox keeps, also one that finds no memory: the transaction,
--- that what is held is staged, and what is staged for others. Failures are never forgotten. What
--- was staged for a transaction that is received no more was let go, unless the inbox failed.
+-- What every call that borrows the inbox keeps, even if it finds no memory: the transaction,
+-- that what is held is staged, and what is staged for others. Failures are never forgotten. If
+-- a transaction is received no more, what was staged for it was discarded, unless the inbox failed.
 pub record Kept {S : Type 0} (inbox : Inbox S) (old new : ReceiverState) (store store_now : S)
     : Type 0 where
   pub addressing : new.addressing ≡ old.addressing
@@ -150,7 +150,7 @@ pub record KeptAlone (old new : ReceiverState) : Type 0 where
   pub addressing : new.addressing ≡ old.addressing
   pub ready : (staged : TransactionId → Option OctetMap) → IsReady staged old → IsReady staged new
 
--- A call found no memory, and left all as it was, save octets staged at offsets that aren't held.
+-- If a call found no memory, all is as it was, except octets staged at offsets that aren't held.
 pub record Keeps (old new : Scene) : Type 0 where
   pub receiver : new.receiver ≡ old.receiver
   pub tells : new.told ≡ old.told
@@ -161,7 +161,7 @@ pub record Keeps (old new : Scene) : Type 0 where
       ≡ map.get (staged_for old.staged old.receiver.addressing.id) n
   pub failures : new.failures ≡ old.failures
 
--- A call found no memory, and left all as it was.
+-- If a call found no memory, all is as it was.
 pub record Rests {S : Type 0} (old new : ReceiverState) (before now : Effects)
     (store store_now : S) : Type 0 where
   pub receiver : new ≡ old
@@ -173,8 +173,8 @@ pub record Rests {S : Type 0} (old new : ReceiverState) (before now : Effects)
 abbrev pub MakesIn : {S : Type 0} → Inbox S → List InboxCall → (store store_now : S) → Type 0
 MakesIn inbox calls store store_now = Makes inbox.steps inbox.failures calls store store_now
 
--- What is staged for a transaction was let go by one call, unless that failed. Nothing else of the
--- inbox changed.
+-- What is staged for a transaction was discarded by one call, unless that failed. Nothing else of
+-- the inbox changed.
 pub record LetsGo {S : Type 0} (inbox : Inbox S) (id : TransactionId) (store store_now : S)
     : Type 0 where
   pub files : inbox.published store_now ≡ inbox.published store
@@ -196,7 +196,7 @@ pub record StagesAll {S : Type 0} (inbox : Inbox S) (stored : Stored) (id : Tran
   pub others : OthersKeep id (inbox.staged store) (inbox.staged store_now)
   pub counts : Counts stored (inbox.failures store) (inbox.failures store_now)
 
--- ---- steps that leave the timers to their caller
+-- ---- steps after which the caller must set the timers
 -- A receiver made this step: what it did, what it kept, and which calls of the inbox it made.
 pub record Advances {S : Type 0} (inbox : Inbox S) (stored : Stored) (step : Step)
     (old new : ReceiverState) (before now : Effects) (store store_now : S) : Type 0 where

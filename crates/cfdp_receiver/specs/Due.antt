@@ -43,27 +43,27 @@ abbrev pub ack_first : Option ℕ → ReceiverState → Option Due
 ack_first (Some condition) r = Some (due.AckOfEof condition)
 ack_first None r = phase_due r.phase r
 
--- what is due, the first that holds: the ACK of EOF; a NAK; a Keep Alive; Finished. Once closed the
--- ACK of EOF alone, and nothing while it is suspended
+-- what is due, the first that holds: the ACK of EOF; a NAK; a Keep Alive; Finished. If it is
+-- closed, the ACK of EOF alone, and nothing if it is suspended
 abbrev pub receiver_due : ReceiverState → Option Due
 receiver_due r = if r.suspended then None else ack_first r.ack_due r
 
--- the status in an ACK of EOF: terminated once closed
+-- the status in an ACK of EOF: terminated if it is closed
 abbrev pub status_in : ReceiverPhase → TransactionStatus
 status_in Receiving = Active
 status_in Finishing = Active
 status_in Closed = Terminated
 
--- whether a Finished with this condition says where the fault was (CCSDS 727.0-B-5, table 5-7)
+-- `true` if a Finished with this condition says where the fault was (CCSDS 727.0-B-5, table 5-7)
 abbrev pub tells_location : ℕ → Bool
 tells_location condition = not ((condition == no_error) || (condition == unsupported_checksum_type))
 
--- where the fault of a transaction was, as its Finished says it: at the receiver
+-- the location of the fault of a transaction, as its Finished says it: at the receiver
 abbrev pub location_told : Addressing → ℕ → List Tlv
 location_told a condition =
     if tells_location condition then fault_location a.destination a.id_width ∷ [] else []
 
--- what the PDU says that is due
+-- what the PDU that is due says
 abbrev pub receiver_says : ReceiverState → Due → Content
 receiver_says r (due.AckOfEof condition) = Ack acknowledged.Eof condition (status_in r.phase)
 receiver_says r (due.Nak cursor) =
@@ -87,7 +87,7 @@ len_of r None = None
 abbrev pub due_len : ReceiverState → Option ℕ
 due_len r = len_of r (receiver_due r)
 
--- A NAK is due only while it receives, and from an offset that can be written.
+-- A NAK is due only while it receives, and its offset must be one that can be written.
 abbrev pub IsWritableIn : ReceiverState → Due → Type 0
 IsWritableIn r (due.Nak cursor) = (r.phase ≡ Receiving) × (cursor ≤ size_limit r.large)
 IsWritableIn r (due.AckOfEof condition) = Unit {0}

@@ -9,3 +9,6 @@ pub mod Does
 pub mod Sound
 pub mod Alike
 pub mod Asked
+pub mod Back
+pub mod Limit
+pub mod Summed

@@ -5,7 +5,7 @@ use Rattle.cfdp_extents.specs.Terms.{gaps_of, end_of}
 use Rattle.cfdp_receiver.specs.declared.state.Ending.{Ending}
 use Rattle.cfdp_receiver.specs.State.{ReceiverState}
 
--- up to which offset something can be missing: the EOF's size, or the held end while none was heard
+-- up to which offset something can be missing: the EOF's size, or the held end if none was heard
 abbrev pub limit_by : Option Ending → Offsets → ℕ
 limit_by (Some ending) held = ending.size
 limit_by None held = end_of held
@@ -13,7 +13,7 @@ limit_by None held = end_of held
 abbrev pub scope_limit : ReceiverState → ℕ
 scope_limit r = limit_by r.ending r.held
 
--- the pair (0, 0), which asks for Metadata: only where it wasn't heard, and only from offset 0 on
+-- the pair (0, 0), which asks for Metadata: only if it wasn't heard, and only from offset 0 on
 abbrev pub metadata_pair : ℕ → ReceiverState → List (ℕ × ℕ)
 metadata_pair from r = if is_none r.metadata && (from == 0) then (0, 0) ∷ [] else []
 
@@ -33,21 +33,21 @@ most_pairs = 32
 abbrev pub asked : List (ℕ × ℕ) → List (ℕ × ℕ)
 asked pairs = take most_pairs pairs
 
--- whether more are missing than one NAK names
+-- `true` if more are missing than one NAK names
 abbrev pub has_more : List (ℕ × ℕ) → Bool
 has_more pairs = nat_lt most_pairs (length pairs)
 
--- where the last of these pairs ends
+-- the end of the last of these pairs
 abbrev pub last_end : ℕ → List (ℕ × ℕ) → ℕ
 last_end end [] = end
 last_end end (p ∷ ps) = last_end p.1 ps
 
--- where the scope of a NAK ends that is to name these: at its last pair's end where more are
--- missing, else at the limit
+-- the end of the scope of a NAK that must name these: at its last pair's end if more are
+-- missing, otherwise at the limit
 abbrev pub scope_end : ℕ → List (ℕ × ℕ) → ℕ
 scope_end limit pairs = if has_more pairs then last_end 0 (asked pairs) else limit
 
--- from where on the next NAK is due, if more are missing
+-- the offset from which the next NAK is due, if more are missing
 abbrev pub next_cursor : List (ℕ × ℕ) → Option ℕ
 next_cursor pairs = if has_more pairs then Some (last_end 0 (asked pairs)) else None
 
@@ -55,6 +55,6 @@ abbrev pub cursor_by : Option ℕ → ReceiverState → Option ℕ
 cursor_by None r = None
 cursor_by (Some from) r = if is_empty (missing_pairs from r) then None else Some from
 
--- a NAK that is due is over once nothing is missing from its cursor on
+-- a NAK that is due is over if nothing is missing from its cursor on
 abbrev pub tidied : ReceiverState → ReceiverState
 tidied r = record r { nak_cursor = cursor_by r.nak_cursor r }

@@ -1,4 +1,4 @@
--- File data of which some octets are held already: the others, as pieces.
+-- The octets of file data that aren't held, as pieces, if some are held already.
 use Rattle.std.specs.Prelude.{ℕ, ◌+◌, ◌-◌, List, length, take, drop, fold, map}
 use Rattle.cfdp_directives.specs.Pdu.Checksum.{Piece}
 use Rattle.cfdp_extents.specs.Offsets.{Offsets}

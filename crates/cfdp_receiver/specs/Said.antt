@@ -28,7 +28,7 @@ pub record Says (r : ReceiverState) (d : Due) (v : Content) : Type 0 where
   pub fits : FitsContent (file_size_octets r.large) v
   pub short : content_len (file_size_octets r.large) v ≤ 4098
 
--- So many octets were written, those of this PDU, and the octets behind stay.
+-- So many octets were written, those of this PDU, and the octets after stay.
 pub record Writes (r : ReceiverState) (d : Due) (octets : ℕ) (out_before out_now : List ℕ)
     : Type 0 where
   pub len : octets ≡ said_len r d

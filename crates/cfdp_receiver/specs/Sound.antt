@@ -84,7 +84,7 @@ receiver_step stored Cancels m files r = cancels m files r
 receiver_step stored Suspends m files r = suspends m files r
 receiver_step stored Resumes m files r = resumes m files r
 
--- A receiver is opened and, where the inbox began the transaction, hears the PDU that opened it.
+-- A receiver is opened and, if the inbox began the transaction, hears the PDU that opened it.
 abbrev pub opens_hearing : (begun stored : Stored) → (large : Bool) → Content → FileMap →
     Addressing → ReceiverAfter
 opens_hearing Done stored large v files addressing =
@@ -101,7 +101,7 @@ timers_opened times Refused a timers = timers
 abbrev pub open_count : ReceiverPhase → ℕ
 open_count phase = if is_receiving phase then 1 else 0
 
--- whether a fault with this condition is indicated
+-- `true` if a fault with this condition is indicated
 abbrev pub is_fault : ℕ → Indication → Bool
 is_fault condition (Fault id of) = of == condition
 is_fault condition _ = false
@@ -152,7 +152,7 @@ pub record CutsHeld (held : Offsets) (file : List ℕ) (pieces : List Piece) : T
   pub once : (n : ℕ) → n < length file
       → count_by (covers n) pieces ≡ (if set.contains held n then 1 else 0)
 
--- What is kept for the checksum that is wanted, or for all of them, is what pieces leave that are
+-- What is kept for the checksum of the known type, or for all types, is what pieces leave that are
 -- what is held of the file.
 pub record SumsHeld (wanted : Option ℕ) (held : Offsets) (file : List ℕ) (sums : Checksums)
     : Type 0 where
@@ -193,7 +193,7 @@ pub record KeepsTruth (put : Put) (heard : List (List ℕ)) (phase : ReceiverPha
 abbrev pub Sound : Put → List (List ℕ) → ReceiverState → OctetMap → Type 0
 Sound put heard r m = KeepsTruth put heard r.phase r.metadata r.ending r.held r.sums m
 
--- What a PDU tells of the put is among what was heard.
+-- What a PDU says of the put is among what was heard.
 abbrev pub IsAmong : Put → List (List ℕ) → Content → Type 0
 IsAmong put heard (Metadata kind size source destination options) = SomePdu (IsMetadataOf put) heard
 IsAmong put heard (Eof condition checksum size tlvs) =
@@ -202,13 +202,13 @@ IsAmong put heard (FileData offset bytes) =
     (n : ℕ) → offset ≤ n → n < offset + length bytes → SomePdu (Brings put n) heard
 IsAmong put heard _ = Unit {0}
 
--- A PDU that comes is true of the put, and among those heard. Other inputs say nothing of the file.
+-- A PDU that comes must be true of the put, and among those heard. Other inputs say nothing of it.
 abbrev pub IsTrueInput : Put → List (List ℕ) → ReceiverInput → Type 0
 IsTrueInput put heard (Hears large v) = IsTruthful put v × IsAmong put heard v
 IsTrueInput put heard _ = Unit {0}
 
--- File data begin in the file, or at its end. They and an EOF have a large file flag that allows
--- the file's size.
+-- File data must begin in the file, or at its end. They and an EOF must have a large file flag that
+-- allows the file's size.
 abbrev pub BeginsWithin : Put → ReceiverInput → Type 0
 BeginsWithin put (Hears large (FileData offset bytes)) =
     (offset ≤ length put.octets) × (length put.octets ≤ size_limit large)
@@ -224,7 +224,7 @@ pub record PublishesPut (put : Put) (heard : List (List ℕ)) (id : TransactionI
   pub one_completion : (own : ℕ) →
       completions own a.told ≡ completions own (finished_told id complete ∷ [])
 
--- whether it is a fault of what was said of the file: its checksum, its size or its checksum type
+-- `true` if it is a fault of what was said of the file: its checksum, its size or its checksum type
 abbrev pub is_file_fault : Indication → Bool
 is_file_fault (Fault id condition) =
     (condition == file_checksum_failure) || (condition == file_size_error)
@@ -236,23 +236,23 @@ pub record IsReceivable (put : Put) : Type 0 where
   pub supported : is_supported put.checksum_kind ≡ true
   pub size : length put.octets ≤ size_limit true
 
--- ---- where a receiver stands
--- whether Metadata and EOF are known, and every offset below the EOF's size is held
+-- ---- how far a receiver is
+-- `true` if Metadata and EOF are known, and every offset below the EOF's size is held
 abbrev pub is_whole : Option FileInfo → Option Ending → Offsets → Bool
 is_whole (Some info) (Some ending) held = set.is_subset (range 0 ending.size) held
 is_whole (Some info) None held = false
 is_whole None ending held = false
 
--- whether it doesn't receive, or lacks something
+-- `true` if it doesn't receive, or lacks something
 abbrev pub is_lacking : ReceiverState → Bool
 is_lacking r = not (is_receiving r.phase) || not (is_whole r.metadata r.ending r.held)
 
--- whether a Finished is due or was taken, where it is waited for that it is acknowledged
+-- `true` if a Finished is due or was taken, while its acknowledgement is waited for
 abbrev pub owes_finished : ReceiverState → Bool
 owes_finished r =
     not (is_finishing r.phase) || ((r.finished_due || r.finished_taken) && is_some r.outcome)
 
--- whether it says that a transaction ended without a whole file
+-- `true` if it says that a transaction ended without a whole file
 abbrev pub is_bad_end : Indication → Bool
 is_bad_end (Abandoned id condition) = true
 is_bad_end (Told id condition delivery status) = not (condition == no_error)
@@ -262,7 +262,7 @@ abbrev pub is_done : Option Outcome → Bool
 is_done (Some o) = is_complete o.condition o.delivery o.status
 is_done None = false
 
--- whether it receives, or came to a whole file
+-- `true` if it receives, or came to a whole file
 abbrev pub goes_well : ReceiverState → Bool
 goes_well r = is_receiving r.phase || is_done r.outcome
 
@@ -270,6 +270,6 @@ abbrev pub asks_from : Option ℕ → ReceiverState → Bool
 asks_from (Some cursor) r = not (is_empty (missing_pairs cursor r))
 asks_from None r = true
 
--- whether a NAK that is due, if one is, has something to ask for
+-- `true` if a NAK that is due, if one is, has something to ask for
 abbrev pub is_tidy : ReceiverState → Bool
 is_tidy r = asks_from r.nak_cursor r

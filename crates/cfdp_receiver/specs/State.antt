@@ -21,7 +21,7 @@ use Rattle.cfdp_receiver.specs.declared.state.Ending.{Ending}
 pub record ReceiverState : Type 0 where
   -- the transaction, and how its first PDU was written: answers are written so too
   pub addressing : Addressing
-  -- whether a PDU with the large file flag was heard: answers have it from then on
+  -- `true` if a PDU with the large file flag was heard: answers have it from then on
   pub large : Bool
   pub phase : ReceiverPhase
   pub suspended : Bool
@@ -31,9 +31,9 @@ pub record ReceiverState : Type 0 where
   -- the offsets held, and what is kept of their octets for the file's checksum
   pub held : Offsets
   pub sums : Checksums
-  -- whether an ACK of EOF is due, and with which condition: that of the EOF heard last
+  -- the condition of the EOF heard last, if an ACK of EOF is due
   pub ack_due : Option ℕ
-  -- whether a NAK is due, and from which offset on
+  -- the offset from which a NAK is due, if one is
   pub nak_cursor : Option ℕ
   pub keep_alive_due : Bool
   pub finished_due : Bool
@@ -44,7 +44,7 @@ pub record ReceiverState : Type 0 where
   pub nak_count : ℕ
   pub finished_count : ℕ
 
--- the checksum type of the file, once Metadata told it
+-- the checksum type of the file, if Metadata said it
 abbrev pub kind_told : Option FileInfo → Option ℕ
 kind_told (Some info) = Some info.checksum_kind
 kind_told None = None
@@ -90,9 +90,9 @@ public_phase Receiving = phase.Receiving
 public_phase Finishing = phase.Finishing
 public_phase Closed = phase.Closed
 
--- What holds of every receiver: its transaction can be written in its widths, it is suspended only
--- while it receives, and each offset that it may have to write is at most the greatest size, by the
--- large file flag that it writes.
+-- What must hold of every receiver: its transaction can be written in its widths, it is suspended
+-- only while it receives, and each offset that it may have to write is at most the greatest size,
+-- by the large file flag that it writes.
 pub record IsReceiver (addressing : Addressing) (large : Bool) (phase : ReceiverPhase)
     (suspended : Bool) (ending : Option Ending) (held : Offsets) (nak_cursor : Option ℕ)
     : Type 0 where
@@ -102,7 +102,7 @@ pub record IsReceiver (addressing : Addressing) (large : Bool) (phase : Receiver
   pub size_below : phase ≡ Receiving → IfSome ending (λ e. e.size ≤ size_limit large)
   pub cursor_below : IfSome nak_cursor (λ cursor. cursor ≤ size_limit large)
 
--- While it receives, its transaction is begun in the inbox, and what is held is staged there.
+-- While it receives, its transaction must be begun in the inbox, and what is held is staged there.
 pub record IsReady (staged : TransactionId → Option OctetMap) (r : ReceiverState) : Type 0 where
   pub begun : r.phase ≡ Receiving → IsSome (staged r.addressing.id)
   pub backed : r.phase ≡ Receiving → (n : ℕ) → set.contains r.held n ≡ true

@@ -1,6 +1,6 @@
 -- The steps of a receiver, one for each input (CCSDS 727.0-B-5, 4.6.1.2 and 4.6.4; 4.6.6 and 4.8
 -- for cancelling, suspension and faults). What is staged for the transaction stands beside the
--- receiver, which keeps no octets. Where a step calls the inbox, `stored` is the answer.
+-- receiver, which keeps no octets. If a step calls the inbox, `stored` is the answer.
 use Rattle.std.specs.Prelude.{◌++◌, ℕ, ◌+◌, ◌==◌, ◌&&◌, ◌||◌, not, Bool, true, false, nat_lt, is_none, is_some, List, [], ◌∷◌, length, Option, Some, None, if◌then◌else◌}
 use Rattle.std.specs.FinMap as map
 use Rattle.std.specs.FinSet as set
@@ -37,7 +37,7 @@ use Rattle.cfdp_receiver.specs.Missing.{tidied}
 use Rattle.cfdp_receiver.specs.Due.{receiver_taken}
 use Rattle.cfdp_receiver.specs.Pieces.{new_pieces, staged_with}
 
--- What a step leaves: the receiver, what it indicated, the timer that it armed anew, if it waits
+-- What a step leaves: the receiver, what it indicated, the timer that it armed again, if it waits
 -- for it, what is staged while it receives, and the published files.
 pub record ReceiverAfter : Type 0 where
   pub receiver : ReceiverState
@@ -54,7 +54,7 @@ leaving m files r = record { receiver = r; told = []; anew = None; octets = m; f
 abbrev pub telling : List Indication → ReceiverAfter → ReceiverAfter
 telling told a = record a { told = told ++ a.told }
 
--- with a timer armed anew
+-- with a timer armed again
 abbrev pub arming : Kind → ReceiverAfter → ReceiverAfter
 arming k a = record a { anew = Some k }
 
@@ -63,8 +63,8 @@ abbrev pub tidying : ReceiverAfter → ReceiverAfter
 tidying a = record a { receiver = tidied a.receiver }
 
 -- ---- how a transaction ends
--- a receiver that receives no more: nothing is held, asked for, counted or suspended. An ACK of EOF
--- that is due stays so
+-- a receiver that receives no more: nothing is held, asked for, counted or suspended. If an ACK of
+-- EOF is due, it stays so
 abbrev pub ended : ReceiverPhase → ReceiverState → ReceiverState
 ended phase r = record r {
   phase = phase;
@@ -93,7 +93,7 @@ ends o m files r = telling (finished_told r.addressing.id o ∷ []) (leaving m f
 abbrev pub status_after : ℕ → FileStatus
 status_after condition = if condition == filestore_rejection then Rejected else Discarded
 
--- what a transaction comes to that fails with this condition: the inbox is told to discard it
+-- what becomes of a transaction if it fails with this condition: the inbox must discard it
 abbrev pub failed : ℕ → Outcome
 failed condition =
     record { condition = condition; delivery = Incomplete; status = status_after condition }
@@ -107,7 +107,7 @@ faulted condition m files r =
     telling (fault_told Cancel r.addressing.id condition) (ends (failed condition) m files r)
 
 -- ---- the completion test
--- whether the checksum agrees: the null checksum isn't compared
+-- `true` if the checksum agrees: the null checksum isn't compared
 abbrev pub agrees : FileInfo → Ending → Checksums → Bool
 agrees info ending sums =
     (info.checksum_kind == null) || (sum_told info.checksum_kind sums == ending.checksum)
@@ -129,12 +129,13 @@ completed_by stored (Some info) (Some ending) m files r =
 completed_by stored (Some info) None m files r = leaving m files r
 completed_by stored None ending m files r = leaving m files r
 
--- Metadata and EOF were heard, and every offset below the EOF's size is held: the file is published
+-- If Metadata and EOF were heard, and every offset below the EOF's size is held, the file is
+-- published
 abbrev pub completed : Stored → OctetMap → FileMap → ReceiverState → ReceiverAfter
 completed stored m files r = completed_by stored r.metadata r.ending m files r
 
 -- ---- what is heard while it receives
--- whether a checksum of this kind can be made
+-- `true` if a checksum of this kind can be made
 abbrev pub is_supported : ℕ → Bool
 is_supported checksum_kind = is_known checksum_kind
 
@@ -149,14 +150,14 @@ receives_metadata stored checksum_kind size source destination m files r =
     if is_supported checksum_kind then completed stored m files r1
     else faulted unsupported_checksum_type m files r1)
 
--- whether an end is behind the EOF's size, where one was heard, or behind the greatest size, by the
+-- `true` if an end is beyond the EOF's size, if one was heard, or beyond the greatest size, by the
 -- large file flag of the PDU
 abbrev pub exceeds : Bool → Option Ending → ℕ → Bool
 exceeds large (Some ending) end = nat_lt ending.size end || nat_lt (size_limit large) end
 exceeds large None end = nat_lt (size_limit large) end
 
 -- with octets from an offset on: those that weren't held are summed, for the checksum type that
--- Metadata told or for all of them, and held, and some were new
+-- Metadata said or for all of them, and held, and some were new
 abbrev pub with_data : ℕ → List ℕ → ReceiverState → ReceiverState
 with_data offset bytes r = record r {
   held = set.union r.held (range offset (offset + length bytes));
@@ -164,7 +165,7 @@ with_data offset bytes r = record r {
   nak_count = 0;
 }
 
--- octets of which some are new: those that aren't held are staged. The others keep their value
+-- octets, some of them new: those that aren't held are staged. The others keep their value
 abbrev pub receives_new : Stored → ℕ → List ℕ → OctetMap → FileMap → ReceiverState → ReceiverAfter
 receives_new Done offset bytes m files r =
     completed Done (staged_with m (new_pieces r.held offset bytes)) files (with_data offset bytes r)
@@ -178,12 +179,12 @@ receives_data stored large offset bytes m files r =
     then completed stored m files r
     else receives_new stored offset bytes m files r
 
--- whether an EOF's size is below what is held, or above the greatest size, by the EOF's large file
--- flag. Without the flag no EOF can say more than that
+-- `true` if an EOF's size is below what is held, or above the greatest size, by the EOF's large
+-- file flag. Without the flag no EOF can say more than that
 abbrev pub contradicts : Bool → ℕ → ReceiverState → Bool
 contradicts large size r = nat_lt size (end_of r.held) || nat_lt (size_limit large) size
 
--- the first EOF without an error: what is still missing is asked for
+-- the first EOF without an error: if something is still missing, it is asked for
 abbrev pub first_eof : Stored → (large : Bool) → (checksum size : ℕ) →
     OctetMap → FileMap → ReceiverState → ReceiverAfter
 first_eof stored large checksum size m files r =
@@ -194,7 +195,7 @@ first_eof stored large checksum size m files r =
     if contradicts large size r then faulted file_size_error m files r1
     else completed stored m files r1)
 
--- what a transaction comes to that its sender gave up
+-- what becomes of a transaction if its sender gave it up
 abbrev pub given_up : ℕ → Outcome
 given_up condition = record { condition = condition; delivery = Incomplete; status = Discarded }
 
@@ -216,7 +217,7 @@ receives_eof stored large condition checksum size m files r =
     else leaving m files (record r { ack_due = Some no_error; nak_cursor = Some 0 })
 
 -- ---- what is heard
--- each PDU of the transaction arms Inactivity anew, whatever else it does
+-- each PDU of the transaction arms Inactivity again, whatever else it does
 abbrev pub heard : ReceiverAfter → ReceiverAfter
 heard a = arming kind.Inactivity (tidying a)
 
@@ -233,7 +234,7 @@ hears_data stored large offset bytes m files r =
     heard (if is_receiving r.phase then receives_data stored large offset bytes m files r
     else leaving m files r)
 
--- once the transaction is over, each EOF is acknowledged
+-- if the transaction is over, each EOF is acknowledged
 abbrev pub hears_eof : Stored → (large : Bool) → (condition checksum size : ℕ) →
     OctetMap → FileMap → ReceiverState → ReceiverAfter
 hears_eof stored large condition checksum size m files r =
@@ -258,8 +259,8 @@ hears_prompt keep_alive m files r =
 
 -- ---- how a record is opened
 -- by Metadata, file data or an EOF without an error, once the inbox began the transaction. The
--- receiver hears that PDU next, which arms its timers. Where the inbox refuses, the PDU isn't taken
--- further but for its large file flag, and no timer is waited for
+-- receiver must hear that PDU next, which arms its timers. If the inbox refuses, the PDU isn't
+-- taken further except for its large file flag, and no timer is waited for
 abbrev pub opens : Stored → (large : Bool) → FileMap → Addressing → ReceiverAfter
 opens Done large files addressing = leaving map.empty files (opened_receiver addressing)
 opens Refused large files addressing =
@@ -292,11 +293,11 @@ waits_in Finishing kind.Nak r = false
 waits_in Finishing kind.EofAck r = false
 waits_in Closed k r = false
 
--- whether the receiver waits for a timer; for none while it is suspended
+-- `true` if the receiver waits for a timer; if it is suspended, it waits for none
 abbrev pub waits : Kind → ReceiverState → Bool
 waits k r = not r.suspended && waits_in r.phase k r
 
--- what is done about a fault for which there is a choice, by the handler
+-- what is done about a fault, by the handler, if there is a choice
 abbrev pub handled : Handler → ℕ → OctetMap → FileMap → ReceiverState → ReceiverAfter
 handled Cancel condition m files r = faulted condition m files r
 handled Suspend condition m files r =
@@ -308,7 +309,7 @@ handled Ignore condition m files r =
 handled Abandon condition m files r =
     telling (fault_told Abandon r.addressing.id condition) (leaving m files (closed r))
 
--- what a fault leaves that its handler ignores: a NAK is due from 0 on
+-- what a fault leaves if its handler ignores it: a NAK is due from 0 on
 abbrev pub asking_again : Handler → ReceiverAfter → ReceiverAfter
 asking_again Ignore a = record a { receiver = record a.receiver { nak_cursor = Some 0 } }
 asking_again Cancel a = a
@@ -334,14 +335,14 @@ expires_by kind.Inactivity policy m files r =
     handled policy.handlers.inactivity inactivity m files r
 expires_by kind.EofAck policy m files r = leaving m files r
 
--- Inactivity is armed anew where that it expired is ignored
+-- Inactivity is armed again if its expiry is ignored
 abbrev pub anew_once_expired : Kind → Option Kind
 anew_once_expired kind.Inactivity = Some kind.Inactivity
 anew_once_expired kind.EofAck = None
 anew_once_expired kind.Nak = None
 anew_once_expired kind.FinishedAck = None
 
--- an expiry that isn't waited for does nothing
+-- if an expiry isn't waited for, it does nothing
 abbrev pub expires : Kind → Policy → OctetMap → FileMap → ReceiverState → ReceiverAfter
 expires k policy m files r =
     if waits k r
@@ -349,7 +350,7 @@ expires k policy m files r =
     else leaving m files r
 
 -- ---- calls of the user
--- a transaction that is being received is given up, and its sender will be told by Finished
+-- a transaction that is being received is given up, and Finished will say so to its sender
 abbrev pub cancels : OctetMap → FileMap → ReceiverState → ReceiverAfter
 cancels m files r =
     if is_receiving r.phase then ends (failed cancel_request) m files r else leaving m files r

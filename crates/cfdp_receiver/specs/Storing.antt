@@ -1,5 +1,5 @@
--- Which calls of the inbox a step of a receiver makes, in which order. The answers that no line
--- names are any. `By` says that some calls lead from one state of the inbox to another.
+-- Which calls of the inbox a step of a receiver makes, in which order. If no line names an
+-- answer, it may be any. `By` says that some calls lead from one state of the inbox to another.
 use Rattle.std.specs.Prelude.{◌≡◌, ◌⊎◌, ◌++◌, ◌+◌, ℕ, ◌&&◌, not, Bool, true, false, List, [], ◌∷◌, length, map, Option, Some, None, Ok, Err, if◌then◌else◌}
 use Rattle.cfdp_header.specs.declared.value.TransactionId.{TransactionId}
 use Rattle.cfdp_directives.specs.declared.pdu.codes.Delivery.{Delivery}
@@ -23,7 +23,7 @@ abbrev pub writes : TransactionId → List Piece → List InboxCall
 writes id pieces = map (λ (p : Piece). Write id p.offset p.bytes (Ok tt)) pieces
 
 -- the pieces of file data that a receiver stages: those that are new, while it receives and none
--- lies behind the file's end
+-- lies beyond the file's end
 abbrev pub staged_pieces : (large : Bool) → ℕ → List ℕ → ReceiverState → List Piece
 staged_pieces large offset bytes r =
     if is_receiving r.phase && not (exceeds large r.ending (offset + length bytes))
@@ -33,7 +33,7 @@ abbrev pub delivers : Delivery → Bool
 delivers Complete = true
 delivers Incomplete = false
 
--- whether a receiver ended with its file complete
+-- `true` if a receiver ended with its file complete
 abbrev pub is_complete : ReceiverPhase → Option Outcome → Bool
 is_complete Finishing (Some o) = delivers o.delivery
 is_complete Finishing None = false
@@ -41,11 +41,11 @@ is_complete Receiving outcome = false
 is_complete Closed outcome = false
 
 module _ {A : Type 0} (By : List InboxCall → A → A → Type 0) where
-  -- What is staged was let go, by one call.
+  -- What is staged was discarded, by one call.
   abbrev pub Discards : TransactionId → (old new : A) → Type 0
   Discards id old new = (answer : Answer) × By (Discard id answer ∷ []) old new
 
-  -- The file was published, by one call; or that failed, and then what is staged was let go.
+  -- The file was published, by one call; or that failed, and then what is staged was discarded.
   abbrev pub Publishes : Stored → TransactionId → Option FileInfo → Option Ending → (old new : A)
       → Type 0
   Publishes Done id (Some info) (Some ending) old new =
@@ -55,8 +55,8 @@ module _ {A : Type 0} (By : List InboxCall → A → A → Type 0) where
   Publishes stored id (Some info) None old new = ⊥
   Publishes stored id None ending old new = ⊥
 
-  -- A receiver ended so: with its file published where it is complete, else with what was staged
-  -- let go.
+  -- A receiver ended so: with its file published if it is complete, otherwise with what was staged
+  -- discarded.
   abbrev pub EndsBy : (complete : Bool) → Stored → TransactionId → Option FileInfo → Option Ending
       → (old new : A) → Type 0
   EndsBy true stored id metadata ending old new = Publishes Done id metadata ending old new
@@ -84,19 +84,19 @@ module _ {A : Type 0} (By : List InboxCall → A → A → Type 0) where
     pub error : StoreError
     pub by : By (writes id front ++ Write id piece.offset piece.bytes (Err error) ∷ last) old new
 
-  -- A write of these pieces failed, and what is staged was let go.
+  -- A write of these pieces failed, and what is staged was discarded.
   abbrev pub FailsToWrite : TransactionId → List Piece → (old new : A) → Type 0
   FailsToWrite id pieces old new =
       (answer : Answer) × StopsAt id pieces (Discard id answer ∷ []) old new
 
-  -- File data were heard: each of these pieces was written, in this order, and then came what ends
-  -- the transaction, if that did; or one of the writes failed.
+  -- File data were heard: each of these pieces was written, in this order, and if the transaction
+  -- ended, what ends it came then; or one of the writes failed.
   abbrev pub Stages : Stored → List Piece → (r s : ReceiverState) → (old new : A) → Type 0
   Stages stored pieces r s old new =
       ((mid : A) × By (writes r.addressing.id pieces) old mid × Settles stored r s mid new)
       ⊎ ((stored ≡ Refused) × FailsToWrite r.addressing.id pieces old new)
 
-  -- A transaction was begun, by one call; or that failed, and then what is staged was let go.
+  -- A transaction was begun, by one call; or that failed, and then what is staged was discarded.
   abbrev pub Begins : Stored → TransactionId → (old new : A) → Type 0
   Begins Done id old new = By (Begin id (Ok tt) ∷ []) old new
   Begins Refused id old new = (error : StoreError) × (answer : Answer)

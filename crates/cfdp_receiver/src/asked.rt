@@ -12,20 +12,20 @@ use cfdp_extents::Gaps;
 /// The most pairs of one NAK.
 const MOST_PAIRS: usize = 32;
 
-/// What one NAK asks for, of all that is missing.
+/// What one NAK asks for, out of all that is missing.
 #[derive(Clone, Copy)]
 pub(crate) struct Asked {
     pub(crate) pairs: [(u64, u64); 32],
     // How many of them count.
     pub(crate) count: usize,
-    // Where the last of them ends.
+    // The end of the last of them.
     pub(crate) end: u64,
-    // Whether more is missing.
+    // `true` if more is missing.
     pub(crate) more: bool,
 }
 
 impl Asked {
-    /// Nothing, or Metadata.
+    /// Asks for nothing, or for Metadata.
     pub(crate) fn new(metadata: bool) -> Asked
         ensures asks { AsksFor (with_metadata metadata []) result }
         ensures filled { IsFilled result }
@@ -39,7 +39,7 @@ impl Asked {
         }
     }
 
-    /// The first of these gaps, and ahead of them Metadata if it is asked for.
+    /// Asks for the first of these gaps, and before them for Metadata if `metadata` is set.
     pub(crate) fn of(metadata: bool, gaps: Gaps<'_>, start: u64, limit: u64) -> Asked
         requires inside { All (LiesIn start limit) gaps }
         ensures asks { AsksFor (with_metadata metadata gaps.entry) result }
@@ -59,7 +59,7 @@ impl Asked {
         asked
     }
 
-    /// The pairs.
+    /// Returns the pairs.
     pub(crate) fn pairs(&self) -> SegmentRequests<'_>
         requires { IsFilled self.now }
         ensures { result ≡ pairs_of self.now }
@@ -67,14 +67,14 @@ impl Asked {
         SegmentRequests::of(&self.pairs[..self.count])
     }
 
-    /// Where the scope of the NAK ends, if nothing is missing from this limit on.
+    /// Returns the end of the NAK's scope, if nothing is missing from this limit on.
     pub(crate) fn scope_end(&self, limit: u64) -> u64
         ensures { result ≡ (if self.now.more then self.now.end else limit) }
     {
         if self.more { self.end } else { limit }
     }
 
-    /// From where on the next NAK is due, if more is missing.
+    /// Returns the offset from which the next NAK is due, if more is missing.
     pub(crate) fn next_cursor(&self) -> Option<u64>
         ensures { result ≡ (if self.now.more then Some self.now.end else None) }
     {
@@ -82,7 +82,7 @@ impl Asked {
     }
 }
 
-/// How many pairs one NAK has for these gaps, with Metadata ahead of them if it is asked for.
+/// Returns how many pairs one NAK has for these gaps, and for Metadata if it is asked for too.
 pub(crate) fn count_asked(metadata: bool, gaps: Gaps<'_>) -> usize
     ensures count { result ≡ length (asked (with_metadata metadata gaps.entry)) }
     ensures few { result ≤ 32 }

@@ -1,14 +1,14 @@
 use cfdp_directives::{Condition, Outcome};
 
-/// What a receiver sends next.
+/// A PDU that a receiver sends next.
 #[derive(Clone, Copy, Debug, PartialEq, Eq)]
 pub enum Due {
-    /// ACK of the EOF heard last, with its condition.
+    /// An ACK of the last EOF that was received, with its condition.
     AckOfEof(Condition),
     /// A NAK for what is missing from this offset on.
     Nak(u64),
-    /// A Keep Alive: up to which offset the file is held.
+    /// A Keep Alive: the offset up to which the file is held.
     KeepAlive,
-    /// Finished, with what was indicated.
+    /// A Finished, with what was indicated.
     Finished(Outcome),
 }

@@ -19,7 +19,7 @@ use cfdp_store::{Inbox, Stored};
 use cfdp_timers::Effects;
 
 impl Receiver {
-    /// Receives no more, and lets go of all that it kept for that.
+    /// Receives no more, and releases all that it kept for that.
     #[tactic(auto, using(crate::proofs::Held::none_held))]
     pub(crate) fn end(&mut self, phase: ReceiverPhase)
         requires { is_receiving phase ≡ false }
@@ -37,7 +37,7 @@ impl Receiver {
         self.finished_count = 0;
     }
 
-    /// Tells how the transaction ended: Finished is due.
+    /// Indicates how the transaction ended: Finished is due.
     pub(crate) fn finish(
         &mut self,
         told: &mut Vec<Indication>,
@@ -62,14 +62,14 @@ impl Receiver {
         });
     }
 
-    /// Lets what is staged for the transaction go. That the inbox fails has no other effect.
+    /// Discards what is staged for the transaction. If the inbox fails, nothing else follows.
     pub(crate) fn discard<I: Inbox>(&self, inbox: &mut I)
         ensures { LetsGo I.Inbox self.now.addressing.id inbox.old inbox.new }
     {
         let _ = inbox.discard(self.addressing.id);
     }
 
-    /// A fault ends the transaction.
+    /// Ends the transaction with a fault.
     pub(crate) fn fault<I: Inbox>(
         &mut self,
         told: &mut Vec<Indication>,
@@ -94,8 +94,8 @@ impl Receiver {
         );
     }
 
-    /// The completion test, and what follows from it: where Metadata and EOF were heard and all of
-    /// the file is held, it is published if the checksum agrees.
+    /// Makes the completion test, and does what follows: if Metadata and EOF were heard and all of
+    /// the file is held, the file is published if the checksum agrees.
     #[tactic(auto, using(crate::proofs::StagedLemmas::staged_is))]
     pub(crate) fn complete<I: Inbox>(&mut self, effects: &mut Effects, inbox: &mut I) -> Stored
         requires ready { IsOpen I.Inbox 2 self.old effects.old inbox.old }
@@ -131,7 +131,8 @@ impl Receiver {
     }
 }
 
-/// Whether the checksum of the held octets agrees with the EOF's. The null checksum isn't compared.
+/// Returns `true` if the checksum of the held octets agrees with the EOF's, or if it is the null
+/// checksum, which isn't compared.
 fn agrees(info: &FileInfo, ending: &Ending, sums: &Checksums) -> bool
     ensures { result ≡ steps.agrees info.now ending.now sums.now }
 {
@@ -139,7 +140,7 @@ fn agrees(info: &FileInfo, ending: &Ending, sums: &Checksums) -> bool
     kind == ChecksumKind::NULL || sums.value(kind) == ending.checksum
 }
 
-/// What becomes of the file of a transaction that fails with this condition.
+/// Returns the status of the file if its transaction fails with this condition.
 fn status_after(condition: Condition) -> FileStatus
     ensures { result ≡ steps.status_after condition }
 {
@@ -150,7 +151,7 @@ fn status_after(condition: Condition) -> FileStatus
     }
 }
 
-/// Tells that a transaction is over.
+/// Indicates that a transaction is over.
 pub(crate) fn tell_finished(
     told: &mut Vec<Indication>,
     id: TransactionId,

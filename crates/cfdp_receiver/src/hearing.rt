@@ -16,6 +16,7 @@ ghost use Rattle.cfdp_receiver.specs.Steps.{hears_prompt};
 ghost use Rattle.cfdp_receiver.specs.Does.{Advances, DoesAlone, IsOpen, Keeps, Kept, KeptAlone};
 ghost use Rattle.cfdp_receiver.specs.Does.{LetsGo, MakesIn, Performs, Rests, at, flagging};
 ghost use Rattle.cfdp_receiver.specs.Does.{timers_kept, timers_set};
+ghost use Rattle.cfdp_receiver.specs.Limit.{KeepsLimit, if_admitted, is_admitted};
 ghost use Rattle.cfdp_receiver.specs.Pieces.{new_pieces};
 ghost use Rattle.cfdp_receiver.specs.Storing.{Settles, Stages, staged_pieces, writes};
 
@@ -27,6 +28,7 @@ use cfdp_directives::{
     ChecksumKind, Condition, Delivery, FileStatus, Indication, Octets, Outcome, Policy, indicate,
     size_limit,
 };
+use cfdp_extents::Extents;
 use cfdp_store::{Inbox, Stored};
 use cfdp_timers::{Effects, Kind, Timers};
 use std::alloc::AllocError;
@@ -45,7 +47,7 @@ pub struct Metadata<'a> {
 }
 
 impl Receiver {
-    /// The first Metadata, or another. An error leaves all as it was.
+    /// Receives the first Metadata, or another. If it fails, all is as it was.
     fn receive_metadata<I: Inbox>(
         &mut self,
         effects: &mut Effects,
@@ -88,13 +90,13 @@ impl Receiver {
         Ok(Stored::Done)
     }
 
-    /// Hears Metadata, with its large file flag. In Receiving the first one is indicated, and the
-    /// file is published if all of it is there; a checksum type that isn't known is a fault. Any
-    /// other changes nothing but the flag that answers have.
+    /// Hears Metadata, with its large file flag. In Receiving the first Metadata is indicated, and
+    /// the file is published if all of it is there; if its checksum type is unknown, that is a
+    /// fault. Any other changes nothing except the flag that answers have.
     ///
     /// # Errors
     ///
-    /// `AllocError` where there is no memory for the names. All is then as it was.
+    /// `AllocError` if there is no memory for the names. All is then as it was.
     pub fn on_metadata<I: Inbox>(
         &mut self,
         effects: &mut Effects,
@@ -132,12 +134,13 @@ impl Receiver {
         Ok(stored)
     }
 
-    /// File data of an open transaction. An error leaves all as it was, save octets staged at
-    /// offsets that aren't held.
+    /// Receives file data of an open transaction. If it fails, all is as it was, except octets
+    /// staged at offsets that aren't held; none are staged if the limit of gaps doesn't admit them.
     fn receive_data<I: Inbox>(
         &mut self,
         effects: &mut Effects,
         inbox: &mut I,
+        most_gaps: Option<u64>,
         large: bool,
         offset: u64,
         bytes: &[u8],
@@ -153,7 +156,9 @@ impl Receiver {
         ensures calls { IfOk result (λ stored. Stages (MakesIn I.Inbox) stored
             (staged_pieces large offset bytes.now self.old) self.old self.new inbox.old inbox.new) }
         ensures keeps_calls { OnErr result (MakesIn I.Inbox (writes self.old.addressing.id
-            (staged_pieces large offset bytes.now self.old)) inbox.old inbox.new) }
+            (if_admitted most_gaps self.old.held offset bytes.now
+            (staged_pieces large offset bytes.now self.old))) inbox.old inbox.new) }
+        ensures bounded { KeepsLimit most_gaps self.old.held → KeepsLimit most_gaps self.new.held }
     {
         if exceeds(large, self.ending, offset, bytes.len()) {
             self.fault(&mut effects.told, inbox, Condition::FILE_SIZE_ERROR);
@@ -163,14 +168,16 @@ impl Receiver {
         if self.held.covers(offset, end) {
             return Ok(self.complete(effects, inbox));
         }
-        self.receive_new(effects, inbox, offset, bytes)
+        self.receive_new(effects, inbox, most_gaps, offset, bytes)
     }
 
-    /// Octets of which some are new: those are staged, summed and held.
+    /// Stages, sums and holds the new ones of these octets; some must be new. If the limit of gaps
+    /// doesn't admit them, it fails as if there were no memory.
     fn receive_new<I: Inbox>(
         &mut self,
         effects: &mut Effects,
         inbox: &mut I,
+        most_gaps: Option<u64>,
         offset: u64,
         bytes: &[u8],
     ) -> Result<Stored, AllocError>
@@ -185,9 +192,14 @@ impl Receiver {
         ensures calls { IfOk result (λ stored. Stages (MakesIn I.Inbox) stored
             (new_pieces self.old.held offset bytes.now) self.old self.new inbox.old inbox.new) }
         ensures keeps_calls { OnErr result (MakesIn I.Inbox (writes self.old.addressing.id
-            (new_pieces self.old.held offset bytes.now)) inbox.old inbox.new) }
+            (if_admitted most_gaps self.old.held offset bytes.now
+            (new_pieces self.old.held offset bytes.now))) inbox.old inbox.new) }
+        ensures bounded { KeepsLimit most_gaps self.old.held → KeepsLimit most_gaps self.new.held }
     {
         let end = offset + bytes.len() as u64;
+        if !is_admitted(&self.held, most_gaps, offset, end) {
+            return Err(AllocError);
+        }
         let gaps = self.held.missing_in(offset, end);
         match stage(inbox, self.addressing.id, gaps, offset, bytes) {
             Stored::Done => {
@@ -205,13 +217,16 @@ impl Receiver {
     }
 
     /// Hears file data, with their large file flag. In Receiving the octets that aren't held yet
-    /// are staged, and those that are keep their value; the file is published if all of it is
-    /// there. Data that end behind the EOF's size, or behind the greatest size that their flag
-    /// allows, are a fault. Otherwise nothing changes but the flag that answers have.
+    /// are staged, and octets that are held keep their value; if all of the file is there, it is
+    /// published. If the data end beyond the EOF's size, or beyond the greatest size that their
+    /// flag allows, that is a fault. Otherwise nothing changes except the flag that answers have.
     ///
     /// # Errors
     ///
-    /// `AllocError` where there is no memory to note what is held. All is then as it was, but
+    /// `AllocError` if the data would make one more gap than `policy` allows, as if they were lost.
+    /// All is then as it was. Data that begin at offset 0, or touch what is held, make no gap.
+    ///
+    /// `AllocError` if there is no memory to note what is held. All is then as it was, but
     /// octets may be staged at offsets that aren't held.
     pub fn on_data<I: Inbox>(
         &mut self,
@@ -232,13 +247,18 @@ impl Receiver {
         ensures kept { Kept I.Inbox self.old self.new inbox.old inbox.new }
         ensures calls { IfOk result (λ stored. Stages (MakesIn I.Inbox) stored
             (staged_pieces large offset bytes.now self.old) self.old self.new inbox.old inbox.new) }
+        // Data that aren't admitted are not staged; others fail only after all of them were.
         ensures keeps_calls { OnErr result (MakesIn I.Inbox (writes self.old.addressing.id
-            (staged_pieces large offset bytes.now self.old)) inbox.old inbox.new) }
+            (if_admitted policy.now.most_gaps self.old.held offset bytes.now
+            (staged_pieces large offset bytes.now self.old))) inbox.old inbox.new) }
+        // There are never more gaps than the limit, if there weren't before.
+        ensures bounded { KeepsLimit policy.now.most_gaps self.old.held
+            → KeepsLimit policy.now.most_gaps self.new.held }
     {
         let before = self.large;
         self.raise(large);
         let stored = if self.phase == ReceiverPhase::Receiving {
-            match self.receive_data(effects, inbox, large, offset, bytes) {
+            match self.receive_data(effects, inbox, policy.most_gaps, large, offset, bytes) {
                 Ok(stored) => stored,
                 Err(e) => {
                     self.large = before;
@@ -252,7 +272,7 @@ impl Receiver {
         Ok(stored)
     }
 
-    /// An EOF of an open transaction.
+    /// Receives an EOF of an open transaction.
     fn receive_eof<I: Inbox>(
         &mut self,
         effects: &mut Effects,
@@ -279,7 +299,7 @@ impl Receiver {
         Stored::Done
     }
 
-    /// The first EOF without an error: what is still missing is asked for.
+    /// Receives the first EOF without an error: if something is missing, it is asked for.
     fn receive_first_eof<I: Inbox>(
         &mut self,
         effects: &mut Effects,
@@ -305,8 +325,8 @@ impl Receiver {
         self.complete(effects, inbox)
     }
 
-    /// Whether the size that an EOF tells is below what is held, or above the greatest size, by its
-    /// large file flag.
+    /// Returns `true` if an EOF's size is below what is held, or above the greatest size, by the
+    /// EOF's large file flag.
     fn contradicts(&self, large: bool, size: u64) -> bool
         ensures value { result ≡ contradicts large size self.now }
         ensures fits { result ≡ false → size ≤ codes.size_limit large }
@@ -314,7 +334,7 @@ impl Receiver {
         size < self.held.end() || size_limit(large) < size
     }
 
-    /// An EOF with an error ends the transaction.
+    /// Ends the transaction by an EOF with an error.
     fn cancel_by_sender<I: Inbox>(
         &mut self,
         told: &mut Vec<Indication>,
@@ -340,9 +360,10 @@ impl Receiver {
     }
 
     /// Hears an EOF, with its large file flag and what it says of the file. It is acknowledged. In
-    /// Receiving the first one without an error is indicated, and the file is published if all of
-    /// it is there; else what is missing is asked for. One with an error ends the transaction. A
-    /// size below what is held, or above the greatest size, is a fault. Takes no memory.
+    /// Receiving the first one without an error is indicated. If all of the file is there, it is
+    /// published; otherwise what is missing is asked for. An EOF with an error ends the
+    /// transaction. If its size is below what is held, or above the greatest size, that is a fault.
+    /// Takes no memory.
     pub fn on_eof<I: Inbox>(
         &mut self,
         effects: &mut Effects,
@@ -371,8 +392,9 @@ impl Receiver {
         stored
     }
 
-    /// Hears an ACK of Finished, with its large file flag, whatever it says. Where the Finished was
-    /// sent the transaction is closed; otherwise nothing changes but that flag. Takes no memory.
+    /// Hears an ACK of Finished, with its large file flag, whatever it says. If the Finished was
+    /// sent, the transaction is closed; otherwise nothing changes except that flag. Takes no
+    /// memory.
     pub fn on_ack(&mut self, effects: &mut Effects, policy: &Policy, large: bool)
         requires timers { set.contains effects.old.timers.roomy self.old.addressing.id ≡ true }
         ensures does { DoesAlone policy.now.times (flagging large hears_ack) self.old self.new
@@ -388,7 +410,7 @@ impl Receiver {
     }
 
     /// Hears a Prompt, with its large file flag. In Receiving a Keep Alive is due, or a NAK;
-    /// otherwise nothing changes but that flag. Takes no memory.
+    /// otherwise nothing changes except that flag. Takes no memory.
     pub fn on_prompt(
         &mut self,
         effects: &mut Effects,
@@ -413,7 +435,7 @@ impl Receiver {
         self.heard(&mut effects.timers, policy);
     }
 
-    /// A PDU with this large file flag is heard: what is sent has the flag once one was.
+    /// Notes the large file flag of a PDU: what is sent has the flag if any PDU had it.
     pub(crate) fn raise(&mut self, large: bool)
         ensures receiver { self.new ≡ flagged large self.old }
         ensures limit { codes.size_limit large ≤ codes.size_limit self.new.large }
@@ -421,8 +443,8 @@ impl Receiver {
         self.large |= large;
     }
 
-    /// A PDU was heard: a NAK that is due is over if nothing is missing, and Inactivity is armed
-    /// anew.
+    /// Notes that a PDU was heard: a NAK that is due is over if nothing is missing, and Inactivity
+    /// is armed again.
     fn heard(&mut self, timers: &mut Timers, policy: &Policy)
         requires has_room { set.contains timers.old.roomy self.old.addressing.id ≡ true }
         ensures receiver { self.new ≡ tidied self.old }
@@ -434,9 +456,9 @@ impl Receiver {
     }
 }
 
-/// Whether file data of so many octets, from an offset on, end behind the EOF's size, where one was
-/// heard, or behind the greatest size, by their large file flag. An end that no number can say is
-/// behind that too.
+/// Returns `true` if file data of `len` octets, from an offset on, end beyond the EOF's size, if
+/// one was heard, or beyond the greatest size, by their large file flag. An end that no number can
+/// say is beyond that too.
 fn exceeds(large: bool, ending: Option<Ending>, offset: u64, len: usize) -> bool
     ensures value { result ≡ steps.exceeds large ending (offset + len) }
     ensures fits { result ≡ false → offset + len ≤ codes.size_limit large }
@@ -445,5 +467,16 @@ fn exceeds(large: bool, ending: Option<Ending>, offset: u64, len: usize) -> bool
     match ending {
         Some(ending) => ending.size < end || size_limit(large) < end,
         None => size_limit(large) < end,
+    }
+}
+
+/// Returns `true` if a part of the file may be held under a limit of gaps, if there is one.
+fn is_admitted(held: &Extents, most_gaps: Option<u64>, start: u64, end: u64) -> bool
+    requires { start ≤ end }
+    ensures { result ≡ is_admitted most_gaps held.now start end }
+{
+    match most_gaps {
+        Some(most) => held.admits(start, end, most),
+        None => true,
     }
 }

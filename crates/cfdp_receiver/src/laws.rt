@@ -1,6 +1,6 @@
 //! Laws of a receiver's steps, each the contract of a function that does nothing: a caller's proof
-//! has them by a call. `receiver_step` is one function for every input, which computes to the step
-//! that a call's contract names.
+//! must call it to use it. `receiver_step` is one function for every input, which computes to the
+//! step that a call's contract names.
 ghost use Rattle.std.specs.Prelude.{◌≡◌, ◌⊎◌, ℕ, ◌+◌, ◌-◌, ◌<◌, ◌≤◌, ◌&&◌, ◌||◌, not, Bool, true};
 ghost use Rattle.std.specs.Prelude.{false, List, [], ◌∷◌, ◌++◌, length, slice_get, is_some};
 ghost use Rattle.std.specs.Prelude.{count_by, Option, Some, None, IsSome, Contains, if◌then◌else◌};
@@ -50,7 +50,7 @@ use cfdp_extents::{
 use cfdp_store::written_octets_stand;
 use cfdp_timers::what_is_waited_for_is_armed;
 
-/// File data add the octets of which none was held, at their offsets. Octets that are held keep
+/// File data add the octets that weren't held, at their offsets. Octets that are held keep
 /// their value, and all else that is staged stays.
 pub fn octets_held_keep_their_value()
     ensures staged { (m : OctetMap) (held : Offsets) (offset : ℕ) (bytes : List ℕ) (n : ℕ) →
@@ -116,7 +116,7 @@ pub fn a_transaction_is_finished_once()
     a_set_is_what_it_holds();
 }
 
-/// What opens a record indicates at most that it is finished, where the inbox refused to begin.
+/// Opening a record indicates at most that it is finished, and only if the inbox refused to begin.
 pub fn an_opening_may_finish()
     ensures once { (stored : Stored) (large : Bool) (files : FileMap) (addressing : Addressing)
         (id : TransactionId) → count_by (is_finished id) (opens stored large files addressing).told
@@ -144,7 +144,7 @@ pub fn a_finished_says_what_was_indicated()
         receiver_due r ≡ Some (due.Finished o) → r.outcome ≡ Some o }
 {}
 
-/// A NAK that is due has something to ask for, also where one that was taken left the rest to it.
+/// A NAK that is due has something to ask for, even if one that was taken left the rest to it.
 pub fn a_nak_that_is_due_asks_for_something()
     ensures step { (stored : Stored) (input : ReceiverInput) (m : OctetMap) (files : FileMap)
         (r : ReceiverState) → is_tidy r ≡ true
@@ -158,8 +158,8 @@ pub fn a_nak_that_is_due_asks_for_something()
     the_gaps_are_those_ranges();
 }
 
-/// A step either publishes the file and indicates it complete, where Metadata and EOF are known and
-/// every offset below the EOF's size is held, or does neither.
+/// A step either publishes the file and indicates it complete, and then Metadata and EOF are known
+/// and every offset below the EOF's size is held, or does neither.
 pub fn a_whole_file_is_published()
     ensures { (stored : Stored) (input : ReceiverInput) (m : OctetMap) (files : FileMap)
         (r : ReceiverState) → PublishesNone files (receiver_step stored input m files r)
@@ -169,8 +169,8 @@ pub fn a_whole_file_is_published()
     a_set_is_what_it_holds();
 }
 
-/// What a step does never depends on the files that were published before: with others in their
-/// place it publishes the same, and leaves all else the same.
+/// What a step does never depends on the files that were published before: if others were in their
+/// place, it would publish the same, and leave all else the same.
 pub fn published_files_change_no_step()
     ensures step { (stored : Stored) (input : ReceiverInput) (m : OctetMap) (files other : FileMap)
         (r : ReceiverState) → PublishesAlike files other (receiver_step stored input m files r)
@@ -192,7 +192,7 @@ pub fn a_file_that_comes_in_lacks_something()
         is_lacking (opened_closed large condition addressing) ≡ true }
 {}
 
-/// While no end without a whole file is indicated, a transaction is received or came to a whole
+/// If no end without a whole file is indicated, a transaction is received or came to a whole
 /// file. Faults that are ignored and suspensions change nothing of that.
 pub fn what_goes_well_ends_well()
     ensures step { (stored : Stored) (input : ReceiverInput) (m : OctetMap) (files : FileMap)
@@ -205,8 +205,8 @@ pub fn what_goes_well_ends_well()
         → goes_well (opens stored large files addressing).receiver ≡ true }
 {}
 
-/// A fault of the inbox is indicated only where the inbox refused. Where it refused and no such
-/// fault is indicated, the step is the one after an inbox that did as it was told.
+/// A fault of the inbox is indicated only if the inbox refused. If it refused and no such
+/// fault is indicated, the step is the one after an inbox that did as it was asked.
 pub fn a_rejection_has_a_refusal()
     ensures step { (stored : Stored) (input : ReceiverInput) (m : OctetMap) (files : FileMap)
         (r : ReceiverState) →
@@ -238,8 +238,8 @@ pub fn timers_are_those_waited_for()
     what_is_waited_for_is_armed();
 }
 
-/// The same of a receiver that was just opened and heard the PDU that opened it, if none of its
-/// timers was armed before. One that isn't begun, or is closed at once, waits for none.
+/// A receiver that was just opened and heard the PDU that opened it has its timers, if none of them
+/// was armed before. If it isn't begun, or is closed at once, it waits for none.
 pub fn an_opened_receiver_has_its_timers()
     ensures armed { (times : Times) (begun stored : Stored) (large : Bool) (v : Content)
         (files : FileMap) (addressing : Addressing) (timers : TimersState) (k : Kind) →
@@ -308,7 +308,7 @@ pub fn more_is_heard()
         → Sound put heard r m → Sound put heard r n }
 {}
 
-/// Where only the truth of a put is heard, what a step publishes is the put's file under its name,
+/// If only the truth of a put is heard, what a step publishes is the put's file under its name,
 /// and the put was heard in full.
 pub fn a_completion_publishes_the_put()
     ensures { (put : Put) (heard : List (List ℕ)) (stored : Stored) (input : ReceiverInput)
@@ -324,7 +324,7 @@ pub fn a_completion_publishes_the_put()
     octets_held_keep_their_value();
 }
 
-/// Where only the truth of a put is heard, and all of its file is held, the checksum is the file's.
+/// If only the truth of a put is heard, and all of its file is held, the checksum is the file's.
 /// No fault of the checksum, the size or the checksum type is indicated, if the put can be
 /// received.
 pub fn a_true_file_raises_no_fault()

@@ -1,4 +1,4 @@
-//! The receiving machine of CFDP, class 2 (CCSDS 727.0-B-5, 4.6.1.2 and 4.6.4): of one
+//! The receiving machine of CFDP, class 2 (CCSDS 727.0-B-5, 4.6.1.2 and 4.6.4): for one
 //! transaction, what its receiver does about each PDU that it hears, each timer that expires and
 //! each call of its user, and what it sends next.
 //!
@@ -15,6 +15,7 @@
 //! Tested by `tests/transcripts/receiver.txt` and `tests/transcripts/machines.txt`.
 #![tactic(auto)]
 
+mod adopting;
 mod asked;
 mod due;
 mod ending;
@@ -23,11 +24,13 @@ mod laws;
 mod missing;
 mod opening;
 mod receiver;
+mod restoring;
 mod sending;
 mod staging;
 mod state;
 mod waiting;
 
+pub use adopting::adopt_held;
 pub use due::Due;
 pub use hearing::Metadata;
 pub use laws::{
@@ -40,4 +43,5 @@ pub use laws::{
     what_is_heard_true_is_kept_true,
 };
 pub use receiver::Receiver;
+pub use restoring::CommittedReceiver;
 pub use state::{Ending, FileInfo, ReceiverPhase};

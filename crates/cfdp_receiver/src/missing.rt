@@ -9,7 +9,7 @@ use crate::receiver::Receiver;
 use crate::state::ReceiverPhase;
 
 impl Receiver {
-    /// Up to which offset something can be missing.
+    /// Returns the offset up to which something can be missing.
     pub(crate) fn scope_limit(&self) -> u64
         ensures value { result ≡ missing.scope_limit self.now }
         ensures fits { self.now.phase ≡ ReceiverPhase.Receiving
@@ -21,7 +21,7 @@ impl Receiver {
         }
     }
 
-    /// Up to which offset the file is held.
+    /// Returns the offset up to which the file is held.
     #[tactic(auto, using(crate::proofs::Held::end_below))]
     pub(crate) fn held_end(&self) -> u64
         ensures value { result ≡ end_of self.now.held }
@@ -30,14 +30,14 @@ impl Receiver {
         self.held.end()
     }
 
-    /// Whether a NAK from an offset on asks for Metadata.
+    /// Returns `true` if a NAK from an offset on asks for Metadata.
     pub(crate) fn asks_for_metadata(&self, from: u64) -> bool
         ensures { result ≡ (is_none self.now.metadata && (from == 0)) }
     {
         self.metadata.is_none() && from == 0
     }
 
-    /// Whether something is missing from an offset on.
+    /// Returns `true` if something is missing from an offset on.
     pub(crate) fn is_missing(&self, from: u64) -> bool
         ensures { result ≡ not (is_empty (missing_pairs from self.now)) }
     {
@@ -45,7 +45,7 @@ impl Receiver {
         self.asks_for_metadata(from) || gaps.next().is_some()
     }
 
-    /// A NAK that is due is over if nothing is missing from its cursor on.
+    /// Drops a NAK that is due if nothing is missing from its cursor on.
     pub(crate) fn tidy(&mut self)
         ensures { self.new ≡ tidied self.old }
     {

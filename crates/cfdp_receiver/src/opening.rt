@@ -16,14 +16,14 @@ use std::alloc::{AllocError, Global};
 
 impl Receiver {
     /// Opens the record of a transaction, by its first Metadata, file data or EOF without an error.
-    /// The transaction is begun in the inbox. Where that answers `Done`, the receiver hears the PDU
-    /// next, and that sets its timers; until then none runs. Where the inbox refuses, that is a
-    /// fault, the receiver waits for no timer, and of the PDU only its large file flag counts.
+    /// The transaction is begun in the inbox. If the inbox answers `Done`, the receiver must hear
+    /// the PDU next, and that sets its timers; until then none runs. If the inbox refuses, that is
+    /// a fault, the receiver waits for no timer, and of the PDU only its large file flag counts.
     /// Answers are written in the widths given.
     ///
     /// # Errors
     ///
-    /// `AllocError` where there is no memory for its timers. All is then as it was.
+    /// `AllocError` if there is no memory for its timers. All is then as it was.
     pub fn open<I: Inbox>(
         alloc: Global,
         effects: &mut Effects,
@@ -68,7 +68,7 @@ impl Receiver {
     ///
     /// # Errors
     ///
-    /// `AllocError` where there is no memory for its timers. All is then as it was.
+    /// `AllocError` if there is no memory for its timers. All is then as it was.
     pub fn open_closed(
         alloc: Global,
         effects: &mut Effects,

@@ -21,25 +21,41 @@ use std::marker::Model;
 
 /// The receiving side of one transaction (CCSDS 727.0-B-5, 4.6.1.2 and 4.6.4).
 ///
+/// ```text
+///    Metadata, file data                 file complete, a fault, or cancel:
+///    or EOF arrives                      Finished indicated and due
+///         |        +-----------+  ----------------------------------->  +-----------+
+///         +------> | Receiving |                                        | Finishing |
+///         |        +-----------+                                        +-----------+
+///         |              | EOF with an error: Finished indicated              | ACK of Finished,
+///         |              | or limit reached, handler Abandon                  | or Abandoned
+///         |              v                                                    v
+///         |        +--------+ <-----------------------------------------------+
+///         +------> | Closed |      (in every state an EOF is acknowledged)
+///   EOF with an    +--------+
+///   error arrives
+/// ```
+///
 /// It keeps which octets of the file are held, and what their checksum needs, but no octets: those
-/// are staged in the inbox that each call is lent. The caller lends the same inbox and the same effects each
-/// time, makes room for three more indications before a call, and sends what is due.
+/// are staged in the inbox that each call borrows. The caller must lend the same inbox and the same
+/// effects each time, must make room for three more indications before a call, and must send what
+/// is due.
 #[derive(Debug, Drop)]
 pub struct Receiver {
     pub(crate) alloc: Global,
     pub(crate) addressing: Addressing,
-    // Whether a PDU with the large file flag was heard.
+    // `true` if a PDU with the large file flag was heard.
     pub(crate) large: bool,
     pub(crate) phase: ReceiverPhase,
     pub(crate) suspended: bool,
     pub(crate) metadata: Option<FileInfo>,
     pub(crate) ending: Option<Ending>,
     pub(crate) held: Extents,
-    // Of the octets held: for all checksum types, until Metadata tells which one it is.
+    // Of the octets held: for all checksum types, until Metadata says which one it is.
     pub(crate) sums: Checksums,
     // The condition of the EOF heard last, while its ACK is due.
     pub(crate) ack_due: Option<Condition>,
-    // From which offset on a NAK is due.
+    // The offset from which a NAK is due.
     pub(crate) nak_cursor: Option<u64>,
     pub(crate) keep_alive_due: bool,
     pub(crate) finished_due: bool,
@@ -83,7 +99,7 @@ impl Model for Receiver {
 }
 
 impl Receiver {
-    /// A receiver that has heard nothing yet.
+    /// Returns a receiver that has heard nothing yet.
     #[tactic(auto, using(crate::proofs::Held::none_held))]
     pub(crate) fn new(alloc: Global, addressing: Addressing) -> Receiver
         requires { FitsAddressing addressing }
@@ -110,14 +126,14 @@ impl Receiver {
         }
     }
 
-    /// The transaction.
+    /// Returns the transaction.
     pub fn id(&self) -> TransactionId
         ensures { result ≡ self.now.addressing.id }
     {
         self.addressing.id
     }
 
-    /// How far the transaction has come: Receiving, Finishing or Closed.
+    /// Returns how far the transaction has come: Receiving, Finishing or Closed.
     pub fn phase(&self) -> Phase
         ensures { result ≡ states.public_phase self.now.phase }
     {
@@ -128,15 +144,15 @@ impl Receiver {
         }
     }
 
-    /// Up to which offset octets of the file came, some of which may be missing: what a Keep Alive
-    /// says (CCSDS 727.0-B-5, 5.2.8).
+    /// Returns the offset up to which octets of the file came, even if some are missing: what a
+    /// Keep Alive says (CCSDS 727.0-B-5, 5.2.8).
     pub fn progress(&self) -> u64
         ensures { result ≡ end_of self.now.held }
     {
         self.held_end()
     }
 
-    /// Whether the transaction is suspended. It is then in Receiving.
+    /// Returns `true` if the transaction is suspended. It is then in Receiving.
     pub fn is_suspended(&self) -> bool
         ensures value { result ≡ self.now.suspended }
         ensures receiving { result ≡ true → self.now.phase ≡ ReceiverPhase.Receiving }
@@ -144,7 +160,7 @@ impl Receiver {
         self.suspended
     }
 
-    /// The checksum type of the file, once Metadata told it.
+    /// Returns the checksum type of the file, if Metadata said it.
     pub(crate) fn checksum_kind(&self) -> Option<ChecksumKind>
         ensures { result ≡ states.kind_told self.now.metadata }
     {
@@ -154,7 +170,7 @@ impl Receiver {
         }
     }
 
-    /// Whether the receiver waits for a timer.
+    /// Returns `true` if the receiver waits for a timer.
     pub(crate) fn waits(&self, kind: Kind) -> bool
         ensures { result ≡ steps.waits kind self.now }
     {

@@ -25,9 +25,9 @@ use cfdp_header::Header;
 use cfdp_timers::{Effects, Kind};
 
 impl Receiver {
-    /// Octets of the PDU that is due, its header and its CRC too; `None` where none is, as while
-    /// the transaction is suspended. What is due can be written, and has 4,128 octets at the most.
-    /// Takes no memory.
+    /// Returns the number of octets of the PDU that is due, its header and its CRC too; `None` if
+    /// none is, for example while the transaction is suspended. What is due can be written, and has
+    /// at most 4,128 octets. Takes no memory.
     pub fn due(&self) -> Option<usize>
         ensures len { result ≡ due_len self.now }
         ensures short { IfSome result (λ len. len ≤ 4128) }
@@ -37,16 +37,16 @@ impl Receiver {
         Some(self.len_of(&due))
     }
 
-    /// Whether a PDU is due: whether [`due`](Self::due) answers a length, for which what a NAK asks
-    /// for is counted. Takes no memory.
+    /// Returns `true` if a PDU is due, that is if [`due`](Self::due) answers a length, which costs
+    /// more: it counts what a NAK asks for. Takes no memory.
     pub fn is_due(&self) -> bool
         ensures { result ≡ is_some (receiver_due self.now) }
     {
         self.next_due().is_some()
     }
 
-    /// Writes the PDU that is due into the first octets of `out`, and says how many they are. The
-    /// octets behind stay. Takes no memory.
+    /// Writes the PDU that is due into the first octets of `out`, and returns how many they are.
+    /// The octets after them stay. Takes no memory.
     pub fn take_pdu(&mut self, effects: &mut Effects, policy: &Policy, out: &mut [u8]) -> usize
         requires timers { set.contains effects.old.timers.roomy self.old.addressing.id ≡ true }
         requires due { IsSome (due_len self.old) }
@@ -67,7 +67,7 @@ impl Receiver {
         len
     }
 
-    /// What is due: the PDU that [`take_pdu`](Self::take_pdu) would write now.
+    /// Returns what is due: the PDU that [`take_pdu`](Self::take_pdu) would write now.
     pub fn next_due(&self) -> Option<Due>
         ensures due { result ≡ receiver_due self.now }
         ensures writable { IfSome result (λ d. IsWritableIn self.now d) }
@@ -114,7 +114,7 @@ impl Receiver {
         }
     }
 
-    /// Octets of the PDU, its header and its CRC too.
+    /// Returns the number of octets of the PDU, its header and its CRC too.
     fn len_of(&self, due: &Due) -> usize
         requires { IsWritableIn self.now due.now }
         ensures { IsLenOf self.now due.now result }
@@ -131,8 +131,8 @@ impl Receiver {
         }
     }
 
-    /// Octets of a NAK from an offset on, its header and its CRC too: what it asks for is counted
-    /// here, and gathered once it is written.
+    /// Returns the number of octets of a NAK from an offset on, its header and its CRC too: what it
+    /// asks for is counted here, and gathered once it is written.
     #[tactic(auto, using(crate::proofs::AskedLemmas::nak_fits))]
     fn len_of_nak(&self, cursor: u64) -> usize
         requires { IsWritableIn self.now (due_is.Nak cursor) }
@@ -145,7 +145,7 @@ impl Receiver {
         around + nak_len(self.large, pairs)
     }
 
-    /// Writes the PDU, and goes on behind it.
+    /// Writes the PDU, and goes on after it.
     fn send(&mut self, due: &Due, out: &mut [u8]) -> usize
         requires writable { IsWritableIn self.old due.now }
         requires room { said_len self.old due.now ≤ length out.old }
@@ -222,7 +222,7 @@ impl Receiver {
         }
     }
 
-    /// Where the fault of the transaction was, as its Finished tells it.
+    /// Returns the location of the transaction's fault, as its Finished says it, if it says one.
     fn location<'a>(&self, condition: Condition) -> Tlvs<'a>
         ensures value { result ≡ location_told self.now.addressing condition }
         ensures short { length (flat_map tlv result) ≤ 10 }
@@ -247,7 +247,7 @@ impl Receiver {
         }
     }
 
-    /// What a NAK from an offset on asks for.
+    /// Returns what a NAK from an offset on asks for.
     fn asked(&self, cursor: u64) -> Asked
         requires { self.now.phase ≡ ReceiverPhase.Receiving }
         ensures { IsAskedFrom cursor self.now result }
@@ -258,7 +258,7 @@ impl Receiver {
     }
 }
 
-/// The status in an ACK of EOF.
+/// Returns the status in an ACK of EOF.
 fn status_in(phase: ReceiverPhase) -> TransactionStatus
     ensures { result ≡ dues.status_in phase }
 {
@@ -268,7 +268,7 @@ fn status_in(phase: ReceiverPhase) -> TransactionStatus
     }
 }
 
-/// The timer that is armed anew once a PDU was taken.
+/// Returns the timer that is armed again once a PDU was taken.
 fn anew_once_taken(due: &Due) -> Option<Kind>
     ensures { result ≡ steps.anew_once_taken due.now }
 {

@@ -13,7 +13,7 @@ use cfdp_extents::Gaps;
 use cfdp_header::TransactionId;
 use cfdp_store::{Inbox, Stored};
 
-/// Of file data from an offset on, the octets in a range.
+/// Returns the octets in a range, of file data from an offset on.
 fn piece(offset: u64, bytes: &[u8], start: u64, end: u64) -> &[u8]
     requires fits { offset + length bytes.now < 2 ^ 64 }
     requires inside { LiesIn offset (offset + length bytes.now) (start, end) }
@@ -61,7 +61,7 @@ pub(crate) fn stage<I: Inbox>(
 }
 
 impl Receiver {
-    /// What is kept for the checksum, once those octets of file data came that aren't held.
+    /// Returns what is kept for the checksum, if those octets of file data came that aren't held.
     pub(crate) fn sums_with(&self, offset: u64, bytes: &[u8]) -> Checksums
         requires fits { offset + length bytes.now < 2 ^ 64 }
         ensures { result ≡ all_summed (kind_told self.now.metadata) self.now.sums
@@ -74,8 +74,8 @@ impl Receiver {
     }
 }
 
-/// What is kept for the checksum that is wanted, or for all of them, with those octets of file data
-/// that lie in gaps.
+/// Returns what is kept for the checksum of the known type, or for all types, if those octets of
+/// file data came that lie in gaps.
 fn sums_of_gaps(
     before: Checksums,
     wanted: &Option<ChecksumKind>,

@@ -1,6 +1,6 @@
 use cfdp_directives::{ChecksumKind, Octets};
 
-/// Where a receiving transaction stands (CCSDS 727.0-B-5, 4.6.1.2).
+/// How far a receiving transaction has come (CCSDS 727.0-B-5, 4.6.1.2).
 #[derive(Clone, Copy, Debug, PartialEq, Eq)]
 pub enum ReceiverPhase {
     /// The file comes in.
@@ -11,7 +11,7 @@ pub enum ReceiverPhase {
     Closed,
 }
 
-/// What Metadata said that is still wanted.
+/// What Metadata said that is still needed.
 #[derive(Debug, Drop)]
 pub struct FileInfo {
     /// How the file's checksum is made.

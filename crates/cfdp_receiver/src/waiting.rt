@@ -20,7 +20,7 @@ use cfdp_store::{Inbox, Stored};
 use cfdp_timers::{Effects, Kind};
 
 impl Receiver {
-    /// A fault for which there is a choice, while it receives.
+    /// Handles a fault for which there is a choice, while it receives.
     fn handle<I: Inbox>(
         &mut self,
         effects: &mut Effects,
@@ -53,7 +53,7 @@ impl Receiver {
         }
     }
 
-    /// What is missing didn't come.
+    /// Asks again for what is missing, if that may be asked for again.
     fn expire_nak<I: Inbox>(&mut self, effects: &mut Effects, inbox: &mut I, policy: &Policy)
         requires ready { IsOpen I.Inbox 2 self.old effects.old inbox.old }
         ensures advances { Advances I.Inbox Stored.Done (expires_by kinds.Nak policy.now)
@@ -71,7 +71,7 @@ impl Receiver {
         }
     }
 
-    /// The Finished wasn't acknowledged.
+    /// Sends the Finished again that wasn't acknowledged, if it may be sent again.
     fn expire_finished(&mut self, told: &mut Vec<Indication>, policy: &Policy)
         requires room { vec_len told.old + 2 ≤ vec_capacity told.old }
         requires finishing { self.old.phase ≡ ReceiverPhase.Finishing }
@@ -93,10 +93,10 @@ impl Receiver {
         }
     }
 
-    /// A timer expired. Where the receiver waits for it, a NAK or the Finished is due again, up to
-    /// its limit; at the limit, and where nothing was heard for too long, the fault is told and its
-    /// handler decides. A Finished that is never acknowledged is given up, and what was published
-    /// stays. Otherwise nothing changes. Takes no memory.
+    /// Handles the expiry of a timer. If the receiver waits for it, a NAK or the Finished is due
+    /// again, up to its limit; at the limit, and if nothing was heard for too long, the fault is
+    /// indicated and its handler decides. If a Finished is never acknowledged, it is given up, and
+    /// what was published stays. Otherwise nothing changes. Takes no memory.
     pub fn expire<I: Inbox>(
         &mut self,
         effects: &mut Effects,
@@ -131,7 +131,7 @@ impl Receiver {
         self.set_timers(&mut effects.timers, policy, anew_once_expired(kind));
     }
 
-    /// Gives the transaction up, and tells its sender by Finished. Changes nothing but in
+    /// Gives the transaction up, and says so to its sender by Finished. Changes nothing except in
     /// Receiving. Takes no memory.
     pub fn cancel<I: Inbox>(&mut self, effects: &mut Effects, inbox: &mut I, policy: &Policy)
         requires room { HasRoom self.old.addressing.id effects.old }
@@ -152,7 +152,7 @@ impl Receiver {
     }
 
     /// Suspends the transaction: until it is resumed nothing is sent, and no timer runs. Changes
-    /// nothing but in Receiving, and nothing where it is suspended. Takes no memory.
+    /// nothing except in Receiving, and nothing if it is suspended. Takes no memory.
     pub fn suspend(&mut self, effects: &mut Effects, policy: &Policy)
         requires room { HasRoom self.old.addressing.id effects.old }
         ensures does { DoesAlone policy.now.times suspends
@@ -170,7 +170,7 @@ impl Receiver {
     }
 
     /// Resumes the transaction: what is waited for is armed, and what was repeated is counted from
-    /// 0 again. Changes nothing where it isn't suspended. Takes no memory.
+    /// 0 again. Changes nothing if it isn't suspended. Takes no memory.
     pub fn resume(&mut self, effects: &mut Effects, policy: &Policy)
         requires room { HasRoom self.old.addressing.id effects.old }
         ensures does { DoesAlone policy.now.times resumes
@@ -187,7 +187,7 @@ impl Receiver {
     }
 }
 
-/// The timer that is armed anew once one expired: Inactivity, where that is ignored.
+/// Returns the timer that is armed again once one expired: Inactivity, if that is ignored.
 fn anew_once_expired(kind: Kind) -> Option<Kind>
     ensures { result ≡ steps.anew_once_expired kind }
 {

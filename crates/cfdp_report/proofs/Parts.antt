@@ -12,7 +12,7 @@ use Rattle.cfdp_report.specs.Words.{onto_first, parts, next_word, nothing_of, te
 use Rattle.cfdp_report.specs.Meaning.{both, id_of_parts}
 use Rattle.cfdp_report.proofs.Numerals.{by_test, all_digits, number-none, digits-pass}
 
--- ---- a text is cut behind its first part
+-- ---- a text is cut after its first part
 
 parts-cut : (separator : ℕ) (first rest : List ℕ) → All (λ octet. octet ≢ separator) first → parts separator (first ++ separator ∷ rest) ≡ first ∷ parts separator rest
 unfolding parts onto_first
@@ -30,7 +30,7 @@ parts-whole separator (octet ∷ text) none =
     let other : (octet == separator) ≡ false = ne_eqb octet separator (All-head (λ x. x ≢ separator) octet text none) in
     rw (other, more) refl
 
--- what is cut off, and what is behind it, by their octets
+-- what is cut off, and what is after it, by their octets
 pub parts-are : (separator : ℕ) (text first : List ℕ) (behind : Option (List ℕ)) → All (λ octet. octet ≢ separator) first
     → MatchOption behind (first ≡ text) (λ rest. text ≡ first ++ separator ∷ rest) → parts separator text ≡ first ∷ option_map_or (parts separator) behind []
 parts-are separator text first None none whole = rw (← whole) (parts-whole separator first none)

@@ -11,8 +11,8 @@ exit_status Incomplete = 1
 exit_status (BadScript _) = 2
 exit_status (Device _) = 3
 
--- how a run of stations ended, by whether memory was wanting, whether a store failed, and how many
--- of how many puts were completed
+-- how a run of stations ended, by whether memory ran out, whether a store failed, and how many of
+-- how many puts were completed
 abbrev pub run_exit : (short failed : Bool) → (complete asked : ℕ) → Exit
 run_exit short failed complete asked = if short then Device NoMemory
     else if failed then Device NoMemory
@@ -26,6 +26,6 @@ has_report (BadScript _) = false
 has_report (Device NoMemory) = true
 has_report (Device _) = false
 
--- Of a report nothing waits in the writer's buffer: all of it has gone to what is behind it.
+-- Of a report nothing waits in the writer's buffer: all of it has gone to what lies beyond it.
 abbrev pub IsFlushedAt : Exit → (waiting : List ℕ) → Type 0
 IsFlushedAt exit waiting = has_report exit ≡ true → waiting ≡ []

@@ -5,7 +5,7 @@ use Rattle.cfdp_report.specs.Numbers.{number_of}
 use Rattle.cfdp_report.specs.Settings.{is}
 use Rattle.cfdp_report.specs.Words.{parts}
 
--- what two things mean together, where each means something
+-- what two things mean together, if each means something
 abbrev pub both : {A B C : Type 0} → (A → B → C) → Option A → Option B → Option C
 both f None b = None
 both f (Some a) b = option_map (f a) b
@@ -19,7 +19,7 @@ id_of_parts _ = None
 abbrev pub id_of : List ℕ → Option TransactionId
 id_of word = id_of_parts (parts 58 word)
 
--- whether a prompt asks for a Keep Alive, or else for a NAK
+-- whether a prompt asks for a Keep Alive and not for a NAK
 abbrev pub asked_of : List ℕ → Option Bool
 asked_of word = if is word (codes "nak") then Some false
     else if is word (codes "keep") then Some true else None

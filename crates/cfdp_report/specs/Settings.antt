@@ -20,7 +20,7 @@ use Rattle.cfdp_report.specs.declared.settings.table.Row.{Row}
 use Rattle.cfdp_report.specs.declared.settings.Settings.{Settings}
 use Rattle.cfdp_report.specs.declared.settings.table.Setting.{Setting}
 use Rattle.cfdp_report.specs.declared.settings.table.Setting.TheVariants as key
-use Rattle.cfdp_report.specs.declared.settings.table.Setting.TheVariants.{Zone, InsertZone, ControlField, ErrorControl, Segment, IdWidth, NumberWidth, FirstNumber, Checksum, PduCrc, EofLimit, NakLimit, FinishedLimit, EofTime, NakTime, FinishedTime, InactivityTime, OnAckLimit, OnNakLimit, OnInactivity}
+use Rattle.cfdp_report.specs.declared.settings.table.Setting.TheVariants.{Zone, InsertZone, ControlField, ErrorControl, Segment, IdWidth, NumberWidth, FirstNumber, Checksum, PduCrc, EofLimit, NakLimit, FinishedLimit, EofTime, NakTime, FinishedTime, InactivityTime, OnAckLimit, OnNakLimit, OnInactivity, MostGaps}
 
 -- the values before the first `set`
 abbrev pub default_settings : Settings
@@ -45,6 +45,7 @@ default_settings = record {
   on_ack_limit = 0;
   on_nak_limit = 0;
   on_inactivity = 0;
+  most_gaps = 0;
 }
 
 -- the settings with one value changed
@@ -69,6 +70,7 @@ set_value s InactivityTime n = record s { inactivity_time = n }
 set_value s OnAckLimit n = record s { on_ack_limit = n }
 set_value s OnNakLimit n = record s { on_nak_limit = n }
 set_value s OnInactivity n = record s { on_inactivity = n }
+set_value s MostGaps n = record s { most_gaps = n }
 
 -- ---- values that fit their fields
 
@@ -93,7 +95,7 @@ FitSending s = (s.id_width < 256) × (s.number_width < 256) × (s.segment < 2 ^ 
 abbrev pub FitFrames : Settings → Type 0
 FitFrames s = (s.insert_zone < 256) × (s.control_field < 2) × (s.error_control < 2)
 
--- Each value fits its field. The number of a station's first put may be any: where its octets can't
+-- Each value fits its field. The number of a station's first put may be any: if its octets can't
 -- have it, each put is refused.
 abbrev pub FitFields : Settings → Type 0
 FitFields s = (s.zone < 2 ^ 16) × FitFrames s × FitSending s × FitPolicy s
@@ -127,8 +129,17 @@ handlers_of s =
           handler_of s.on_inactivity;
     }
 
+-- a limit, if the number is one: 0 stands for none
+abbrev pub limit_of : ℕ → Option ℕ
+limit_of number = if number == 0 then None else Some number
+
 abbrev pub policy_of : Settings → Policy
-policy_of s = record { limits = limits_of s; times = times_of s; handlers = handlers_of s }
+policy_of s = record {
+  limits = limits_of s;
+  times = times_of s;
+  handlers = handlers_of s;
+  most_gaps = limit_of s.most_gaps;
+}
 
 -- a station's entity: the peer is the other station's
 abbrev pub entity_of : Settings → Side → EntityConfig
@@ -180,7 +191,7 @@ station_of s side = record {
   capacity = 16384;
 }
 
--- two stations of these ids, each of which sends over its own link
+-- two stations of these ids, each sending over its own link
 abbrev pub pair_of : Settings → (first second : ℕ) → (one two : LinkConfig) → WorldConfig
 pair_of s first second one two = record {
   one = record {
@@ -229,9 +240,10 @@ keys =
     (key.OnAckLimit, codes "on_ack_limit") ∷
     (key.OnNakLimit, codes "on_nak_limit") ∷
     (key.OnInactivity, codes "on_inactivity") ∷
+    (key.MostGaps, codes "most_gaps") ∷
     []
 
--- the setting of which this is the key
+-- the setting that has this key
 abbrev pub key_among : List (Setting × List ℕ) → List ℕ → Option Setting
 key_among [] word = None
 key_among (row ∷ rest) word = if is word row.1 then Some row.0 else key_among rest word

@@ -5,7 +5,7 @@ use Rattle.std.specs.List.{join_with_byte}
 use Rattle.std.specs.Io.BufRead.{strip_last}
 use Rattle.cfdp_report.specs.declared.words.Words.{Words}
 
--- an octet in front of the first part
+-- an octet before the first part
 unfoldable pub onto_first : ℕ → List (List ℕ) → List (List ℕ)
 onto_first octet [] = (octet ∷ []) ∷ []
 onto_first octet (part ∷ rest) = (octet ∷ part) ∷ rest
@@ -20,8 +20,8 @@ parts separator (octet ∷ rest) = if octet == separator then [] ∷ parts separ
 abbrev pub without_return : List ℕ → List ℕ
 without_return line = strip_last 13 line
 
--- The words of a line stand between its spaces. One is empty where two spaces stand together, or
--- one begins or ends the line.
+-- The words of a line stand between its spaces. One is empty if two spaces stand together, or one
+-- begins or ends the line.
 abbrev pub words_of : List ℕ → List (List ℕ)
 words_of line = parts 32 line
 
@@ -29,7 +29,7 @@ words_of line = parts 32 line
 abbrev pub left : Words → List (List ℕ)
 left words = option_map_or (λ rest. words_of rest.now) words.rest []
 
--- the next word, and those behind it; none where it is missing or empty
+-- the next word, and those after it; none if it is missing or empty
 abbrev pub next_word : List (List ℕ) → Option (List ℕ × List (List ℕ))
 next_word [] = None
 next_word ([] ∷ rest) = None
@@ -39,7 +39,7 @@ abbrev pub nothing_of : List (List ℕ) → Option (Unit {0})
 nothing_of [] = Some tt
 nothing_of (word ∷ rest) = None
 
--- ---- words, where there are exactly so many and none is empty
+-- ---- words, if there are exactly so many and none is empty
 
 abbrev pub one_of : List (List ℕ) → Option (List ℕ)
 one_of words = option_and_then (λ w. option_map (λ _. w.0) (nothing_of w.1)) (next_word words)
@@ -56,7 +56,7 @@ abbrev pub four_of : List (List ℕ) → Option (List ℕ × List ℕ × List �
 four_of words = option_and_then (λ w. option_map (λ more. (w.0, more.0, more.1, more.2))
     (three_of w.1)) (next_word words)
 
--- ---- a text: the rest of a line, spaces and all, where it has an octet at least
+-- ---- a text: the rest of a line, spaces and all, if it has an octet at least
 
 abbrev pub some_octets : List ℕ → Option (List ℕ)
 some_octets [] = None

@@ -1,8 +1,8 @@
 //! Why the system refused something, in the words of an operator.
 use std::io::ErrorKind;
 
-/// Why the system refused something, as it is told to an operator. What has no plain cause here is
-/// told as an input or output error: a broken device, for the most part.
+/// Returns why the system refused something, in an operator's words. What has no plain cause here
+/// is reported as an input or output error: a broken device, for the most part.
 pub fn cause_text(kind: ErrorKind) -> &'static str {
     match kind {
         ErrorKind::AddrInUse
@@ -27,7 +27,7 @@ pub fn cause_text(kind: ErrorKind) -> &'static str {
     }
 }
 
-/// The same of files and folders.
+/// Returns why the system refused something of a file or a folder.
 fn file_cause(kind: ErrorKind) -> &'static str {
     match kind {
         ErrorKind::AlreadyExists => "a file of that name exists",
@@ -50,7 +50,7 @@ fn file_cause(kind: ErrorKind) -> &'static str {
     }
 }
 
-/// The same of sockets.
+/// Returns why the system refused something of a socket.
 fn network_cause(kind: ErrorKind) -> &'static str {
     match kind {
         ErrorKind::AddrInUse => "address in use",

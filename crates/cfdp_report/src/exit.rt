@@ -18,7 +18,7 @@ pub enum Exit {
     Device(Fault),
 }
 
-/// What failed where a run could not be done.
+/// What failed, if a run could not be done.
 #[derive(Clone, Copy)]
 pub enum Fault {
     /// The input can't be read, for this cause, or has no end within 1,100,000 reads.
@@ -40,8 +40,8 @@ impl Exit {
     ghost use Rattle.cfdp_report.specs.Exit as exits;
     ghost use Rattle.cfdp_report.specs.Exit.{exit_status, IsFlushedAt, run_exit};
 
-    /// How a run of stations ended, by whether memory was wanting, whether a store failed, and how
-    /// many of how many puts were completed.
+    /// Returns how a run of stations ended, by whether memory ran out, whether a store failed, and
+    /// how many of how many puts were completed.
     pub fn of_run(short: bool, failed: bool, complete: usize, asked: usize) -> Exit
         ensures { result ≡ run_exit short failed complete asked }
     {
@@ -54,7 +54,7 @@ impl Exit {
         }
     }
 
-    /// The exit status of the process: 0 to 3.
+    /// Returns the exit status of the process: 0 to 3.
     pub fn status(self) -> u8
         ensures { result ≡ exit_status self }
     {
@@ -66,9 +66,9 @@ impl Exit {
         }
     }
 
-    /// This end, once its report has left the buffer.
+    /// Flushes the report out of its buffer, and returns this end.
     ///
-    /// It is `Device` where the report can't be written out. Without a report nothing is written.
+    /// It is `Device` if the report can't be written out. Without a report nothing is written.
     pub fn flushed<W: Write + Drop>(self, out: &mut BufWriter<W>) -> Exit
         ensures kept { Keeps (writer_contents W.contents out.old)
             (writer_contents W.contents out.new) }
@@ -85,7 +85,7 @@ impl Exit {
         }
     }
 
-    /// Whether a run that ended so wrote a report.
+    /// Returns `true` if a run that ended so wrote a report.
     fn has_report(self) -> bool
         ensures { result ≡ exits.has_report self }
     {
@@ -100,8 +100,8 @@ impl Exit {
 }
 
 impl Fault {
-    /// The line that tells it on standard error, if there is to be one, of a run that reads from
-    /// this input.
+    /// Writes the line that reports it on standard error, if there is one, for a run that reads
+    /// from this input.
     pub fn tell(self, rt: &HostRuntime, input: Input<'_>) {
         let _ = match self {
             Fault::Unreadable(kind) => {

@@ -1,7 +1,7 @@
-//! Where what a run reads comes from.
+//! What a run reads from.
 use std::fmt;
 
-/// Where a script, or the lines of a dump, come from.
+/// What a script, or the lines of a dump, are read from.
 #[derive(Clone, Copy)]
 pub enum Input<'a> {
     /// Standard input.
@@ -11,7 +11,7 @@ pub enum Input<'a> {
 }
 
 impl<'a> Input<'a> {
-    /// The file of this name, if there is one, or else standard input.
+    /// Returns the file of this name, if there is one, or otherwise standard input.
     pub fn of(file: &'a Option<String>) -> Input<'a> {
         match file {
             Some(name) => Input::File(name.as_str()),

@@ -20,7 +20,7 @@ pub struct BadLine {
 }
 
 impl BadLine {
-    /// A line that is bad as a whole, and needs no hint.
+    /// Returns a line that is bad as a whole, and needs no hint.
     pub fn whole(line: usize, error: LineError) -> BadLine
         ensures { result.line ≡ line }
     {
@@ -34,7 +34,7 @@ impl BadLine {
 }
 
 impl BadLine {
-    /// Returns `true` if it is bad only because something is to be shown of the run.
+    /// Returns `true` if it is bad only because something must be shown of the run.
     pub fn is_unshown(&self) -> bool {
         matches!(self.error, LineError::Unshown)
     }
@@ -53,7 +53,7 @@ impl fmt::Display for BadLine {
 #[derive(Clone, Copy)]
 pub struct Reason(pub BadLine);
 
-/// In one line, without its end: the word that is wrong, what was expected, and a hint.
+/// Writes one line, without its end: the word that is wrong, what was expected, and a hint.
 impl fmt::Display for Reason {
     fn fmt<W: fmt::Write>(&self, f: &mut fmt::Formatter<W>) -> fmt::Result {
         let BadLine {
@@ -66,10 +66,10 @@ impl fmt::Display for Reason {
     }
 }
 
-/// How many octets of a word are told at most.
+/// How many octets of a word are shown at most.
 const QUOTED: usize = 40;
 
-/// A word as it is told: its first 40 octets.
+/// A word as it is shown: its first 40 octets.
 #[derive(Clone, Copy)]
 pub struct Quote {
     octets: [u8; QUOTED],
@@ -83,7 +83,7 @@ impl Quote {
         length: 0,
     };
 
-    /// This word.
+    /// Returns this word.
     pub fn of(word: &[u8]) -> Quote {
         let mut quote = Quote {
             octets: [0; QUOTED],
@@ -95,14 +95,14 @@ impl Quote {
         quote
     }
 
-    /// Its octets as text; nothing where they are none.
+    /// Returns its octets as text; nothing if they are none.
     pub fn text(&self) -> &str {
         let octets = self.octets.get(..self.length).unwrap_or(&[]);
         str::from_utf8(octets).unwrap_or("")
     }
 }
 
-/// The word in quotes with a colon behind it; nothing where there is no word.
+/// Writes the word in quotes with a colon after it; nothing if there is no word.
 impl fmt::Display for Quote {
     fn fmt<W: fmt::Write>(&self, f: &mut fmt::Formatter<W>) -> fmt::Result {
         let word = self.octets.get(..self.length).unwrap_or(&[]);
@@ -113,7 +113,7 @@ impl fmt::Display for Quote {
     }
 }
 
-/// What may stand where a line is wrong.
+/// What may stand in the wrong part of a line.
 #[derive(Clone, Copy)]
 pub enum Hint {
     /// Nothing more is known of it than the error says.
@@ -126,11 +126,11 @@ pub enum Hint {
     Keys,
     /// A value of this setting.
     Value(Setting),
-    /// Where the commands are listed.
+    /// The help that lists the commands.
     Help,
 }
 
-/// What goes on from the sentence of the error.
+/// Writes what goes on from the sentence of the error.
 impl fmt::Display for Hint {
     fn fmt<W: fmt::Write>(&self, f: &mut fmt::Formatter<W>) -> fmt::Result {
         match self {
@@ -168,7 +168,7 @@ pub enum LineError {
     UnknownStation,
     /// A number isn't decimal digits below 2^64.
     BadNumber,
-    /// What stands where a lane or a number can isn't `dir` or `data`, nor such a number.
+    /// What stands in the place of a lane or a number isn't `dir` or `data`, nor such a number.
     UnknownLane,
     /// The number of a frame is 0.
     NoFrame,
@@ -180,7 +180,7 @@ pub enum LineError {
     FileTooLong,
     /// An octet isn't two hexadecimal digits.
     BadOctet,
-    /// `set`, `file` or `fill` stands behind another command.
+    /// `set`, `file` or `fill` stands after another command.
     TooLate,
     /// The last `set` leaves a setting out of its range. This is its value, and the line that set
     /// that one.
@@ -191,13 +191,13 @@ pub enum LineError {
     },
     /// The last `set` leaves a configuration that isn't valid.
     BadConfiguration,
-    /// Something is to be shown of the run, and the command is none of a link that keeps the order
+    /// Something must be shown of the run, and the command is none of a link that keeps the order
     /// of its frames: nobody can look on there.
     Unshown,
 }
 
 impl fmt::Display for LineError {
-    /// The sentence that explains it.
+    /// Writes the sentence that explains it.
     fn fmt<W: fmt::Write>(&self, f: &mut fmt::Formatter<W>) -> fmt::Result {
         match self {
             LineError::TooLong => f.write_str("the line has more than 4,096 octets"),

@@ -8,11 +8,11 @@ use crate::number::parse_number;
 use crate::words::cut_at_first;
 use cfdp_header::TransactionId;
 
-/// A transaction: two numbers with a colon between, as in `1:7`.
+/// Reads a transaction, which must be two numbers with a colon between, such as `1:7`.
 ///
 /// # Errors
 ///
-/// `BadId`.
+/// `BadId` if the word is no transaction.
 pub fn parse_id(word: &[u8]) -> Result<TransactionId, LineError>
     ensures { result_ok result ≡ id_of word.now }
 {
@@ -26,11 +26,11 @@ pub fn parse_id(word: &[u8]) -> Result<TransactionId, LineError>
     }
 }
 
-/// Whether a prompt asks for a Keep Alive, or else for a NAK: `keep` or `nak`.
+/// Reads whether a prompt asks for a Keep Alive or for a NAK, which must be `keep` or `nak`.
 ///
 /// # Errors
 ///
-/// `UnknownPrompt`.
+/// `UnknownPrompt` if the word is neither.
 pub fn parse_asked(word: &[u8]) -> Result<bool, LineError>
     ensures { result_ok result ≡ asked_of word.now }
 {

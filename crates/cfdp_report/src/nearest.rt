@@ -2,7 +2,7 @@
 use std::alloc::{AllocError, Global};
 use strsim::levenshtein;
 
-/// So many letters of a word may be others than those of one that is near to it.
+/// The most letters in which a word may differ from one that is near to it.
 const NEAR: usize = 2;
 
 /// A longer word is near to none.
@@ -11,14 +11,14 @@ const LONGEST: usize = 32;
 /// The search for the word that is most like a given one.
 #[derive(Clone, Copy)]
 pub struct Nearest<'a> {
-    // `None` where it can't be near to any.
+    // `None` if it can't be near to any.
     word: Option<&'a str>,
     least: usize,
     found: Option<&'static str>,
 }
 
 impl<'a> Nearest<'a> {
-    /// Before any word is looked at.
+    /// Begins the search, before any word is looked at.
     pub fn to(word: &'a [u8]) -> Nearest<'a> {
         let text = if word.len() > LONGEST {
             None
@@ -36,7 +36,7 @@ impl<'a> Nearest<'a> {
     ///
     /// # Errors
     ///
-    /// `AllocError` where there is no memory.
+    /// `AllocError` if there is no memory.
     pub fn consider(&mut self, alloc: Global, name: &'static str) -> Result<(), AllocError> {
         let Some(word) = self.word else {
             return Ok(());
@@ -49,7 +49,7 @@ impl<'a> Nearest<'a> {
         Ok(())
     }
 
-    /// The one of them that is most like it, where at most two letters differ.
+    /// Returns the word that is most like it, if at most two letters differ.
     pub fn found(self) -> Option<&'static str> {
         self.found
     }

@@ -6,7 +6,7 @@ ghost use Rattle.cfdp_report.specs.Numbers.{hex_number_text, number_of};
 
 use std::fmt;
 
-/// The number that decimal digits spell, below 2^64. Zeros may stand in front.
+/// Returns the number that decimal digits spell, below 2^64. They may begin with zeros.
 pub fn parse_number(word: &[u8]) -> Option<u64>
     ensures { result ≡ number_of word.now }
 {
@@ -24,7 +24,7 @@ pub fn parse_number(word: &[u8]) -> Option<u64>
     Some(number)
 }
 
-/// The octet that two hexadecimal digits spell, in either case.
+/// Returns the octet that two hexadecimal digits spell, in either case.
 pub fn parse_hex_octet(word: &[u8]) -> Option<u8>
     ensures some { IsSome result ↔ ((length word.now ≡ 2) × AllDigits 16 word.now) }
     ensures value { IfSome result (λ octet. octet ≡ digits_value 16 word.now) }
@@ -35,7 +35,7 @@ pub fn parse_hex_octet(word: &[u8]) -> Option<u8>
     }
 }
 
-/// What a hexadecimal digit, of either case, stands for: 0 to 15.
+/// Returns what a hexadecimal digit, of either case, stands for: 0 to 15.
 fn hex_value(digit: u8) -> Option<u8>
     ensures some { IsSome result ↔ (digit_value digit < 16) }
     ensures value { IfSome result (λ value. value ≡ digit_value digit) }

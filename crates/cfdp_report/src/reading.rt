@@ -8,13 +8,13 @@ use std::io::{ErrorKind, Read};
 
 const MAX_READS: u32 = 1_100_000;
 
-/// All that the reader gives, to its end, where that is no more than so many octets. Where a read
-/// is interrupted, it is asked again.
+/// Reads all that the reader gives, to its end, which must be at most `most` octets. If a read is
+/// interrupted, it is asked again.
 ///
 /// # Errors
 ///
-/// `TooLong` where it gives more than `most` octets; `Unreadable` where a read fails, or none of
-/// 1,100,000 finds the end; `NoMemoryAtStart` where there is no memory.
+/// `TooLong` if it gives more than `most` octets; `Unreadable` if a read fails, or none of
+/// 1,100,000 finds the end; `NoMemoryAtStart` if there is no memory.
 pub fn read_up_to<R: Read + Drop>(
     alloc: Global,
     mut reader: R,

@@ -20,7 +20,7 @@ use std::{fmt, io};
 ///
 /// # Errors
 ///
-/// That of the writer.
+/// The error of the writer, if it fails.
 pub fn write_answers<W: Write>(out: &mut W, answered: &[Answered]) -> io::Result<()>
     ensures { OnOk result (Appends (W.contents out.old) (W.contents out.new)
         (flat_map answer_line answered.now)) }
@@ -31,11 +31,11 @@ pub fn write_answers<W: Write>(out: &mut W, answered: &[Answered]) -> io::Result
     Ok(())
 }
 
-/// Writes the line of a command, where it has an answer.
+/// Writes the line of a command, if it has an answer.
 ///
 /// # Errors
 ///
-/// That of the writer.
+/// The error of the writer, if it fails.
 pub fn write_answer<W: Write>(out: &mut W, done: Answered) -> io::Result<()>
     ensures { OnOk result (Appends (W.contents out.old) (W.contents out.new) (answer_line done)) }
 {
@@ -49,7 +49,7 @@ pub fn write_answer<W: Write>(out: &mut W, done: Answered) -> io::Result<()>
 ///
 /// # Errors
 ///
-/// That of the writer.
+/// The error of the writer, if it fails.
 pub fn write_indications<W: Write>(out: &mut W, station: u64, all: &[Indication]) -> io::Result<()>
     ensures { OnOk result (Appends (W.contents out.old) (W.contents out.new)
         (flat_map (indication_line station) all.now)) }
@@ -67,7 +67,7 @@ pub fn write_indications<W: Write>(out: &mut W, station: u64, all: &[Indication]
     Ok(())
 }
 
-/// What a station told its user.
+/// What a station indicated to its user.
 #[derive(Clone, Copy)]
 struct Told<'a> {
     station: u64,
@@ -129,7 +129,7 @@ impl fmt::Display for ToldWords<'_> {
     }
 }
 
-/// Of how many of its own transactions a station was told that its file was delivered.
+/// Returns for how many of its own transactions a station indicated that the file was delivered.
 pub fn own_completions(station: u64, told: &[Indication]) -> usize
     ensures { result ≡ count_by (is_own_completion station) told.now }
 {
@@ -138,8 +138,8 @@ pub fn own_completions(station: u64, told: &[Indication]) -> usize
         .count()
 }
 
-/// Whether a station is told by this that a transaction of its own is over with no error, with the
-/// file complete and retained.
+/// Returns `true` if a station indicates by this that a transaction of its own is over with no
+/// error, with the file complete and retained.
 fn completes_own(station: u64, told: &Indication) -> bool
     ensures { result ≡ is_own_completion station told.now }
 {

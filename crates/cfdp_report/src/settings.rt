@@ -4,7 +4,7 @@ ghost use Rattle.station_pair.specs.Stations.{IsWorldConfig};
 ghost use Rattle.cfdp_report.specs.Settings.{pair_of, world_of, station_of, entity_of, policy_of};
 ghost use Rattle.cfdp_report.specs.Settings.{limits_of, times_of, handlers_of, handler_of, link_of};
 ghost use Rattle.cfdp_report.specs.Settings.{FitFields, FitSending, FitPolicy, FitLimits, FitTimes};
-ghost use Rattle.cfdp_report.specs.Settings.{FitFrames, FitHandlers, fields_of};
+ghost use Rattle.cfdp_report.specs.Settings.{FitFrames, FitHandlers, fields_of, limit_of};
 
 pub mod table;
 
@@ -15,7 +15,7 @@ use cfdp_station::{FrameFields, LinkConfig, StationConfig};
 use station_pair::{Side, WorldConfig};
 use valid_config::{Config, Valid};
 
-/// The values that were set so far, in range or not: each that of the [`Setting`] of its name.
+/// The values that were set so far, in range or not: each the value of the [`Setting`] of its name.
 #[derive(Clone, Copy)]
 pub struct Settings {
     pub zone: u64,
@@ -38,6 +38,7 @@ pub struct Settings {
     pub on_ack_limit: u64,
     pub on_nak_limit: u64,
     pub on_inactivity: u64,
+    pub most_gaps: u64,
 }
 
 impl Settings {
@@ -65,6 +66,7 @@ impl Settings {
         on_ack_limit: TABLE[Setting::OnAckLimit as usize].default,
         on_nak_limit: TABLE[Setting::OnNakLimit as usize].default,
         on_inactivity: TABLE[Setting::OnInactivity as usize].default,
+        most_gaps: TABLE[Setting::MostGaps as usize].default,
     };
 
     /// Changes one value.
@@ -92,10 +94,11 @@ impl Settings {
             Setting::OnAckLimit => self.on_ack_limit = value,
             Setting::OnNakLimit => self.on_nak_limit = value,
             Setting::OnInactivity => self.on_inactivity = value,
+            Setting::MostGaps => self.most_gaps = value,
         }
     }
 
-    /// The value of a setting.
+    /// Returns the value of a setting.
     fn value(&self, setting: Setting) -> u64 {
         match setting {
             Setting::Zone => self.zone,
@@ -118,10 +121,11 @@ impl Settings {
             Setting::OnAckLimit => self.on_ack_limit,
             Setting::OnNakLimit => self.on_nak_limit,
             Setting::OnInactivity => self.on_inactivity,
+            Setting::MostGaps => self.most_gaps,
         }
     }
 
-    /// The first setting whose value is out of its range, with the value.
+    /// Returns the first setting whose value is out of its range, with the value.
     pub fn out_of_range(&self) -> Option<(Setting, u64)> {
         for row in &TABLE {
             let value = self.value(row.setting);
@@ -132,7 +136,7 @@ impl Settings {
         None
     }
 
-    /// The configuration of both stations with these values, where each fits its field and the
+    /// Returns the configuration of both stations with these values, if each fits its field and the
     /// whole is valid.
     pub fn config(&self) -> Option<Valid<WorldConfig>>
         ensures some { IsSome result ↔ (FitFields self.now × IsWorldConfig (world_of self.now)) }
@@ -145,8 +149,8 @@ impl Settings {
         config.validate().ok()
     }
 
-    /// The configurations of two stations with these ids and links, where each value fits its field
-    /// and the whole is valid. The first one sends over the first link.
+    /// Returns the configurations of two stations with these ids and links, if each value fits its
+    /// field and the whole is valid. The first one sends over the first link.
     pub fn pair(
         &self,
         first: u64,
@@ -173,7 +177,7 @@ impl Settings {
         config.validate().ok()
     }
 
-    /// The configuration of a station, where each value fits its field.
+    /// Returns the configuration of a station, if each value fits its field.
     fn station(&self, side: Side) -> Option<StationConfig>
         ensures some { IsSome result ↔ FitFields self.now }
         ensures same { IfSome result (λ config. config ≡ station_of self.now side) }
@@ -186,7 +190,7 @@ impl Settings {
         ))
     }
 
-    /// Which fields frames have, where each value fits.
+    /// Returns which fields frames have, if each value fits.
     fn fields(&self) -> Option<FrameFields>
         ensures some { IsSome result ↔ FitFrames self.now }
         ensures same { IfSome result (λ fields. fields ≡ fields_of self.now) }
@@ -198,8 +202,8 @@ impl Settings {
         })
     }
 
-    /// A station's entity. Its first number may be one that its octets can't have: then each put is
-    /// refused.
+    /// Returns a station's entity. Its first number may be one that its octets can't have: then
+    /// each put is refused.
     fn entity(&self, side: Side) -> Option<EntityConfig>
         ensures some { IsSome result ↔ (FitSending self.now × FitPolicy self.now) }
         ensures same { IfSome result (λ config. config ≡ entity_of self.now side) }
@@ -225,6 +229,7 @@ impl Settings {
             limits: self.limits()?,
             times: self.times()?,
             handlers: self.handlers()?,
+            most_gaps: limit(self.most_gaps),
         })
     }
 
@@ -270,7 +275,7 @@ fn octet(value: u64) -> Option<u8>
     u8::try_from(value).ok()
 }
 
-/// What 0 and 1 say.
+/// Returns what 0 and 1 say.
 fn flag(value: u64) -> Option<bool>
     ensures some { IsSome result ↔ (value < 2) }
     ensures same { IfSome result (λ flag. flag ≡ (value == 1)) }
@@ -296,7 +301,14 @@ fn handler(number: u64) -> Option<Handler>
     Handler::from_number(octet(number)?)
 }
 
-/// The frames that a station sends.
+/// Returns the limit that a number says: 0 says that there is none.
+fn limit(number: u64) -> Option<u64>
+    ensures { result ≡ limit_of number }
+{
+    if number == 0 { None } else { Some(number) }
+}
+
+/// Returns the frames that a station sends.
 fn link(side: Side, zone: u16, fields: FrameFields) -> LinkConfig
     ensures { result ≡ link_of side zone fields }
 {

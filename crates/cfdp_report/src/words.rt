@@ -8,8 +8,8 @@ ghost use Rattle.cfdp_report.specs.Words.{without_return};
 
 use crate::line_error::LineError;
 
-/// What stands before the first `separator`, and what stands behind it. All, and `None`, where
-/// there is none.
+/// Returns what stands before the first `separator`, and what stands after it. Returns all, and
+/// `None`, if there is no separator.
 pub fn cut_at_first(text: &[u8], separator: u8) -> (&[u8], Option<&[u8]>)
     ensures parts { MatchOption result.1 (result.0.now ≡ text.now)
         (λ behind. text.now ≡ result.0.now ++ separator ∷ behind.now) }
@@ -26,19 +26,19 @@ pub fn cut_at_first(text: &[u8], separator: u8) -> (&[u8], Option<&[u8]>)
 /// What is left to read of a line of words with one space between.
 #[derive(Clone, Copy)]
 pub struct Words<'a> {
-    // None behind the last word.
+    // `None` after the last word.
     rest: Option<&'a [u8]>,
 }
 
 impl<'a> Words<'a> {
-    /// The words of this line.
+    /// Returns the words of this line.
     pub fn of(line: &'a [u8]) -> Words<'a>
         ensures { left result ≡ words_of line.now }
     {
         Words { rest: Some(line) }
     }
 
-    /// Whether no word is left.
+    /// Returns `true` if no word is left.
     pub fn is_empty(&self) -> bool
         ensures { result ≡ is_some (nothing_of (left self.now)) }
     {
@@ -49,8 +49,8 @@ impl<'a> Words<'a> {
     ///
     /// # Errors
     ///
-    /// `MissingWord` behind the last one, `EmptyWord` where it has no octet: two spaces stand
-    /// together, or one begins or ends the line.
+    /// `MissingWord` after the last one, `EmptyWord` if it has no octet: two spaces stand together,
+    /// or one begins or ends the line.
     pub fn next_word(&mut self) -> Result<&'a [u8], LineError>
         ensures { option_map (λ word. (word.now, left self.new)) (result_ok result)
             ≡ next_word (left self.old) }
@@ -67,11 +67,12 @@ impl<'a> Words<'a> {
         }
     }
 
-    /// The only word that is left.
+    /// Returns the only word that is left.
     ///
     /// # Errors
     ///
-    /// `MissingWord`, `EmptyWord`, and `ExtraWord` where there are more.
+    /// `MissingWord` if there is none, `EmptyWord` if it has no octet, and `ExtraWord` if there are
+    /// more.
     pub fn one(mut self) -> Result<&'a [u8], LineError>
         ensures { option_map (λ word. word.now) (result_ok result) ≡ one_of (left self.entry) }
     {
@@ -80,11 +81,11 @@ impl<'a> Words<'a> {
         Ok(word)
     }
 
-    /// The only two words that are left.
+    /// Returns the only two words that are left.
     ///
     /// # Errors
     ///
-    /// As of `one`.
+    /// As for `one`, if there are fewer words or more.
     pub fn two(mut self) -> Result<(&'a [u8], &'a [u8]), LineError>
         ensures { option_map (λ words. (words.0.now, words.1.now)) (result_ok result)
             ≡ two_of (left self.entry) }
@@ -94,11 +95,11 @@ impl<'a> Words<'a> {
         Ok((first, second))
     }
 
-    /// The only three words that are left.
+    /// Returns the only three words that are left.
     ///
     /// # Errors
     ///
-    /// As of `one`.
+    /// As for `one`, if there are fewer words or more.
     pub fn three(mut self) -> Result<(&'a [u8], &'a [u8], &'a [u8]), LineError>
         ensures { option_map (λ words. (words.0.now, words.1.now, words.2.now)) (result_ok result)
             ≡ three_of (left self.entry) }
@@ -108,11 +109,11 @@ impl<'a> Words<'a> {
         Ok((first, second, third))
     }
 
-    /// The only four words that are left.
+    /// Returns the only four words that are left.
     ///
     /// # Errors
     ///
-    /// As of `one`.
+    /// As for `one`, if there are fewer words or more.
     pub fn four(mut self) -> Result<(&'a [u8], &'a [u8], &'a [u8], &'a [u8]), LineError>
         ensures { option_map (λ words. (words.0.now, words.1.now, words.2.now, words.3.now))
             (result_ok result) ≡ four_of (left self.entry) }
@@ -122,11 +123,11 @@ impl<'a> Words<'a> {
         Ok((first, second, third, fourth))
     }
 
-    /// The rest of the line as it stands, spaces and all.
+    /// Returns the rest of the line as it stands, spaces and all.
     ///
     /// # Errors
     ///
-    /// `MissingWord` where nothing is left.
+    /// `MissingWord` if nothing is left.
     pub fn into_text(self) -> Result<&'a [u8], LineError>
         ensures { option_map (λ text. text.now) (result_ok result) ≡ text_of (left self.entry) }
     {
@@ -143,7 +144,7 @@ impl<'a> Words<'a> {
     ///
     /// # Errors
     ///
-    /// `ExtraWord` where something is, and `EmptyWord` where that is a word without an octet.
+    /// `ExtraWord` if something is, and `EmptyWord` if that is a word without an octet.
     pub fn end(self) -> Result<(), LineError>
         ensures { result_ok result ≡ nothing_of (left self.entry) }
     {
@@ -154,7 +155,7 @@ impl<'a> Words<'a> {
     }
 }
 
-/// What is wrong with a word that is too many.
+/// Returns what is wrong with a word that is too many.
 fn extra_word(rest: &[u8]) -> LineError {
     if rest.is_empty() || rest[0] == b' ' {
         LineError::EmptyWord
@@ -163,7 +164,7 @@ fn extra_word(rest: &[u8]) -> LineError {
     }
 }
 
-/// A line without the carriage return that ends it, if one does.
+/// Returns a line without the carriage return that ends it, if one does.
 pub fn without_return(line: &[u8]) -> &[u8]
     ensures { result.now ≡ without_return line.now }
 {

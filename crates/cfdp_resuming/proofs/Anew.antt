@@ -1,4 +1,4 @@
--- What is read in ranges, one behind the other, is what is staged there, each octet once.
+-- What is read in ranges, one after the other, is what is staged there, each octet once.
 use Rattle.std.proofs.Common.{◌≡◌, ℕ, zero, suc, ◌+◌, ◌-◌, ◌<◌, ◌≤◌, Bool, true, false, ◌&&◌, ◌||◌, nat_le, nat_lt, List, [], ◌∷◌, ◌++◌, length, Option, Some, None, IsSome, refl, sym, ap, ap₂, subst, ◌∙◌, arith, if◌then◌else◌}
 use Rattle.std.specs.Prelude.{count_by, slice_get, unwrap_or}
 use Rattle.std.specs.List.{AllByRecursion}

@@ -17,9 +17,12 @@ use Rattle.cfdp_receiver.specs.declared.state.FileInfo.{FileInfo}
 use Rattle.cfdp_receiver.specs.declared.state.ReceiverPhase.{ReceiverPhase}
 use Rattle.cfdp_receiver.specs.declared.state.ReceiverPhase.TheVariants as receiving
 use Rattle.cfdp_receiver.specs.Missing.{missing_pairs, is_empty, cursor_by, tidied}
-use Rattle.cfdp_receiver.specs.State.{ReceiverState, kind_told, is_receiving}
+use Rattle.cfdp_receiver.specs.State.{ReceiverState, kind_told, is_finishing, is_receiving}
 use Rattle.cfdp_receiver.specs.Sound.{asks_from, is_whole, is_lacking, is_tidy, goes_well, owes_finished}
-use Rattle.cfdp_resuming.specs.Back.{asks_anew, received_in, sent_in}
+use Rattle.cfdp_receiver.specs.Back as back
+use Rattle.cfdp_receiver.specs.Back.{asks_anew, received_in}
+use Rattle.cfdp_sender.specs.Back as sending_back
+use Rattle.cfdp_sender.specs.Back.{sent_in}
 use Rattle.cfdp_resuming.specs.Receiver.{IsKeptOf, IsRestoredReceiver, SumsStaged}
 use Rattle.cfdp_resuming.specs.Sender.{IsRestoredSender}
 
@@ -27,12 +30,12 @@ use Rattle.cfdp_resuming.specs.Sender.{IsRestoredSender}
 abbrev pub IsPartOf : Offsets → Offsets → Type 0
 IsPartOf held all = (k : ℕ) → set.contains held k ≡ true → set.contains all k ≡ true
 
-no-such : (p : ReceiverPhase) → is_receiving p ≡ false → p ≡ receiving.Receiving → ⊥
+pub no-such : (p : ReceiverPhase) → is_receiving p ≡ false → p ≡ receiving.Receiving → ⊥
 no-such p over is = false≢true (sym over ∙ ap is_receiving is)
 
 module _ (r : ReceiverState) (m : OctetMap) (held : Offsets) (sums : Checksums) (n : OctetMap) (part : IsPartOf held r.held)
     (there : (k : ℕ) → set.contains held k ≡ true → map.get n k ≡ map.get m k) (summed : SumsStaged (kind_told r.metadata) held n sums) where
-  pub back-restored : (p : ReceiverPhase) → r.phase ≡ p → IsRestoredReceiver r m (received_in p held sums r) n
+  pub back-restored : (p : ReceiverPhase) → r.phase ≡ p → IsRestoredReceiver r m (received_in p held sums (back.committed_of r)) n
   back-restored receiving.Receiving is = record {
     addressing = refl;
     metadata = inr refl;
@@ -58,7 +61,7 @@ module _ (r : ReceiverState) (m : OctetMap) (held : Offsets) (sums : Checksums) 
 -- the same, as one of what it has come to
 pub back-as : (r s : ReceiverState) (m n : OctetMap) (held : Offsets) (sums : Checksums) → s.addressing ≡ r.addressing → IsKeptOf s.metadata r.metadata → IsKeptOf s.ending r.ending
     → ((k : ℕ) → set.contains held k ≡ true → (s.phase ≡ receiving.Receiving) × (set.contains s.held k ≡ true) × (map.get n k ≡ map.get m k)) → SumsStaged (kind_told r.metadata) held n sums
-    → (p : ReceiverPhase) → r.phase ≡ p → IsRestoredReceiver s m (received_in p held sums r) n
+    → (p : ReceiverPhase) → r.phase ≡ p → IsRestoredReceiver s m (received_in p held sums (back.committed_of r)) n
 back-as r s m n held sums same named ended there summed receiving.Receiving is = record {
   addressing = sym same;
   metadata = named;
@@ -100,7 +103,7 @@ over-so : (a b : Bool) → a ≡ false → (not a || b) ≡ true
 over-so true b h = absurd (false≢true (sym h))
 over-so false b h = refl
 
-pub back-lacking : (held : Offsets) (sums : Checksums) (r : ReceiverState) → IsPartOf held r.held → is_lacking r ≡ true → (p : ReceiverPhase) → r.phase ≡ p → is_lacking (received_in p held sums r) ≡ true
+pub back-lacking : (held : Offsets) (sums : Checksums) (r : ReceiverState) → IsPartOf held r.held → is_lacking r ≡ true → (p : ReceiverPhase) → r.phase ≡ p → is_lacking (received_in p held sums (back.committed_of r)) ≡ true
 back-lacking held sums r part lacking receiving.Receiving is =
     let some : not (is_whole r.metadata r.ending r.held) ≡ true = or-none (not (is_receiving r.phase)) (not (is_whole r.metadata r.ending r.held)) (ap (λ q. not (is_receiving q)) is) lacking in
     let none : not (is_whole r.metadata r.ending held) ≡ true = not-more (is_whole r.metadata r.ending r.held) (is_whole r.metadata r.ending held) (whole-less held r.held part r.metadata r.ending) some in
@@ -124,14 +127,14 @@ like : (o : Option ℕ) (r s : ReceiverState) → ((from : ℕ) → missing_pair
 like None r s same h = refl
 like (Some from) r s same h = ap (λ l. not (is_empty l)) (same from) ∙ h
 
-pub back-tidy : (held : Offsets) (sums : Checksums) (r : ReceiverState) (p : ReceiverPhase) → is_tidy (received_in p held sums r) ≡ true
+pub back-tidy : (held : Offsets) (sums : Checksums) (r : ReceiverState) (p : ReceiverPhase) → is_tidy (received_in p held sums (back.committed_of r)) ≡ true
 back-tidy held sums r receiving.Receiving =
-    let t : ReceiverState = record r { held = held; sums = sums; ack_due = None; nak_cursor = asks_anew r.ending; keep_alive_due = false; nak_count = 0; finished_count = 0 } in
+    let t : ReceiverState = record (back.committed (back.committed_of r)) { held = held; sums = sums; nak_cursor = asks_anew r.ending } in
     like (cursor_by t.nak_cursor t) t (tidied t) (λ from. refl) (tidy-of t.nak_cursor t)
 back-tidy held sums r receiving.Finishing = refl
 back-tidy held sums r receiving.Closed = refl
 
-pub back-well : (held : Offsets) (sums : Checksums) (r : ReceiverState) (p : ReceiverPhase) → goes_well r ≡ true → goes_well (received_in p held sums r) ≡ true
+pub back-well : (held : Offsets) (sums : Checksums) (r : ReceiverState) (p : ReceiverPhase) → goes_well r ≡ true → goes_well (received_in p held sums (back.committed_of r)) ≡ true
 back-well held sums r receiving.Receiving h = h
 back-well held sums r receiving.Finishing h = h
 back-well held sums r receiving.Closed h = h
@@ -141,14 +144,14 @@ second true b c h = refl
 second false true c h = h
 second false false c h = absurd (false≢true h)
 
-pub back-owes : (held : Offsets) (sums : Checksums) (r : ReceiverState) (p : ReceiverPhase) → owes_finished r ≡ true → owes_finished (received_in p held sums r) ≡ true
-back-owes held sums r receiving.Receiving h = h
-back-owes held sums r receiving.Finishing h = second _ (r.finished_due || r.finished_taken) (is_some r.outcome) h
-back-owes held sums r receiving.Closed h = h
+pub back-owes : (held : Offsets) (sums : Checksums) (r : ReceiverState) → owes_finished r ≡ true → (p : ReceiverPhase) → r.phase ≡ p → owes_finished (received_in p held sums (back.committed_of r)) ≡ true
+back-owes held sums r h receiving.Receiving is = over-so (is_finishing r.phase) _ (ap is_finishing is)
+back-owes held sums r h receiving.Finishing is = second _ (r.finished_due || r.finished_taken) (is_some r.outcome) h
+back-owes held sums r h receiving.Closed is = over-so (is_finishing r.phase) _ (ap is_finishing is)
 
 -- ---- a sender
 pub sender-back : (file : List ℕ) (sent : ℕ) (sums : Checksums) (x : SenderState) → sent ≤ x.size → sums ≡ front_sums x.checksum_kind (take sent file) → IsCause x.phase x.condition → (p : SenderPhase) → x.phase ≡ p
-    → IsRestoredSender file x (sent_in p sent sums x)
+    → IsRestoredSender file x (sent_in p sent sums (sending_back.committed_of x))
 sender-back file sent sums x low front cause sending.Sending is =
     record { transfer = refl; sent = low; front = front; asked = λ n has. absurd (false≢true (sym (set.contains-empty nat_cmp n) ∙ has)); cause = cause }
 sender-back file sent sums x low front cause sending.Cancelling is =

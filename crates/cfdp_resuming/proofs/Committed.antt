@@ -11,7 +11,7 @@ use Rattle.cfdp_entity.specs.Entity.{EntityState}
 use Rattle.cfdp_entity.specs.History.{Leads}
 use Rattle.cfdp_entity.specs.Seen.{Seen, Sends, Receives}
 use Rattle.cfdp_entity.specs.Table.{Entry, TableState}
-use Rattle.cfdp_resuming.specs.Back.{sent_back}
+use Rattle.cfdp_sender.specs.Back.{sent_back}
 use Rattle.cfdp_resuming.specs.Committed.{ComesAsEver, ComesBackAs, IsBack}
 use Rattle.cfdp_resuming.specs.Entity.{AreSomeOf, ComesBack, IsRestored, IsResumed}
 use Rattle.cfdp_resuming.specs.Later.{AreLater, IsLaterSeen}
@@ -19,7 +19,7 @@ use Rattle.cfdp_resuming.specs.Sender.{IsRestoredSender}
 use Rattle.cfdp_resuming.proofs.Back.{sender-back}
 use Rattle.cfdp_resuming.proofs.Later.{back-later}
 
--- ---- what was told
+-- ---- what was indicated
 some-none : {A : Type 0} (ys : List A) → AreSomeOf ys []
 some-none [] = refl
 some-none (y ∷ ys) = inl (some-none ys)

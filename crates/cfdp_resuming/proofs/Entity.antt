@@ -59,7 +59,7 @@ in-all (x ∷ all) some y (inr (rest, is, more)) c = elim (one-or-rest x y rest 
   | inr there ↦ behind x y all (in-all all rest y more there)
 ]
 
--- ---- what may still be told finished
+-- ---- what may still be indicated finished
 most-sending : (p : SenderPhase) → sender_open_count p ≤ 1
 most-sending sending.Sending = omega arith
 most-sending sending.Cancelling = omega arith

@@ -20,7 +20,7 @@ use Rattle.cfdp_resuming.specs.Committed.{ComesBackAs}
 use Rattle.cfdp_resuming.specs.Entity.{AreSomeOf, IsRestored, IsResumed}
 use Rattle.cfdp_resuming.specs.Receiver.{SumsStaged}
 
-some-all : {A : Type 0} (xs : List A) → AreSomeOf xs xs
+pub some-all : {A : Type 0} (xs : List A) → AreSomeOf xs xs
 some-all [] = refl
 some-all (x ∷ xs) = inr (xs, refl, some-all xs)
 

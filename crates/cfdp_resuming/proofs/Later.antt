@@ -32,7 +32,7 @@ use Rattle.cfdp_receiver.specs.Pieces.{new_pieces, staged_with}
 use Rattle.cfdp_receiver.specs.State.{ReceiverState, kind_told, is_receiving, is_finishing, flagged}
 use Rattle.cfdp_receiver.specs.Steps.{ReceiverAfter, leaving, agrees, published_by, completed_by, completed, is_supported, receives_metadata, exceeds, with_data, receives_new, receives_data, contradicts, first_eof, receives_eof, takes, waits, handled, asking_again, nak_expires, finished_expires, expires_by, faulted, telling, prompted_for, acknowledged_by, closed}
 use Rattle.cfdp_receiver.specs.Sound.{ReceiverInput, Hears, Takes, Expires, Cancels, Suspends, Resumes, receiver_step, hears_content, held_after, open_count}
-use Rattle.cfdp_resuming.specs.Back.{received_back}
+use Rattle.cfdp_receiver.specs.Back.{received_back}
 use Rattle.cfdp_resuming.specs.Later.{IsLater}
 use Rattle.cfdp_resuming.specs.Receiver.{IsKeptOf, IsRestoredReceiver, SumsStaged}
 use Rattle.cfdp_resuming.proofs.Back.{back-as}

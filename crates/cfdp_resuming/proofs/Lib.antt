@@ -7,3 +7,4 @@ mod Later
 mod Tables
 mod Committed
 mod Itself
+mod OneByOne

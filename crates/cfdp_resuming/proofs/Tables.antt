@@ -122,7 +122,7 @@ module _ (laws : StepLaws) where
     takes-so stored sources (Sends x) = sends-so stored (octets_in sources x.source) x (sender_due x)
     takes-so stored sources (Receives r m) = answers-so r m (receiver_due r)
 
-    -- where there was no memory
+    -- if there was no memory
     same-so : (s t : Seen) → t ≡ s → IsLaterSeen s t
     same-so s t is = subst (λ u. IsLaterSeen s u) (sym is) (later-itself s)
 

@@ -4,7 +4,7 @@ use Rattle.cfdp_directives.specs.Pdu.Checksum.{Piece}
 use Rattle.cfdp_extents.specs.Offsets.{Offsets, union_of}
 use Rattle.cfdp_store.specs.Staged.{OctetMap, front_from}
 
--- Ranges, one after another, from an offset on; each has at least one offset.
+-- Ranges, one after another, from an offset on; each must have at least one offset.
 abbrev pub AreInOrder : ℕ → List (ℕ × ℕ) → Type 0
 AreInOrder from [] = Unit {0}
 AreInOrder from (r ∷ rs) = (from ≤ r.0) × (r.0 < r.1) × AreInOrder r.1 rs

@@ -24,7 +24,8 @@ use Rattle.cfdp_entity.specs.Sound.{GoesOn}
 use Rattle.cfdp_entity.specs.Table.{Entry, record_of}
 use Rattle.cfdp_entity.specs.Telling.{WasIndicated}
 use Rattle.cfdp_entity.specs.Timed.{AreTimed}
-use Rattle.cfdp_resuming.specs.Back.{received_back, sent_back}
+use Rattle.cfdp_receiver.specs.Back.{received_back}
+use Rattle.cfdp_sender.specs.Back.{sent_back}
 use Rattle.cfdp_resuming.specs.Later.{IsLaterSeen}
 use Rattle.cfdp_resuming.specs.Receiver.{SumsStaged}
 

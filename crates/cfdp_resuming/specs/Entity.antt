@@ -30,7 +30,7 @@ IsRestored sources (Sends x) (Sends s) = IsRestoredSender (octets_in sources x.s
 IsRestored sources (Receives r m) (Receives s n) = IsRestoredReceiver r m s n
 IsRestored sources _ _ = ⊥
 
--- A record that is restored: its transaction had one when the station was killed.
+-- A record that is restored: its transaction must have had one when the station was killed.
 pub record ComesBack (sources : FileMap) (records : List Entry) (e : Entry) : Type 0 where
   pub place : ℕ
   pub before : Seen
@@ -39,7 +39,7 @@ pub record ComesBack (sources : FileMap) (records : List Entry) (e : Entry) : Ty
 
 -- An entity was `old` when its station was killed, and resumes as `new`. It is the same entity with
 -- the same peer, files to send and inbox; other settings may change. Each of its records is
--- restored. No two records are of one transaction, and none is of a forgotten one; a record may be
+-- restored. No two records may be of one transaction, and none of a forgotten one; a record may be
 -- missing. The list of indications, which only proofs see, may lose some: but no completion of a
 -- file that it received, and not the end of a receiver that is restored with its outcome. No
 -- transaction that may still be indicated finished was indicated so before. The timers that are

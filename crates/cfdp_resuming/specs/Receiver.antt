@@ -1,33 +1,11 @@
 -- A receiver after a restart, and what it was when its station was killed.
-use Rattle.std.specs.Prelude.{◌≡◌, ◌⊎◌, ◌+◌, ◌<◌, ℕ, true, List, Option, None, length, slice_get, count_by, if◌then◌else◌}
-use Rattle.std.specs.List.{AllByRecursion}
+use Rattle.std.specs.Prelude.{◌≡◌, ◌⊎◌, ℕ, true, Option, None}
 use Rattle.std.specs.FinMap as map
 use Rattle.std.specs.FinSet as set
-use Rattle.cfdp_directives.specs.declared.pdu.sums.Checksums.{Checksums}
-use Rattle.cfdp_directives.specs.Pdu.Checksum.{Piece, covers}
-use Rattle.cfdp_directives.specs.Pdu.Sums.{AreSumsOf}
-use Rattle.cfdp_extents.specs.Offsets.{Offsets}
 use Rattle.cfdp_store.specs.Staged.{OctetMap}
 use Rattle.cfdp_receiver.specs.declared.state.ReceiverPhase.TheVariants.{Receiving}
 use Rattle.cfdp_receiver.specs.State.{ReceiverState, kind_told}
-
--- A piece has at least one octet, and each of its octets is the one that is staged at its offset.
-pub record IsStagedIn (m : OctetMap) (p : Piece) : Type 0 where
-  pub some : 0 < length p.bytes
-  pub same : (k : ℕ) → k < length p.bytes → map.get m (p.offset + k) ≡ slice_get p.bytes k
-
--- The pieces are what is staged at these offsets, each octet once.
-pub record CutsStaged (held : Offsets) (m : OctetMap) (pieces : List Piece) : Type 0 where
-  pub parts : AllByRecursion (IsStagedIn m) pieces
-  pub once : (n : ℕ) → count_by (covers n) pieces ≡ (if set.contains held n then 1 else 0)
-
--- The sums are those of the octets that are staged at these offsets: for the checksum type that is
--- wanted, or for all types.
-pub record SumsStaged (wanted : Option ℕ) (held : Offsets) (m : OctetMap) (sums : Checksums)
-    : Type 0 where
-  pub pieces : List Piece
-  pub cut : CutsStaged held m pieces
-  pub are : AreSumsOf wanted pieces sums
+pub use Rattle.cfdp_receiver.specs.Summed.{IsStagedIn, CutsStaged, SumsStaged}
 
 -- It is what was known, or it isn't known any more.
 abbrev pub IsKeptOf : {A : Type 0} → (old new : Option A) → Type 0

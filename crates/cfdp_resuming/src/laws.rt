@@ -1,11 +1,12 @@
 //! The laws, each the contract of a function without a body.
 ghost use Rattle.std.specs.Prelude.{◌≡◌, ◌≤◌, ℕ, true, length, take, slice_get, List};
-ghost use Rattle.std.specs.Prelude.{Option, Some, None, IsSome};
+ghost use Rattle.std.specs.Prelude.{Option, Some, None, IsSome, IsTrue, [], ◌∷◌, ◌++◌};
 ghost use Rattle.std.specs.FinMap as map;
 ghost use Rattle.std.specs.FinSet as set;
 ghost use Rattle.cfdp_header.specs.declared.value.TransactionId.{TransactionId};
 ghost use Rattle.cfdp_header.specs.Files.{FileMap};
 ghost use Rattle.cfdp_directives.specs.User.Put.{Put};
+ghost use Rattle.cfdp_directives.specs.declared.user.indication.Indication.{Indication};
 ghost use Rattle.cfdp_directives.specs.Pdu.Sums.{all_summed, nothing_summed};
 ghost use Rattle.cfdp_extents.specs.Offsets.{Offsets};
 ghost use Rattle.cfdp_store.specs.Staged.{OctetMap};
@@ -16,10 +17,13 @@ ghost use Rattle.cfdp_sender.specs.InFile.{IsInFile};
 ghost use Rattle.cfdp_directives.specs.declared.pdu.addressing.Addressing.{Addressing};
 ghost use Rattle.cfdp_receiver.specs.State.{ReceiverState, kind_told, opened_receiver};
 ghost use Rattle.cfdp_receiver.specs.Sound.{Sound, is_lacking, is_tidy, goes_well, owes_finished};
-ghost use Rattle.cfdp_resuming.specs.Back.{received_back, sent_back};
+ghost use Rattle.cfdp_receiver.specs.Back.{received_back};
+ghost use Rattle.cfdp_sender.specs.Back.{committed_of, sent_back};
 ghost use Rattle.cfdp_resuming.specs.Later.{AreLater, IsLater, IsLaterSeen};
 ghost use Rattle.cfdp_resuming.specs.Committed.{ComesAsEver, ComesBackAs, IsBack};
-ghost use Rattle.cfdp_entity.specs.Seen.{Seen, Receives};
+ghost use Rattle.cfdp_entity.specs.Exchanging.{with_told};
+ghost use Rattle.cfdp_entity.specs.Restoring.{RestoresSender};
+ghost use Rattle.cfdp_entity.specs.Seen.{Seen, Receives, Sends};
 ghost use Rattle.cfdp_entity.specs.History.{Leads};
 ghost use Rattle.cfdp_entity.specs.Table.{Entry, TableState};
 ghost use Rattle.cfdp_receiver.specs.Sound.{ReceiverInput, receiver_step};
@@ -30,6 +34,7 @@ ghost use Rattle.cfdp_entity.specs.Sound.{IsSound};
 ghost use Rattle.cfdp_resuming.specs.Sender.{IsRestoredSender};
 ghost use Rattle.cfdp_resuming.specs.Receiver.{IsRestoredReceiver, SumsStaged};
 ghost use Rattle.cfdp_resuming.specs.Anew.{AreReadOf, all_read};
+ghost use Rattle.cfdp_resuming.specs.OneByOne.{AreStagedAgain, BeginsAs, IsLeftOf, RestoresEach};
 ghost use Rattle.cfdp_resuming.specs.Entity.{ComesBack, IsResumed, IsRestored};
 
 use cfdp_directives::cut_file_has_its_checksum;
@@ -37,8 +42,8 @@ use cfdp_extents::a_set_is_what_it_holds;
 use cfdp_receiver::{a_transaction_is_finished_once, what_comes_is_kept};
 use cfdp_sender::a_sender_keeps_what_it_sends;
 
-/// Whoever reads what is held of a file, range by range in order, or in shorter pieces, has its
-/// sums.
+/// If the held octets of a file are read, range by range in order, or in shorter pieces, that gives
+/// the sums of the file.
 pub fn what_is_read_anew_is_summed()
     ensures { (wanted : Option ℕ) (held : Offsets) (ranges : List (ℕ × ℕ)) (m : OctetMap) →
         AreReadOf held ranges
@@ -63,8 +68,8 @@ pub fn a_restored_sender_sends_its_put()
 
 /// A receiver that is restored with some of what it held is restored in the sense of
 /// `IsRestoredReceiver`, and so is a sender. What recovery asks of a receiver stays true: it lacks
-/// something while it receives, a NAK that is due asks for something, and it owes a Finished if it
-/// ended well.
+/// something while it receives, a NAK that is due asks for something, and it must send a Finished
+/// if it ended well.
 pub fn what_comes_back_is_true()
     ensures restored { (r : ReceiverState) (m : OctetMap) (held : Offsets) (sums : Checksums)
         (n : OctetMap) →
@@ -133,9 +138,39 @@ pub fn a_committed_entity_resumes()
     records_come_to_something_later();
 }
 
+/// If an entity restores a sender from what was committed of it, it has one record more, after the
+/// others. If the files of the outbox stand, this record is restored from what was committed,
+/// whatever the sender was when the station was killed.
+pub fn a_restored_sender_was_committed()
+    ensures { (x y : SenderState) (sent : ℕ) (old new : EntityState) →
+        RestoresSender (committed_of x) sent old new → IsTrue new.table.stands →
+        (s : Seen) × ((new.table.records ≡ old.table.records ++ (x.addressing.id, s) ∷ [])
+        × IsBack new.table.sources (Sends x) (Sends y) s) }
+{}
+
+/// An entity resumes if the records of the killed one are restored on it in their order, as
+/// `restore_sender` and `restore_receiver` do: after some front of each file, and with some of what
+/// was held. Records may be left out if their transactions are forgotten. The files of the outbox
+/// must stand while they are read, and what is held must be staged as it was before the kill. If
+/// nothing is held, that is so.
+///
+/// What the killed entity indicated must stay, as far as `IsLeftOf` says. Of a sound entity
+/// everything that it indicated is enough.
+pub fn an_entity_whose_records_are_restored_resumes()
+    ensures resumes { (put_of : TransactionId → Option Put) (heard : List (List ℕ))
+        (first : FileMap) (old begun mid : EntityState) (told : List Indication) (gone : ℕ) →
+        IsSound put_of heard first old → BeginsAs old begun →
+        RestoresEach old.table.records begun mid → IsTrue mid.table.stands →
+        AreStagedAgain old.table.records mid.table.records → IsLeftOf old told →
+        IsResumed old (with_told told gone mid) }
+    ensures told { (put_of : TransactionId → Option Put) (heard : List (List ℕ))
+        (first : FileMap) (old : EntityState) → IsSound put_of heard first old →
+        IsLeftOf old old.table.told }
+{}
+
 /// What `IsResumed` asks can be met: a sound entity resumes as it was if, for each receiver that
-/// receives, the sums are those of the octets that are staged (`SumsStaged`). For a receiver that
-/// was just opened they are.
+/// receives, the sums are those of the octets that are staged (`SumsStaged`). If a receiver
+/// was just opened, they are.
 pub fn an_entity_may_resume_as_it_was()
     ensures entity { (put_of : TransactionId → Option Put) (heard : List (List ℕ))
         (first : FileMap) (e : EntityState) → IsSound put_of heard first e

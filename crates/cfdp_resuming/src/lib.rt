@@ -10,6 +10,7 @@ mod laws;
 pub use laws::{
     a_committed_entity_resumes, a_committed_receiver_comes_back,
     a_restored_receiver_knows_the_truth, a_restored_sender_sends_its_put,
-    a_resumed_entity_is_sound, an_entity_may_resume_as_it_was, records_come_to_something_later,
+    a_restored_sender_was_committed, a_resumed_entity_is_sound, an_entity_may_resume_as_it_was,
+    an_entity_whose_records_are_restored_resumes, records_come_to_something_later,
     what_comes_back_is_true, what_is_read_anew_is_summed,
 };

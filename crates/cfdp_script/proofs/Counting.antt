@@ -135,11 +135,11 @@ in-without id (x ∷ xs) y c other = cond_both (same_id id x) xs (x ∷ without 
       | inr c2 ↦ contains-behind x (without id xs) y (in-without id xs y c2 other)
     ])
 
--- ---- completions told to a sender
+-- ---- completions indicated to a sender
 abbrev told_of : TransactionId → Indication
 told_of id = Finished id no_error Complete Retained
 
--- An indication that counts says so of a transaction of this entity.
+-- An indication that counts reports a transaction of this entity.
 record IsOwn (own : ℕ) (i : Indication) : Type 0 where
   id : TransactionId
   is : i ≡ told_of id
@@ -226,7 +226,7 @@ module _ (own : ℕ) (i : Indication) (told : List Indication) (ids : List Trans
       ]))
       (λ id t. found id (t.0, contains-behind i told (told_of id) t.1))
 
--- As many are told as there are transactions of which it is told.
+-- As many are indicated as there are transactions that are indicated.
 pub counts : (own : ℕ) (told : List Indication) → IsCounted own told
 counts own [] [] once distinct tells found = refl
 counts own [] (x ∷ ids) once distinct tells found = absurd (contains-none (told_of x) (tells x (contains-here x x ids refl)).1)

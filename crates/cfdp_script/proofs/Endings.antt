@@ -30,7 +30,7 @@ use Rattle.cfdp_report.specs.declared.exit.Exit.TheVariants.{Complete, Incomplet
 use Rattle.cfdp_report.specs.declared.exit.Fault.{Fault}
 use Rattle.cfdp_report.specs.declared.exit.Fault.TheVariants.{Unreadable, TooLong, Unwritable, NoMemoryAtStart, NoMemory}
 
--- ---- a text that is known where what the reader has is known
+-- ---- a text that is known if what the reader has is known
 pub known_text : (remaining : Option (List ℕ)) (text : List ℕ) (P : List ℕ → Type 0) → IfSome remaining (λ all. text ≡ all) → P text → IfSome remaining P
 known_text None text P same p = tt
 known_text (Some all) text P same p = subst P same p
@@ -39,7 +39,7 @@ pub any_text : (remaining : Option (List ℕ)) (P : List ℕ → Type 0) → ((t
 any_text None P p = tt
 any_text (Some all) P p = p all
 
--- ---- where reading failed
+-- ---- when reading failed
 pub reading_ends : (fault : Fault) (left old new : Option (List ℕ)) → EndsReading fault left → IfSome left (λ text. EndsScript (Device fault) text old new)
 reading_ends (Unreadable kind) left old new of = any_text left (λ text. EndsScript (Device (Unreadable kind)) text old new) (λ text. tt)
 reading_ends TooLong None old new of = tt
@@ -75,7 +75,7 @@ noted_of_text text wrong last s first w l e is =
     subst (λ x. scripts.IsFirst x (scripts.last_set text) (settings_of text) first) w
     (subst (λ x. scripts.IsFirst wrong x (settings_of text) first) l (subst (λ x. scripts.IsFirst wrong last x first) e is))
 
--- ---- where the commands ran
+-- ---- when the commands ran
 -- what is promised of all that any calls make of a first world
 pub record Promises (config : WorldConfig) : Type 0 where
   pub keeps : (outboxes inboxes : FileMap × FileMap) (first now : WorldState)
@@ -92,7 +92,7 @@ module _ (text : List ℕ) (old new : Option (List ℕ)) (law : Promises (world_
       → (ran : RunsAll (steps_of text) first) → KeepsPromises (empty, empty) ran.last
   kept_to_end first starts ran = law.keeps _ _ first ran.last starts (runs_lead (steps_of text) ran.answered first ran.last ran.runs)
 
-  -- where all went well, as many puts are completed as were asked for
+  -- if all went well, as many puts are completed as were asked for
   completed_to_end : (first : WorldState)
       → IsFirst (world_of (settings_of text)) (outbox_of One (files_of text), outbox_of Two (files_of text)) (empty, empty) first
       → (ran : RunsAll (steps_of text) first) → IsSettled ran.last → IsClean ran.last → AreAccepted (steps_of text) ran.answered

@@ -33,7 +33,7 @@ or-some : (w : Option ℕ) (n : ℕ) (x : Option ℕ) → option_or (option_or w
 or-some None n x = refl
 or-some (Some m) n x = refl
 
--- ---- behind a command
+-- ---- after a command
 
 before-late : {A : Type 0} (steps : List Step) (first : Step) (more : List Step) (a b : A) → steps ≡ first ∷ more → before steps a b ≡ b
 before-late steps first more a b some = rw some refl

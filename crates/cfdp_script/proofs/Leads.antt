@@ -33,7 +33,7 @@ one_call a b h = many-one Called a b h
 one_event : (e : Event) (d : Applied) (a b : WorldState) → Steps e d a b → Led a b
 one_event e d a b step = one_call a b (inl (inl (e, d, step)))
 
--- what came for want of memory came
+-- what came about when memory ran out came about
 pub for_memory : (error : RecoverError) (P : Type 0) → ForMemory error P → P
 for_memory (Settle NoMemory) P so = so
 for_memory (Settle StoreFailed) P so = absurd so
@@ -55,7 +55,7 @@ often_leads : (e : Event) (count : ℕ) (answer : Option Answer) (a b : WorldSta
 often_leads e count None a b all = so_often e count a b all
 often_leads e count (Some answer) a b h = many-both Called a h.2 b (so_often e h.0 a h.2 h.3) (once_leads e (Some h.4) h.2 b h.6)
 
--- what befalls the frame sent first
+-- what happens to the frame sent first
 first_leads : (fate : Fate) (s : Side) (answer : Option Answer) (a b : WorldState) → HappensToFirst fate s answer a b → Led a b
 first_leads fate s answer a b h = once_leads (befalls fate s h.0) answer a b h.2
 

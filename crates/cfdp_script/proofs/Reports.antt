@@ -13,7 +13,7 @@ use Rattle.std.specs.Io.KnownBytes.{Appends}
 use Rattle.std.proofs.KnownBytes.{Appends-trans}
 
 -- ---- what is written so far, and what is left to write
--- With this text behind it, what was written so far is all.
+-- With this text after it, what was written so far is all.
 pub record IsPart (old now : Option (List ℕ)) (left all : List ℕ) : Type 0 where
   pub front : List ℕ
   pub written : Appends old now front

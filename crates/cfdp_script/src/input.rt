@@ -9,11 +9,11 @@ use std::io::Read;
 /// The longest script that is read, in octets.
 pub const MAX_SCRIPT: usize = 1_048_576;
 
-/// All that the reader gives, to its end, as a script: `read_up_to` `MAX_SCRIPT` octets.
+/// Reads all that the reader gives, to its end, as a script of at most `MAX_SCRIPT` octets.
 ///
 /// # Errors
 ///
-/// As of `read_up_to`.
+/// The `Fault` of `read_up_to`, if the script can't be read or is too long.
 pub fn read_script<R: Read + Drop>(alloc: Global, reader: R) -> Result<Vec<u8>, Fault>
     ensures short { IfOk result (λ script. vec_len script ≤ MAX_SCRIPT) }
     ensures whole { IfOk result (λ script. IfSome (R.remaining reader) (λ all. script.items

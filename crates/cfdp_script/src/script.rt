@@ -33,7 +33,7 @@ pub struct Script {
     settings: Settings,
     last_set: usize,
     // The line of the last `set` of each setting, in the order of `Setting`; 0 without one.
-    set_lines: [usize; 20],
+    set_lines: [usize; 21],
     first_bad: Option<BadLine>,
 }
 
@@ -49,7 +49,7 @@ impl Script {
     ///
     /// # Errors
     ///
-    /// `AllocError` where there is no memory. `config` tells whether a line is bad.
+    /// `AllocError` if there is no memory. `config` says whether a line is bad.
     pub fn parse(alloc: Global, text: &[u8]) -> Result<Script, AllocError>
         requires { length text.now ≤ MAX_SCRIPT }
         ensures files { IfOk result (λ script. script.files.items ≡ files_of text.now) }
@@ -64,7 +64,7 @@ impl Script {
             steps: Vec::new(alloc),
             settings: Settings::DEFAULT,
             last_set: 0,
-            set_lines: [0; 20],
+            set_lines: [0; 21],
             first_bad: None,
         };
         script.read_lines(alloc, text)?;
@@ -158,11 +158,12 @@ impl Script {
         }
     }
 
-    /// The configuration that the script sets.
+    /// Returns the configuration that the script sets.
     ///
     /// # Errors
     ///
-    /// The first bad line. One that leaves a configuration that isn't valid is the last `set`.
+    /// The first bad line, if there is one. A configuration that isn't valid makes the last `set`
+    /// bad.
     pub fn config(&self) -> Result<Valid<WorldConfig>, BadLine>
         ensures same { IfOk result (λ config. config ≡ world_of self.now.settings) }
         ensures good { OnOk result (IsFirst (option_map (λ bad. bad.line) self.now.first_bad)
@@ -180,7 +181,7 @@ impl Script {
         }
     }
 
-    /// The first bad line, where the last `set` is one.
+    /// Returns the first bad line, if the last `set` is one.
     fn bad_configuration(&self) -> BadLine
         ensures { result.line ≡ scripts.earlier (option_map (λ bad. bad.line) self.now.first_bad)
             self.now.last_set }
@@ -197,8 +198,8 @@ impl Script {
         }
     }
 
-    /// Why the configuration isn't valid: the first setting that is out of its range, and the line
-    /// that set it.
+    /// Returns why the configuration isn't valid: the first setting that is out of its range, and
+    /// the line that set it.
     fn out_of_range(&self) -> LineError {
         if let Some((setting, value)) = self.settings.out_of_range() {
             return LineError::OutOfRange {
@@ -212,18 +213,18 @@ impl Script {
 }
 
 /// Notes which line set a setting last.
-fn note_set(lines: &mut [usize; 20], setting: Setting, line: usize) {
+fn note_set(lines: &mut [usize; 21], setting: Setting, line: usize) {
     if let Some(last) = lines.get_mut(setting as usize) {
         *last = line;
     }
 }
 
-/// The line that set a setting last.
-fn set_line(lines: &[usize; 20], setting: Setting) -> usize {
+/// Returns the line that set a setting last.
+fn set_line(lines: &[usize; 21], setting: Setting) -> usize {
     lines.get(setting as usize).copied().unwrap_or(0)
 }
 
-/// Whether a line has no meaning of its own: it is empty, or begins with `#`.
+/// Returns `true` if a line has no meaning of its own: it is empty, or begins with `#`.
 fn is_skipped(line: &[u8]) -> bool
     ensures { result ≡ scripts.is_skipped line.now }
 {

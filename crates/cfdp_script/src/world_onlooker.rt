@@ -1,11 +1,11 @@
-//! One who looks on at a script's run, as the world of its stations shows it.
+//! An onlooker at a script's run, as the world of its stations shows it.
 use cfdp_station::Station;
 use cfdp_store::{Inbox, Outbox};
 use cfdp_watch::{Onlooker, Summary};
 use link_sim::{Event, FrameLink, FrameLinks, Lane, Mark, Side, Witness};
 
-/// One who looks on at a world, or nobody. The world shows all frames that were ever sent, so this
-/// keeps how many of them were seen.
+/// An onlooker at a world, or nobody. The world shows all frames that were ever sent, so this keeps
+/// how many of them were seen.
 #[derive(Drop)]
 pub struct WorldOnlooker<'a> {
     onlooker: Onlooker<'a>,
@@ -15,7 +15,7 @@ pub struct WorldOnlooker<'a> {
 }
 
 impl<'a> WorldOnlooker<'a> {
-    /// Before the first event.
+    /// Returns an onlooker before the first event.
     pub fn new(onlooker: Onlooker<'a>) -> WorldOnlooker<'a> {
         WorldOnlooker {
             onlooker,
@@ -24,7 +24,7 @@ impl<'a> WorldOnlooker<'a> {
         }
     }
 
-    /// Hears that no more passes, and tells what is known then; `None` where nobody looked on.
+    /// Ends the run, and returns what is known then; `None` if nobody looked on.
     pub fn into_summary(self) -> Option<Summary> {
         self.onlooker.into_summary()
     }
@@ -69,7 +69,7 @@ struct SeenLinks {
 }
 
 impl SeenLinks {
-    /// The frames that this station sends, before the first.
+    /// Returns the frames that this station sends, before the first.
     fn new(from: Side) -> SeenLinks {
         SeenLinks {
             from,
@@ -85,8 +85,8 @@ impl SeenLinks {
         self.file_data = self.look_at(Lane::Data, self.file_data, links, onlooker);
     }
 
-    /// Shows what became of those of one lane, of which so many were seen before. Answers how many
-    /// are seen now.
+    /// Shows what became of the frames of one lane, if `seen` of them were seen before. Returns how
+    /// many are seen now.
     fn look_at(
         self,
         lane: Lane,
@@ -106,7 +106,7 @@ impl SeenLinks {
         }
     }
 
-    /// Shows what became of the oldest frame of a lane that waited. Answers how many wait no more.
+    /// Shows what became of the oldest frame of a lane that waited. Returns how many wait no more.
     fn look_at_oldest(
         self,
         lane: Lane,

@@ -231,7 +231,7 @@ data-segment x d start end s is (inr e) = subst (CarriesSegment x) e (carries-se
 pub fits-short : (x : SenderState) (d : SenderDue) (bytes : List ℕ) → IsSender x → sender_due x ≡ Some d → length bytes ≤ 4096 → Fits x d bytes
 fits-short x d bytes s is le = due-fits x d bytes s (due-is x d is) le
 
--- the length that is told of what is due
+-- the length that `due` answers
 pub due-len : (x : SenderState) (d : SenderDue) (file : List ℕ) (start len r : ℕ) (v : Content)
     → sender_due x ≡ Some d → v ≡ pdu_says [] x d → r ≡ written_len x.addressing (is_large x.size) v
     → carried file d ≡ take len (drop start file) → length file ≡ x.size → start + len ≤ x.size

@@ -1,4 +1,4 @@
--- How often a sender tells that it is finished, and of what.
+-- How often a sender says that it is finished, and of what.
 use Rattle.std.proofs.Common.{◌≡◌, ℕ, ◌+◌, ◌==◌, ◌&&◌, not, min, nat_lt, ◌⊎◌, inl, inr, cond, Bool, true, false, List, [], ◌∷◌, Option, Some, None, if◌then◌else◌, refl, sym, ap, subst, ◌∙◌, arith}
 use Rattle.std.specs.FinSet as set
 use Rattle.std.proofs.Math.Bool.{and-false}
@@ -26,7 +26,7 @@ use Rattle.cfdp_sender.specs.Due.{sender_due, ack_first, phase_due}
 use Rattle.cfdp_sender.specs.Steps.{SenderAfter, hearing, quiet, cancelled, closed, sender_sends, eof_told, hears_ack, asks, asks_all, asks_in, end_told, progress_told, sends_again, unacknowledged_in, expires, sender_waits, sender_expires, waits_for_eof_ack, waits_for_anything, cancels_in, suspends_in, resumes_in, prompts_in}
 use Rattle.cfdp_sender.specs.Inputs.{SenderInput, Sends, HearsAck, HearsNak, HearsFinished, HearsKeepAlive, Expires, Cancels, Suspends, Resumes, Prompts, MayHappen, sender_step, finished_count, FinishesOnce}
 
--- nothing in a list tells that a transaction is finished
+-- nothing in a list says that a transaction is finished
 abbrev pub Untold : SenderAfter → Type 0
 Untold a = (id : TransactionId) → finished_count id a.told ≡ 0
 

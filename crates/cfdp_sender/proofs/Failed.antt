@@ -1,4 +1,4 @@
--- What is left where the outbox failed to give the data that were due.
+-- What is left if the outbox failed to give the data that were due.
 use Rattle.std.proofs.Common.{◌≡◌, ℕ, true, List, Some, None, sym, ap, subst, ◌∙◌}
 use Rattle.cfdp_directives.specs.declared.user.limits.Times.{Times}
 use Rattle.cfdp_store.specs.declared.stored.Stored.TheVariants.{Refused}

@@ -25,7 +25,7 @@ use Rattle.cfdp_sender.specs.Inputs.{SenderInput, Sends, HearsAck, HearsNak, Hea
 use Rattle.cfdp_sender.proofs.Dues.{IsDue, due-is}
 use Rattle.cfdp_sender.proofs.Truth.{ChecksumsGoOn, front-more}
 
--- what is to be sent, and how much of it was sent, are the same
+-- what must be sent, and how much of it was sent, are the same
 abbrev pub SameFront : SenderState → SenderState → Type 0
 SameFront x y = (transfer_of y ≡ transfer_of x) × (y.sent ≡ x.sent) × (y.sums ≡ x.sums)
 
@@ -171,7 +171,7 @@ pub partly-of : (put : Put) (pairs : List (ℕ × ℕ)) (x y : SenderState) → 
 partly-of put pairs x y of some =
     subst (IsSenderOf put) (sym some.asked) (still-of put x _ of (same-asks_all (take some.count pairs) x))
 
--- ---- what is to be sent stays the same
+-- ---- what must be sent stays the same
 pub sent-same : (stored : Stored) (file : List ℕ) (x : SenderState) (d : SenderDue) → transfer_of (sender_sends stored file x d).sender ≡ transfer_of x
 sent-same stored file x (due.AckOfFinished condition) = refl
 sent-same stored file x (due.Prompt keep_alive) = refl

@@ -28,7 +28,7 @@ use Rattle.cfdp_sender.specs.Steps.{SenderAfter, quiet, hearing, closed, cancell
 use Rattle.cfdp_sender.specs.Does.{HasFile, HasFileWhile, HasOwnFile}
 use Rattle.cfdp_sender.proofs.Dues.{extent-len}
 
--- ---- a file that was read anew
+-- ---- a file that was read again
 same-some : (a b : Option (List ℕ)) → option_map length b ≡ option_map length a → IsSome a → IsSome b
 same-some (Some x) (Some y) e h = h
 same-some (Some x) None e h = absurd (cc)

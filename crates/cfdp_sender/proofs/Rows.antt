@@ -1,4 +1,4 @@
--- Rows, computed: what the steps answer where the answer was worked out by hand.
+-- Rows, computed: the steps answer what was worked out by hand.
 use Rattle.std.proofs.Common.{◌≡◌, ℕ, Bool, true, false, List, [], ◌∷◌, Some, None, refl}
 use Rattle.std.specs.FinSet as set
 use Rattle.cfdp_header.specs.declared.value.TransactionId.{TransactionId}
@@ -67,6 +67,7 @@ policy handler = record {
   limits = default_limits;
   times = default_times;
   handlers = record { ack = handler; nak = handler; inactivity = handler };
+  most_gaps = None;
 }
 
 abbrev delivered : Outcome

@@ -1,4 +1,4 @@
--- What a step tells of a delivered file and of a failed read, and what it doesn't.
+-- What a step says of a delivered file and of a failed read, and what it doesn't.
 use Rattle.std.proofs.Common.{◌≡◌, ℕ, zero, suc, ◌<◌, ◌==◌, ◌||◌, Bool, true, false, List, [], ◌∷◌, length, Option, Some, None, if◌then◌else◌, refl, sym, ap, ◌∙◌, arith}
 use Rattle.std.specs.Prelude.{Contains, slice_index_or}
 use Rattle.std.proofs.Math.Bool.{or-true}
@@ -125,7 +125,7 @@ module _ (p : Indication → Bool) (ignores : Ignores p) where
   prompts-ignored x Cancelling o keep_alive = refl
   prompts-ignored x Closed o keep_alive = refl
 
--- ---- told complete
+-- ---- indicated complete
 is_delivered : Indication → Bool
 is_delivered (indication.Finished id condition delivery status) = is_complete condition delivery status
 is_delivered _ = false
@@ -175,7 +175,7 @@ sent-untold Done file x (due.NewData start end) = refl
 sent-untold Refused file x (due.NewData start end) = refl
 sent-untold stored file x due.Eof = eof-ignored is_delivered ignores-delivered x.phase x.eof_taken x.addressing.id
 
--- it is told by a Finished that was heard and says so, and by nothing else
+-- it is indicated by a Finished that was heard and says so, and by nothing else
 told-by : (policy : Policy) (file : List ℕ) (input : SenderInput) (x : SenderState) → list_any is_delivered (sender_step policy file input x).told ≡ true → input ≡ HearsFinished delivered
 told-by policy file (Sends stored d) x e = absurd (false≢true (sym (sent-untold stored file x d) ∙ e))
 told-by policy file (HearsAck condition) x e = absurd (false≢true (sym (ack-ignored is_delivered ignores-delivered x x.phase condition) ∙ e))

@@ -31,14 +31,14 @@ pub record ChecksumsGoOn : Type 0 where
   pub whole : (wanted : Option ℕ) (kind : ℕ) (file : List ℕ) → wants wanted kind ≡ true →
       sum_told kind (summed wanted nothing_summed (record { offset = 0; bytes = file })) ≡ checksum_of kind file
 
--- the checksum that is told is that of the front of the file
+-- the checksum that an EOF says is that of the front of the file
 pub told-is : ChecksumsGoOn → (put : Put) (x : SenderState) → IsSenderOf put x → told_checksum x ≡ checksum_of put.checksum_kind (take x.sent put.octets)
 told-is law put x of =
     ap (sum_told x.checksum_kind) of.front
     ∙ law.whole (Some x.checksum_kind) x.checksum_kind (take x.sent put.octets) (eq-eqb x.checksum_kind x.checksum_kind refl)
     ∙ ap (λ (k : ℕ). checksum_of k (take x.sent put.octets)) of.kind
 
--- and of the whole file where all was sent
+-- and of the whole file if all was sent
 pub told-whole : ChecksumsGoOn → (put : Put) (x : SenderState) → IsSenderOf put x → x.size ≤ x.sent → told_checksum x ≡ checksum_of put.checksum_kind put.octets
 told-whole law put x of all =
     told-is law put x of ∙ ap (checksum_of put.checksum_kind) (take_all x.sent put.octets (omega (arith, all, of.size)))

@@ -1,4 +1,4 @@
--- A timer is armed where it is waited for.
+-- A timer is armed if it is waited for.
 use Rattle.std.proofs.Common.{◌≡◌, ℕ, true, false, Bool, Option, Some, None, is_some, if◌then◌else◌, refl, ap, ◌∙◌}
 use Rattle.std.specs.FinMap as map
 use Rattle.cfdp_header.specs.declared.value.TransactionId.{TransactionId}
@@ -22,7 +22,7 @@ ArmsWaited = (now : ℕ) (id : TransactionId) (waits : Waits) (armed : Armed) (t
     → map.get (waited now id waits armed) t
     ≡ (if same_id id t.0 then deadline_by now (wait_for waits t.1) (map.get armed t) else map.get armed t)
 
--- a wait arms a timer, where there is one
+-- a wait arms a timer, if there is one
 wait-arms : (now duration : ℕ) (waits anew : Bool) (old : Option ℕ) → is_some (deadline_by now (wait_by waits anew duration) old) ≡ waits
 wait-arms now duration false anew old = refl
 wait-arms now duration true true old = refl

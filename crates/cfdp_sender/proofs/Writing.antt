@@ -22,7 +22,7 @@ use Rattle.cfdp_sender.specs.declared.taken.Taken.TheVariants.{Moved}
 use Rattle.cfdp_sender.specs.Steps.{pdu_sent, sender_sends}
 use Rattle.cfdp_sender.specs.Does.{Leaves, Takes, Writes, timers_set}
 
--- a front, octets of the file behind it, and the CRC behind these, are a whole PDU
+-- a front, octets of the file after it, and the CRC after these, are a whole PDU
 pub data-writes : (large : Bool) (a : Addressing) (start count at end : ℕ) (file out middle read new : List ℕ) → start + count ≤ length file → at ≡ data_front_len a large
     → ((bytes : List ℕ) → length bytes ≡ count → with_crc a.crc (take at middle ++ bytes) ≡ pdu_octets (header_of a large (FileData start bytes)) (FileData start bytes))
     → drop at middle ≡ drop at out → take (at + count) read ≡ take at middle ++ take count (drop start file) → drop (at + count) read ≡ drop (at + count) middle
@@ -99,7 +99,7 @@ pub carried-last : (x : SenderState) (d : SenderDue) (file out new : List ℕ) (
     → IsLast (carried file d) new (len - check) count
 carried-last x d file out new len check count is w room some = subst (λ (n : ℕ). IsLast (carried file d) new (len - n) count) (sym is) (due-last x d file out new len count w room some)
 
--- what is left where the PDU that was due was written
+-- what is left if the PDU that was due was written
 pub takes-moved : (times : Times) (file octets : List ℕ) (x new : SenderState) (d : SenderDue) (len : ℕ) (anew : Option Kind) (before now : Effects) (out out_now : List ℕ)
     → sender_due x ≡ Some d → Writes (is_large x.size) x.addressing (sender_says file x d) len out out_now → octets ≡ carried file d
     → Leaves (pdu_sent Done octets x d) new before.told now.told → anew ≡ (pdu_sent Done octets x d).anew → now.timers ≡ timers_set times anew new before.timers

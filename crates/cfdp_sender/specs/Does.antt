@@ -28,7 +28,7 @@ use Rattle.cfdp_sender.specs.declared.phase.SenderPhase.{SenderPhase}
 use Rattle.cfdp_sender.specs.declared.phase.SenderPhase.TheVariants.{Sending, Cancelling, Closed}
 use Rattle.cfdp_sender.specs.Steps.{SenderAfter, sender_waits, sender_sends, asks_all}
 
--- what a sender asks of its timers, where one of them is to be armed anew
+-- what a sender asks of its timers, if one of them must be armed again
 abbrev pub waits_of : Times → Option Kind → SenderState → Waits
 waits_of times anew x = record {
   eof_ack = wait_by (sender_waits kind.EofAck x) (is_anew anew kind.EofAck) times.eof;
@@ -73,7 +73,7 @@ pub record HasFile (files : FileMap) (name : List ℕ) (size : ℕ) : Type 0 whe
   pub there : IsSome (map.get files name)
   pub whole : length (octets_in files name) ≡ size
 
--- While a file is being sent, the outbox has it.
+-- If a file is being sent, the outbox must have it.
 abbrev pub HasFileWhile : SenderPhase → FileMap → (name : List ℕ) → (size : ℕ) → Type 0
 HasFileWhile Sending files name size = HasFile files name size
 HasFileWhile Cancelling files name size = Unit {0}
@@ -82,14 +82,14 @@ HasFileWhile Closed files name size = Unit {0}
 abbrev pub HasOwnFile : FileMap → SenderState → Type 0
 HasOwnFile files x = HasFileWhile x.phase files x.source x.size
 
--- Nothing was due, and all is as it was.
+-- If nothing was due, all is as it was.
 pub record Rests (old new : SenderState) (before now : Effects)
     (out_before out_now : List ℕ) : Type 0 where
   pub sender : new ≡ old
   pub effects : now ≡ before
   pub out : out_now ≡ out_before
 
--- So many octets were written, those of this PDU with this large file flag, and the octets behind
+-- So many octets were written, those of this PDU with this large file flag, and the octets after
 -- stay.
 pub record Writes (large : Bool) (a : Addressing) (v : Content) (octets : ℕ)
     (out_before out_now : List ℕ) : Type 0 where
@@ -97,7 +97,7 @@ pub record Writes (large : Bool) (a : Addressing) (v : Content) (octets : ℕ)
   pub front : take octets out_now ≡ pdu_octets (header_of a large v) v
   pub behind : drop octets out_now ≡ drop octets out_before
 
--- What taking a PDU did, by what was due: where that is data which the outbox failed to give, no
+-- What taking a PDU did, by what was due: if that is data which the outbox failed to give, no
 -- PDU is there, and what `out` then holds is left open.
 abbrev pub Takes : Times → List ℕ → Option SenderDue → Taken → (old new : SenderState)
     → (before now : Effects) → (out_before out_now : List ℕ) → Type 0
@@ -110,7 +110,7 @@ Takes times file (Some d) SourceFailed old new before now out_before out_now =
     (carries d ≡ true) × Does times (sender_sends Refused file old d) new before now
 Takes times file _ _ old new before now out_before out_now = ⊥
 
--- whether the outbox gave what was asked of it
+-- `true` if the outbox gave what was asked of it
 abbrev pub was_given : Taken → Bool
 was_given SourceFailed = false
 was_given _ = true

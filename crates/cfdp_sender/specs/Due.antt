@@ -15,7 +15,7 @@ use Rattle.cfdp_sender.specs.declared.due.SenderDue.{SenderDue}
 use Rattle.cfdp_sender.specs.declared.due.SenderDue.TheVariants as due
 use Rattle.cfdp_sender.specs.State.{SenderState}
 
--- new data, the next segment; behind the last of them EOF, until it was sent, and then to repeat it
+-- new data, the next segment; after the last of them EOF, until it was sent, and then to repeat it
 abbrev pub rest_due : SenderState → Option SenderDue
 rest_due x =
     if nat_lt x.sent x.size then Some (due.NewData x.sent (min x.size (x.sent + x.segment)))
@@ -48,24 +48,24 @@ is_sending Sending = true
 is_sending _ = false
 
 -- what is due, the first that holds: ACK of Finished, Prompt, Metadata, data that were asked for,
--- new data, EOF; a cancelled transaction sends EOF and that ACK alone, a closed one the ACK alone,
--- and a suspended one nothing
+-- new data, EOF; if it is cancelled, EOF and that ACK alone, if it is closed, the ACK alone, and if
+-- it is suspended, nothing
 abbrev pub sender_due : SenderState → Option SenderDue
 sender_due x = if x.suspended then None else ack_first x.ack_due x
 
--- where the octets of the file begin that it carries, and how many they are
+-- the offset at which the octets of the file begin that it carries, and how many they are
 abbrev pub extent_of : SenderDue → ℕ × ℕ
 extent_of (due.AskedData start end) = (start, end - start)
 extent_of (due.NewData start end) = (start, end - start)
 extent_of _ = (0, 0)
 
--- whether a PDU carries octets of the file
+-- `true` if a PDU carries octets of the file
 abbrev pub carries : SenderDue → Bool
 carries (due.AskedData start end) = true
 carries (due.NewData start end) = true
 carries _ = false
 
--- whether the PDU that is due, if one is, does
+-- `true` if a PDU is due and carries octets of the file
 abbrev pub carries_by : Option SenderDue → Bool
 carries_by (Some d) = carries d
 carries_by None = false
@@ -76,12 +76,11 @@ carried file (due.AskedData start end) = take (end - start) (drop start file)
 carried file (due.NewData start end) = take (end - start) (drop start file)
 carried file _ = []
 
--- the checksum that an EOF tells: that of the front of the file that was sent
+-- the checksum that an EOF says: that of the front of the file that was sent
 abbrev pub told_checksum : SenderState → ℕ
 told_checksum x = sum_told x.checksum_kind x.sums
 
--- the EOF of a cancelled transaction names this end as the one where it happened, and the size that
--- was sent
+-- the EOF of a cancelled transaction says that it happened at this end, and the size that was sent
 abbrev pub eof_says : SenderPhase → SenderState → Content
 eof_says Sending x = Eof no_error (told_checksum x) x.size []
 eof_says _ x =
@@ -97,15 +96,15 @@ pdu_says octets x (due.AskedData start end) = FileData start octets
 pdu_says octets x (due.NewData start end) = FileData start octets
 pdu_says octets x due.Eof = eof_says x.phase x
 
--- what the PDU says that is due; `file` is the octets that the outbox has under the source name
+-- what the PDU that is due says; `file` is the octets that the outbox has under the source name
 abbrev pub sender_says : List ℕ → SenderState → SenderDue → Content
 sender_says file x d = pdu_says (carried file d) x d
 
--- whether it is sending the file that the outbox has under this name
+-- `true` if it is sending the file that the outbox has under this name
 abbrev pub sends_file : List ℕ → SenderState → Bool
 sends_file name x = is_sending x.phase && bytes_eq x.source name
 
--- the phase, as an entity tells it
+-- the phase, as an entity says it
 abbrev pub phase_told : SenderPhase → Phase
 phase_told Sending = phases.Sending
 phase_told Cancelling = phases.Cancelling

@@ -3,8 +3,8 @@ use Rattle.std.specs.Prelude.{◌≡◌, ℕ, ◌<◌, ◌≤◌, true}
 use Rattle.std.specs.FinSet as set
 use Rattle.cfdp_sender.specs.State.{SenderState, IsCause}
 
--- A segment has an octet, the front that was sent is within the file, what is asked for again is
--- within that front, and what is cancelled has an error as its cause.
+-- A segment must have an octet, the front that was sent must be within the file, what is asked for
+-- again must be within that front, and what is cancelled must have an error as its cause.
 pub record IsInFile (x : SenderState) : Type 0 where
   pub some : 1 ≤ x.segment
   pub sent : x.sent ≤ x.size

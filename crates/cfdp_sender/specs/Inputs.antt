@@ -1,4 +1,4 @@
--- All that may happen to a sender, as one step, and what it has to do with a put.
+-- All that may happen to a sender, as one step, and what it must do with a put.
 use Rattle.std.specs.Prelude.{◌≡◌, ℕ, ◌<◌, ◌≤◌, Bool, true, false, List, take, length, Some, count_by}
 use Rattle.std.specs.FinSet as set
 use Rattle.cfdp_header.specs.declared.value.TransactionId.{TransactionId}
@@ -24,7 +24,7 @@ use Rattle.cfdp_sender.specs.Due.{sender_due, carries}
 use Rattle.cfdp_sender.specs.Steps.{SenderAfter, sender_sends, sender_hears_ack, sender_hears_nak, sender_hears_finished, sender_hears_keep_alive, sender_expires, sender_cancels, sender_suspends, sender_resumes, sender_prompts}
 
 pub data SenderInput : Type 0 where
-  -- a PDU is sent, and the outbox answered so where data were read
+  -- a PDU is sent, and the outbox answered so, if data were read
   Sends : (stored : Stored) (sent : SenderDue) → SenderInput
   HearsAck : (condition : ℕ) → SenderInput
   HearsNak : (pairs : List (ℕ × ℕ)) → SenderInput
@@ -49,12 +49,12 @@ sender_step policy file Suspends x = sender_suspends x
 sender_step policy file Resumes x = sender_resumes x
 sender_step policy file (Prompts keep_alive) x = sender_prompts keep_alive x
 
--- Only the PDU that is due is sent.
+-- Only the PDU that is due may be sent.
 abbrev pub MayHappen : SenderInput → SenderState → Type 0
 MayHappen (Sends stored d) x = sender_due x ≡ Some d
 MayHappen _ x = Unit {0}
 
--- Once it is closed a sender isn't suspended, and nothing of its file is asked for.
+-- If it is closed, a sender isn't suspended, and nothing of its file is asked for.
 abbrev pub RestsOnceClosed : SenderState → Type 0
 RestsOnceClosed x = x.phase ≡ Closed → (x.asked ≡ set.empty) × (x.suspended ≡ false)
 
@@ -86,8 +86,8 @@ put_of t file = record {
 abbrev pub finished_count : TransactionId → List Indication → ℕ
 finished_count id told = count_by (is_finished id) told
 
--- A step indicates at most one Finished, of its own transaction, and is closed then; what is closed
--- indicates none and stays closed. So at most one is ever indicated.
+-- A step indicates at most one Finished, of its own transaction, and is closed then; if it is
+-- closed already, it indicates none and stays closed. So at most one is ever indicated.
 pub record FinishesOnce (x : SenderState) (a : SenderAfter) : Type 0 where
   pub once : finished_count x.addressing.id a.told ≤ 1
   pub closes : 0 < finished_count x.addressing.id a.told → a.sender.phase ≡ Closed
@@ -96,7 +96,7 @@ pub record FinishesOnce (x : SenderState) (a : SenderAfter) : Type 0 where
   pub own : (other : TransactionId) → same_id x.addressing.id other ≡ false
       → finished_count other a.told ≡ 0
 
--- how a transaction ends whose file was delivered
+-- how a transaction ends if its file was delivered
 abbrev pub delivered : Outcome
 delivered = record { condition = no_error; delivery = Complete; status = Retained }
 

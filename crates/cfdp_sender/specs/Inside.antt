@@ -28,13 +28,13 @@ state_of s = record {
   count = s.count;
 }
 
--- Memory has the names while the file is sent, and no longer once the transaction is closed.
+-- Memory must have the names while the file is sent, and no longer if the transaction is closed.
 abbrev pub KeepsNames : SenderPhase → Bool → Type 0
 KeepsNames Sending kept = kept ≡ true
 KeepsNames Cancelling kept = Unit {0}
 KeepsNames Closed kept = kept ≡ false
 
--- It is a sender, and memory has the names where they are needed.
+-- It is a sender, and memory has the names if they are needed.
 pub record IsInside (s : Inside) : Type 0 where
   pub sender : IsSender (state_of s)
   pub names : KeepsNames s.phase s.names.kept

@@ -19,3 +19,4 @@ pub use Rattle.cfdp_timers.specs.Waits
 pub use Rattle.cfdp_timers.specs.Armed
 pub use Rattle.cfdp_store.specs.Stores
 pub mod Reading
+pub mod Back

@@ -5,5 +5,5 @@ pub record NamesState : Type 0 where
   -- at this end, and at the receiver
   pub source : List ℕ
   pub destination : List ℕ
-  -- whether memory has them still
+  -- `true` if memory has them still
   pub kept : Bool

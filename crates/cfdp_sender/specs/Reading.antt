@@ -21,7 +21,7 @@ module _ {S : Type 0} (Steps : S → OutboxCall → S → Type 0) where
   ReadsIf true name extent ok old new = ReadsOnce name extent.0 extent.1 ok old new
   ReadsIf false name extent ok old new = Calls Steps old [] new
 
-  -- File data that are due are read once. For any other PDU the outbox isn't called.
+  -- If file data are due, they are read once. For any other PDU the outbox isn't called.
   abbrev pub Reads : SenderState → Option SenderDue → (ok : Bool) → (old new : S) → Type 0
   Reads x (Some d) ok old new = ReadsIf (carries d) x.source (extent_of d) ok old new
   Reads x None ok old new = Calls Steps old [] new

@@ -31,18 +31,18 @@ pub record SenderState : Type 0 where
   -- the offsets that were asked for again
   pub asked : Offsets
   pub metadata_due : Bool
-  -- whether a Prompt is due, and for a Keep Alive
+  -- the Prompt that is due, if one is: `true` if it is for a Keep Alive
   pub prompt_due : Option Bool
-  -- whether an EOF is to be sent again, or that of a cancelled transaction
+  -- `true` if an EOF must be sent again, or that of a cancelled transaction
   pub eof_due : Bool
-  -- whether an EOF was sent, and whether one without an error was acknowledged
+  -- `true` if an EOF was sent, and `true` if one without an error was acknowledged
   pub eof_taken : Bool
   pub acknowledged : Bool
   -- the condition of the Finished heard last, while its ACK is due
   pub ack_due : Option ℕ
   -- why the transaction was cancelled
   pub condition : ℕ
-  -- how often EOF was sent again since it was first sent, or since the count began anew
+  -- how often EOF was sent again since it was first sent, or since the count began again
   pub count : ℕ
 
 -- the most octets of a file that one PDU may carry
@@ -73,7 +73,8 @@ opened_sender t = record {
   count = 0;
 }
 
--- What is to be sent can be: ids fit their widths, and segment, names and size are in their ranges.
+-- What a put sends must be sendable: ids fit their widths, and segment, names and size their
+-- ranges.
 pub record IsSendable (t : Transfer) : Type 0 where
   pub addressing : FitsAddressing t.addressing
   pub kind : t.checksum_kind < 16
@@ -83,7 +84,7 @@ pub record IsSendable (t : Transfer) : Type 0 where
   pub destination : IsFileName t.destination
   pub size : t.size ≤ size_limit true
 
--- what a sender is to send
+-- what a sender must send
 abbrev pub transfer_of : SenderState → Transfer
 transfer_of x = record {
   addressing = x.addressing;
@@ -94,7 +95,7 @@ transfer_of x = record {
   size = x.size;
 }
 
--- A transaction is cancelled because of an error.
+-- If a transaction is cancelled, it is because of an error.
 abbrev pub IsCause : SenderPhase → ℕ → Type 0
 IsCause Cancelling condition = 0 < condition
 IsCause _ condition = Unit {0}

@@ -26,7 +26,7 @@ use Rattle.cfdp_sender.specs.declared.due.SenderDue.TheVariants as due
 use Rattle.cfdp_sender.specs.State.{SenderState}
 use Rattle.cfdp_sender.specs.Due.{carried}
 
--- what a step leaves: the sender, what it indicated, and the timer that it arms anew
+-- what a step leaves: the sender, what it indicated, and the timer that it arms again
 pub record SenderAfter : Type 0 where
   pub sender : SenderState
   pub told : List Indication
@@ -35,11 +35,11 @@ pub record SenderAfter : Type 0 where
 abbrev pub quiet : SenderState → SenderAfter
 quiet x = record { sender = x; told = []; anew = None }
 
--- it indicates this, and arms no timer anew
+-- it indicates this, and arms no timer again
 abbrev pub telling : List Indication → SenderState → SenderAfter
 telling told x = record { sender = x; told = told; anew = None }
 
--- once it is cancelled, its EOF is due, and nothing of the file any more
+-- if it is cancelled, its EOF is due, and nothing of the file any more
 abbrev pub cancelling : ℕ → SenderState → SenderState
 cancelling condition x = record x {
   phase = Cancelling;
@@ -52,7 +52,7 @@ cancelling condition x = record x {
   count = 0;
 }
 
--- what is closed is no longer suspended, and nothing is asked for
+-- if it is closed, it is no longer suspended, and nothing is asked for
 abbrev pub closed : SenderState → SenderState
 closed x = record x { phase = Closed; suspended = false; asked = set.empty }
 
@@ -62,14 +62,14 @@ cancelled x = record { condition = x.condition; delivery = Incomplete; status = 
 
 -- ---- sending what is due
 
--- where the outbox can't read the data, that is a fault, and cancels
+-- if the outbox can't read the data, that is a fault, and cancels
 abbrev pub sender_reads : Stored → SenderState → SenderState → SenderAfter
 sender_reads Done x read = quiet read
 sender_reads Refused x read =
     telling (fault_told Cancel x.addressing.id filestore_rejection)
     (cancelling filestore_rejection x)
 
--- new data, which begin where those sent end, raise the front, and count for its checksum
+-- new data, which begin at the end of those sent, raise the front, and count for its checksum
 abbrev pub with_new : ℕ → List ℕ → SenderState → SenderState
 with_new end bytes x = record x {
   sent = end;
@@ -80,12 +80,12 @@ with_new end bytes x = record x {
 abbrev pub without_asked : ℕ → ℕ → SenderState → SenderState
 without_asked start end x = record x { asked = set.difference x.asked (range start end) }
 
--- EOF is indicated when it is sent for the first time, and not where it cancels
+-- EOF is indicated if it is sent for the first time, and not if it cancels
 abbrev pub eof_told : SenderPhase → Bool → TransactionId → List Indication
 eof_told Sending false id = indication.EofSent id ∷ []
 eof_told _ _ id = []
 
--- a PDU is sent that carries these octets, and `stored` is how the outbox answered where it reads
+-- a PDU is sent that carries these octets, and `stored` is how the outbox answered if it reads
 -- them
 abbrev pub pdu_sent : Stored → List ℕ → SenderState → SenderDue → SenderAfter
 pdu_sent stored octets x (due.AckOfFinished condition) = quiet (record x { ack_due = None })
@@ -106,11 +106,11 @@ sender_sends stored file x d = pdu_sent stored (carried file d) x d
 
 -- ---- hearing a PDU
 
--- whatever is heard arms the timer of inactivity anew
+-- whatever is heard arms the timer of inactivity again
 abbrev pub hearing : List Indication → SenderState → SenderAfter
 hearing told x = record { sender = x; told = told; anew = Some Inactivity }
 
--- an ACK of an EOF without an error acknowledges it, once one was sent; where the transaction was
+-- an ACK of an EOF without an error acknowledges it, if one was sent; if the transaction was
 -- cancelled, the ACK of the EOF that said so closes it
 abbrev pub hears_ack : SenderPhase → ℕ → SenderState → SenderAfter
 hears_ack Sending condition x =
@@ -146,7 +146,7 @@ asks_in _ pairs x = x
 abbrev pub sender_hears_nak : List (ℕ × ℕ) → SenderState → SenderAfter
 sender_hears_nak pairs x = hearing [] (asks_in x.phase pairs x)
 
--- what a Finished comes to: what it says, or that the transaction was cancelled before
+-- what a Finished comes to: what it says, or, if the transaction was cancelled before, that it was
 abbrev pub end_told : SenderPhase → Outcome → SenderState → List Indication
 end_told Sending outcome x = finished_told x.addressing.id outcome ∷ []
 end_told Cancelling outcome x = finished_told x.addressing.id (cancelled x) ∷ []
@@ -166,24 +166,24 @@ sender_hears_keep_alive octets x = hearing (progress_told x.phase x.addressing.i
 
 -- ---- timers
 
--- it waits for the ACK of an EOF that was sent and isn't to be sent again
+-- it waits for the ACK of an EOF that was sent and needn't be sent again
 abbrev pub waits_for_eof_ack : SenderPhase → SenderState → Bool
 waits_for_eof_ack Sending x = x.eof_taken && not x.eof_due && not x.acknowledged
 waits_for_eof_ack Cancelling x = x.eof_taken && not x.eof_due
 waits_for_eof_ack Closed x = false
 
--- and once that has come, for anything
+-- and if that has come, for anything
 abbrev pub waits_for_anything : SenderPhase → SenderState → Bool
 waits_for_anything Sending x = x.acknowledged
 waits_for_anything _ x = false
 
--- what a sender waits for; a suspended one waits for nothing
+-- what a sender waits for; if it is suspended, it waits for nothing
 abbrev pub sender_waits : Kind → SenderState → Bool
 sender_waits EofAck x = not x.suspended && waits_for_eof_ack x.phase x
 sender_waits Inactivity x = not x.suspended && waits_for_anything x.phase x
 sender_waits _ x = false
 
--- what a fault leaves that its handler decides about: `ignored` is what is left where it is ignored
+-- what a fault leaves by its handler's decision: `ignored` is what is left if it is ignored
 abbrev pub handled : Handler → ℕ → SenderState → SenderState → SenderState
 handled Cancel condition ignored x = cancelling condition x
 handled Suspend condition ignored x = record x { suspended = true }
@@ -196,17 +196,17 @@ unacknowledged handler x =
     telling (fault_told handler x.addressing.id positive_ack_limit)
     (handled handler positive_ack_limit (record x { count = 0; eof_due = true }) x)
 
--- the handler decides, but a cancelled transaction is abandoned
+-- the handler decides, but if the transaction is cancelled, it is abandoned
 abbrev pub unacknowledged_in : SenderPhase → Handler → SenderState → SenderAfter
 unacknowledged_in Sending handler x = unacknowledged handler x
 unacknowledged_in _ handler x = unacknowledged Abandon x
 
--- no ACK of EOF has come: EOF is sent again while it may be
+-- no ACK of EOF has come: EOF is sent again if it may be
 abbrev pub sends_again : Option ℕ → Handler → SenderState → SenderAfter
 sends_again (Some count) handler x = quiet (record x { count = count; eof_due = true })
 sends_again None handler x = unacknowledged_in x.phase handler x
 
--- nothing has come for too long; where that is ignored, the timer runs anew
+-- nothing has come for too long; if that is ignored, the timer runs again
 abbrev pub unheard : Handler → SenderState → SenderAfter
 unheard handler x = record {
   sender = handled handler inactivity (record x { count = 0 }) x;
@@ -219,11 +219,11 @@ expires EofAck policy x = sends_again (another_try x.count policy.limits.eof) po
 expires Inactivity policy x = unheard policy.handlers.inactivity x
 expires _ policy x = quiet x
 
--- an expiry that isn't waited for does nothing
+-- if an expiry isn't waited for, it does nothing
 abbrev pub sender_expires : Kind → Policy → SenderState → SenderAfter
 sender_expires kind policy x = if sender_waits kind x then expires kind policy x else quiet x
 
--- ---- calls: of a transaction that is no longer Sending they do nothing
+-- ---- calls: if a transaction is no longer Sending they do nothing
 
 abbrev pub cancels_in : SenderPhase → SenderState → SenderAfter
 cancels_in Sending x = quiet (cancelling cancel_request x)
@@ -238,7 +238,7 @@ suspends_in Sending false x =
     (record x { suspended = true })
 suspends_in _ _ x = quiet x
 
--- one that is suspended already stays so
+-- if it is suspended already, it stays so
 abbrev pub sender_suspends : SenderState → SenderAfter
 sender_suspends x = suspends_in x.phase x.suspended x
 
@@ -254,6 +254,6 @@ abbrev pub prompts_in : SenderPhase → Option Bool → Bool → SenderState →
 prompts_in Sending None keep_alive x = quiet (record x { prompt_due = Some keep_alive })
 prompts_in _ _ keep_alive x = quiet x
 
--- a Prompt that is due already stays as it is
+-- if a Prompt is due already, it stays as it is
 abbrev pub sender_prompts : Bool → SenderState → SenderAfter
 sender_prompts keep_alive x = prompts_in x.phase x.prompt_due keep_alive x

@@ -11,10 +11,10 @@ use cfdp_timers::Effects;
 
 impl Sender {
     /// Cancels the transaction at its user's request, with condition 15: an EOF that says so is
-    /// due, and nothing of the file any more (CCSDS 727.0-B-5, 4.11.2). One that is cancelled
-    /// already, or closed, stays as it is. Takes no memory.
+    /// due, and nothing of the file any more (CCSDS 727.0-B-5, 4.11.2). If it is cancelled
+    /// already, or closed, it stays as it is. Takes no memory.
     ///
-    /// The timers have room for the transaction, as `open` made it.
+    /// The timers must have room for the transaction, as `open` made it.
     pub fn cancel(&mut self, effects: &mut Effects, policy: &Policy)
         requires timers { HasTimers self.old effects.old.timers }
         ensures does { Does policy.now.times (steps.sender_cancels self.old) self.new effects.old
@@ -28,10 +28,10 @@ impl Sender {
     }
 
     /// Suspends the transaction at its user's request, with condition 14: nothing of it is sent and
-    /// no timer runs until it is resumed, while PDUs are still heard. One that is suspended
-    /// already, cancelled or closed stays as it is. Takes no memory.
+    /// no timer runs until it is resumed, while PDUs are still heard. If it is suspended
+    /// already, cancelled or closed, it stays as it is. Takes no memory.
     ///
-    /// The effects have room for a step of the transaction.
+    /// The effects must have room for a step of the transaction.
     pub fn suspend(&mut self, effects: &mut Effects, policy: &Policy)
         requires room { HasRoom self.old.addressing.id effects.old }
         ensures does { Does policy.now.times (steps.sender_suspends self.old) self.new effects.old
@@ -46,10 +46,10 @@ impl Sender {
         self.set_timers(None, &mut effects.timers, &policy.times);
     }
 
-    /// Resumes the transaction: what is due is sent again, the count of EOFs begins anew, and what
-    /// is waited for is armed. One that isn't suspended stays as it is. Takes no memory.
+    /// Resumes the transaction: what is due is sent again, the count of EOFs begins again, and what
+    /// is waited for is armed. If it isn't suspended, it stays as it is. Takes no memory.
     ///
-    /// The effects have room for a step of the transaction.
+    /// The effects must have room for a step of the transaction.
     pub fn resume(&mut self, effects: &mut Effects, policy: &Policy)
         requires room { HasRoom self.old.addressing.id effects.old }
         ensures does { Does policy.now.times (steps.sender_resumes self.old) self.new effects.old
@@ -63,10 +63,10 @@ impl Sender {
         self.set_timers(None, &mut effects.timers, &policy.times);
     }
 
-    /// Makes a Prompt due, for a Keep Alive or for a NAK (CCSDS 727.0-B-5, 5.2.7). Where one is due
+    /// Makes a Prompt due, for a Keep Alive or for a NAK (CCSDS 727.0-B-5, 5.2.7). If one is due
     /// already, or the transaction is cancelled or closed, all stays as it is. Takes no memory.
     ///
-    /// The timers have room for the transaction, as `open` made it.
+    /// The timers must have room for the transaction, as `open` made it.
     pub fn prompt(&mut self, effects: &mut Effects, policy: &Policy, keep_alive: bool)
         requires timers { HasTimers self.old effects.old.timers }
         ensures does { Does policy.now.times (steps.sender_prompts keep_alive self.old) self.new

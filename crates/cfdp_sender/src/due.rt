@@ -14,25 +14,26 @@ use crate::phase::SenderPhase;
 use crate::sender::Sender;
 use cfdp_directives::{Acknowledged, Condition, Pdu, Tlvs, TransactionStatus, is_large};
 
-/// What a sender sends next.
+/// A PDU that a sender sends next.
 #[derive(Clone, Copy, Debug, PartialEq, Eq)]
 pub enum SenderDue {
-    /// ACK of the Finished heard last, with its condition.
+    /// An ACK of the last Finished that was received, with its condition.
     AckOfFinished(Condition),
-    /// A Prompt, for a Keep Alive where true, else for a NAK.
+    /// A Prompt, for a Keep Alive if true, otherwise for a NAK.
     Prompt(bool),
     Metadata,
-    /// File data that were asked for, from an offset up to, and without, another.
+    /// File data that were asked for, from an offset up to another, which is excluded.
     AskedData(u64, u64),
-    /// New file data, from an offset up to, and without, another.
+    /// New file data, from an offset up to another, which is excluded.
     NewData(u64, u64),
     Eof,
 }
 
 impl Sender {
-    /// Octets of the PDU that is due, its header and its CRC too: of what `take_pdu` would write
-    /// now. `None` where none is due, as of a suspended transaction. Whatever the file holds, its
-    /// size alone counts. What is due can be written, and has 4,134 octets at the most.
+    /// Returns the number of octets of the PDU that is due, its header and its CRC too: of what
+    /// `take_pdu` would write now. Returns `None` if none is due, for example if the transaction is
+    /// suspended. Of the file, its size alone counts. What is due can be written, and has at most
+    /// 4,134 octets.
     pub fn due(&self) -> Option<usize>
         ensures some { is_some result ≡ is_some (sender_due self.now) }
         ensures short { IfSome result (λ len. len ≤ 4134) }
@@ -51,14 +52,15 @@ impl Sender {
         Some(self.addressing.written_len(large, &self.says(&due)) + carried)
     }
 
-    /// Whether a PDU is due: whether [`due`](Self::due) answers a length, which costs more.
+    /// Returns `true` if a PDU is due, that is if [`due`](Self::due) answers a length, which costs
+    /// more.
     pub fn is_due(&self) -> bool
         ensures { result ≡ is_some (sender_due self.now) }
     {
         self.next_due().is_some()
     }
 
-    /// Whether the PDU that is due is file data; all others are directives.
+    /// Returns `true` if the PDU that is due is file data; all others are directives.
     pub fn has_data_due(&self) -> bool
         ensures { result ≡ carries_by (sender_due self.now) }
     {
@@ -74,14 +76,15 @@ impl Sender {
         }
     }
 
-    // Whether its file is large: all that it sends has the large file flag then.
+    // Returns `true` if its file is large: all that it sends has the large file flag then.
     pub(crate) fn is_large(&self) -> bool
         ensures { result ≡ codes.is_large self.now.size }
     {
         is_large(self.size)
     }
 
-    // Where the octets of the file begin that a PDU carries, and how many they are.
+    // Returns the offset at which the octets of the file begin that a PDU carries, and how many
+    // they are.
     pub(crate) fn extent(&self, due: &SenderDue) -> (u64, usize)
         requires { sender_due self.now ≡ Some due.now }
         ensures begins { result.0 ≡ (extent_of due.now).0 }
@@ -107,7 +110,7 @@ impl Sender {
         }
     }
 
-    /// What is due: the PDU that [`take_pdu`](Self::take_pdu) would write now.
+    /// Returns what is due: the PDU that [`take_pdu`](Self::take_pdu) would write now.
     pub fn next_due(&self) -> Option<SenderDue>
         ensures { result ≡ sender_due self.now }
     {
@@ -130,7 +133,7 @@ impl Sender {
         }
     }
 
-    // What is due while the file is sent.
+    // Returns what is due while the file is sent.
     fn next_of_file(&self) -> Option<SenderDue>
         ensures { result ≡ dues.prompt_first self.now.prompt_due self.now }
     {
@@ -153,7 +156,7 @@ impl Sender {
         None
     }
 
-    // The PDU that is due, but for the octets of the file that it carries.
+    // Returns the PDU that is due, except for the octets of the file that it carries.
     pub(crate) fn says(&self, due: &SenderDue) -> Pdu<'_>
         requires { sender_due self.now ≡ Some due.now }
         ensures { view result ≡ pdu_says [] self.now due.now }
@@ -182,7 +185,7 @@ impl Sender {
         }
     }
 
-    // The EOF that is due.
+    // Returns the EOF that is due.
     fn eof(&self) -> Pdu<'_>
         ensures { view result ≡ dues.eof_says self.now.phase self.now }
     {

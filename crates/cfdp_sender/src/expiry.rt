@@ -11,12 +11,13 @@ use cfdp_directives::{Condition, Handler, Indication, Policy, another_try, indic
 use cfdp_timers::{Effects, Kind};
 
 impl Sender {
-    /// A timer of the transaction has fired. Without an ACK of EOF that is sent again, as often as
-    /// the limit allows, and then that is fault 1; where nothing at all was heard, fault 8. The
-    /// handler decides what follows, but a transaction that is cancelled is abandoned (CCSDS
-    /// 727.0-B-5, 4.7 and 4.8). A timer that isn't waited for does nothing. Takes no memory.
+    /// Handles a timer of the transaction that has fired. If no ACK of EOF came, the EOF is sent
+    /// again, as often as the limit allows, and then that is fault 1; if nothing at all was heard,
+    /// fault 8. The handler decides what follows, but if the transaction is cancelled, it is
+    /// abandoned (CCSDS 727.0-B-5, 4.7 and 4.8). If the timer isn't waited for, nothing happens.
+    /// Takes no memory.
     ///
-    /// The effects have room for a step of the transaction.
+    /// The effects must have room for a step of the transaction.
     pub fn expire(&mut self, effects: &mut Effects, policy: &Policy, kind: Kind)
         requires room { HasRoom self.old.addressing.id effects.old }
         ensures does { Does policy.now.times (steps.sender_expires kind policy.now self.old)
@@ -37,7 +38,7 @@ impl Sender {
         self.set_timers(anew, &mut effects.timers, &policy.times);
     }
 
-    // No ACK of EOF has come: EOF is sent again while it may be.
+    // No ACK of EOF has come: EOF is sent again if it may be.
     fn miss_ack(&mut self, policy: &Policy, told: &mut Vec<Indication>)
         requires room { vec_len told.old + 2 ≤ vec_capacity told.old }
         ensures leaves { Leaves (steps.expires kinds.EofAck policy.now self.old) self.new told.old

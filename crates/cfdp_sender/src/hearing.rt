@@ -12,11 +12,11 @@ use cfdp_timers::{Effects, Kind};
 use std::alloc::AllocError;
 
 impl Sender {
-    /// Hears an ACK of EOF, with its condition (CCSDS 727.0-B-5, 5.2.4). One without an error
-    /// acknowledges the EOF that was sent. Where the transaction is cancelled, the ACK that has the
+    /// Hears an ACK of EOF, with its condition (CCSDS 727.0-B-5, 5.2.4). If it has no error, it
+    /// acknowledges the EOF that was sent. If the transaction is cancelled, the ACK that has the
     /// condition of the cancel closes it, and Finished is indicated. Takes no memory.
     ///
-    /// The effects have room for a step of the transaction.
+    /// The effects must have room for a step of the transaction.
     pub fn on_ack(&mut self, effects: &mut Effects, policy: &Policy, condition: Condition)
         requires room { HasRoom self.old.addressing.id effects.old }
         ensures does { Does policy.now.times (steps.sender_hears_ack condition self.old) self.new
@@ -49,10 +49,10 @@ impl Sender {
     }
 
     /// Hears a Finished (CCSDS 727.0-B-5, 5.2.3). It closes the transaction, and is acknowledged
-    /// however often it comes. The first time it is indicated: as it says, or where the transaction
+    /// however often it comes. The first time it is indicated: as it says, or, if the transaction
     /// was cancelled before, that it was. Takes no memory.
     ///
-    /// The effects have room for a step of the transaction.
+    /// The effects must have room for a step of the transaction.
     pub fn on_finished(&mut self, effects: &mut Effects, policy: &Policy, outcome: Outcome)
         requires room { HasRoom self.old.addressing.id effects.old }
         ensures does { Does policy.now.times (steps.sender_hears_finished outcome self.old) self.new
@@ -72,7 +72,7 @@ impl Sender {
         self.ack_due = Some(outcome.condition);
     }
 
-    // Tells how it ended, unless that was told before.
+    // Indicates how it ended, if that wasn't indicated before.
     fn tell_end(&self, outcome: &Outcome, told: &mut Vec<Indication>)
         requires room { vec_len told.old + 1 ≤ vec_capacity told.old }
         ensures { told.new.items
@@ -88,9 +88,9 @@ impl Sender {
     }
 
     /// Hears a Keep Alive, with the offset up to which the receiver holds the file (CCSDS
-    /// 727.0-B-5, 5.2.8). While the file is sent that is indicated. Takes no memory.
+    /// 727.0-B-5, 5.2.8). If the file is being sent, that is indicated. Takes no memory.
     ///
-    /// The effects have room for a step of the transaction.
+    /// The effects must have room for a step of the transaction.
     pub fn on_keep_alive(&mut self, effects: &mut Effects, policy: &Policy, progress: u64)
         requires room { HasRoom self.old.addressing.id effects.old }
         ensures does { Does policy.now.times (steps.sender_hears_keep_alive progress self.old)
@@ -105,16 +105,16 @@ impl Sender {
         self.set_timers(Some(Kind::Inactivity), &mut effects.timers, &policy.times);
     }
 
-    /// Hears a NAK, with its requested ranges (CCSDS 727.0-B-5, 5.2.6). While the file is sent, the
-    /// pair (0, 0) makes Metadata due again, and each other range its offsets that were sent; an
-    /// empty range and the scope of the NAK ask for nothing. Nothing is indicated.
+    /// Hears a NAK, with its requested ranges (CCSDS 727.0-B-5, 5.2.6). If the file is being sent,
+    /// the pair (0, 0) makes Metadata due again, and each other range its offsets that were sent;
+    /// an empty range and the scope of the NAK ask for nothing. Nothing is indicated.
     ///
-    /// The timers have room for the transaction, as `open` made it.
+    /// The timers must have room for the transaction, as `open` made it.
     ///
     /// # Errors
     ///
-    /// Where there is no memory for one more range. Some of the pairs, from the first on, may have
-    /// been asked for, and nothing else has changed.
+    /// `AllocError` if there is no memory for one more range. Some of the pairs, from the first on,
+    /// may have been asked for, and nothing else has changed.
     pub fn on_nak(
         &mut self,
         effects: &mut Effects,

@@ -28,7 +28,7 @@ ghost use Rattle.cfdp_sender.specs.Inputs.{SenderInput, HearsFinished, MayHappen
 ghost use Rattle.cfdp_sender.specs.Inputs.{put_of, IsSenderOf, FinishesOnce, IsFailedRead};
 ghost use Rattle.cfdp_sender.specs.Inputs.{delivered, RestsOnceClosed};
 
-/// What a sender is to send stays the same, whatever happens to it: the transaction, its two ends,
+/// What a sender must send stays the same, whatever happens to it: the transaction, its two ends,
 /// the names and the size. So its file is still there, and its timers still have room.
 pub fn a_sender_keeps_what_it_sends()
     ensures step { (policy : Policy) (file : List ℕ) (input : SenderInput) (x : SenderState) →
@@ -48,8 +48,8 @@ pub fn a_closed_sender_rests()
         → RestsOnceClosed y }
 {}
 
-/// What a sender has due is in its file. So it is of every sender, once it is opened, and whatever
-/// happens to it.
+/// What a sender has due is in its file. This holds of every sender, once it is opened, and
+/// whatever happens to it.
 pub fn what_is_due_is_in_the_file()
     ensures held { (x : SenderState) → IsSender x → IsInFile x }
     ensures opened { (t : Transfer) → 1 ≤ t.segment → IsInFile (opened_sender t) }
@@ -57,9 +57,9 @@ pub fn what_is_due_is_in_the_file()
         IsInFile x → MayHappen input x → IsInFile (sender_step policy file input x).sender }
 {}
 
-/// Each PDU that a sender of a put sends says what is so: Metadata, file data and an EOF without an
+/// Each PDU that a sender of a put sends is true: Metadata, file data and an EOF without an
 /// error are truthful. It is a sender of the put once it is opened, and stays one whatever happens
-/// to it, also where a NAK is heard in part.
+/// to it, even if a NAK is heard in part.
 pub fn a_sender_says_what_is_so()
     ensures truthful { (put : Put) (x : SenderState) (d : SenderDue) →
         IsInFile x → IsSenderOf put x → sender_due x ≡ Some d
@@ -75,8 +75,8 @@ pub fn a_sender_says_what_is_so()
     cfdp_directives::checksums_go_on();
 }
 
-/// The EOF of a sender of a put has the checksum and the size of the whole file, and no error. That
-/// of a cancelled one has those of the front that was sent, and names this end.
+/// The EOF of a sender of a put has the checksum and the size of the whole file, and no error. If
+/// the transaction is cancelled, its EOF has those of the front that was sent, and names this end.
 pub fn an_eof_has_the_checksum_of_what_was_sent()
     ensures whole { (put : Put) (x : SenderState) → IsSender x → IsSenderOf put x →
         x.phase ≡ Sending → sender_due x ≡ Some dues.Eof
@@ -91,13 +91,13 @@ pub fn an_eof_has_the_checksum_of_what_was_sent()
 }
 
 /// At most one Finished is ever indicated of a transaction: a step that indicates one closes it,
-/// and once closed it stays so and indicates none. Steps indicate none of other transactions.
+/// and if it is closed, it stays so and indicates none. Steps indicate none of other transactions.
 pub fn a_sender_finishes_once()
     ensures { (policy : Policy) (file : List ℕ) (input : SenderInput) (x : SenderState) →
         MayHappen input x → FinishesOnce x (sender_step policy file input x) }
 {}
 
-/// That the file was delivered is told only where a Finished was heard that says so.
+/// That the file was delivered is indicated only if a Finished was heard that says so.
 pub fn told_complete_by_a_finished_alone()
     ensures { (policy : Policy) (file : List ℕ) (input : SenderInput) (x : SenderState)
         (id : TransactionId) →
@@ -106,7 +106,7 @@ pub fn told_complete_by_a_finished_alone()
         → input ≡ HearsFinished delivered }
 {}
 
-/// The fault of a filestore is told only where the outbox failed to give data.
+/// The fault of a filestore is indicated only if the outbox failed to give data.
 pub fn a_source_fault_comes_of_a_failed_read()
     ensures { (policy : Policy) (file : List ℕ) (input : SenderInput) (x : SenderState)
         (id : TransactionId) →
@@ -114,7 +114,7 @@ pub fn a_source_fault_comes_of_a_failed_read()
         → IsFailedRead input }
 {}
 
-/// After each step a timer of the transaction is armed exactly where the sender waits for it, and
+/// After each step a timer of the transaction is armed if and only if the sender waits for it, and
 /// those of other transactions are as they were.
 pub fn a_sender_waits_with_armed_timers()
     ensures armed { (times : Times) (anew : Option Kind) (x : SenderState) (timers : TimersState)

@@ -17,16 +17,19 @@
 mod calls;
 mod due;
 mod expiry;
+mod front;
 mod hearing;
 mod laws;
 mod names;
 mod phase;
+mod restoring;
 mod sender;
 mod taken;
 mod taking;
 mod transfer;
 
 pub use due::SenderDue;
+pub use front::sums_of_front;
 pub use laws::{
     a_closed_sender_rests, a_sender_finishes_once, a_sender_keeps_what_it_sends,
     a_sender_says_what_is_so, a_sender_waits_with_armed_timers,
@@ -34,6 +37,7 @@ pub use laws::{
     told_complete_by_a_finished_alone, what_is_due_is_in_the_file,
 };
 pub use phase::SenderPhase;
+pub use restoring::CommittedSender;
 pub use sender::Sender;
 pub use taken::Taken;
 pub use transfer::{MOST_SEGMENT, Transfer};

@@ -1,11 +1,11 @@
 // The names of the file that a sender sends.
-ghost use Rattle.std.specs.Prelude.{◌≡◌, true, false};
+ghost use Rattle.std.specs.Prelude.{◌≡◌, true, false, IfSome, IsSome};
 
 use cfdp_directives::Octets;
 use past::Past;
 use std::marker::Model;
 
-/// The names of a file at both ends. A closed sender needs them no more, and memory lets them go,
+/// The names of a file at both ends. A closed sender needs them no more, and memory releases them,
 /// while clauses see them for good.
 #[derive(Debug, Drop)]
 pub(crate) struct Names {
@@ -38,7 +38,7 @@ impl Model for Names {
 }
 
 impl Names {
-    /// These names, which are kept.
+    /// Returns these names, which are kept.
     pub(crate) fn new(source: Octets, destination: Octets) -> Self
         ensures { result ≡ record { source = source; destination = destination; kept = true } }
     {
@@ -52,14 +52,14 @@ impl Names {
         }
     }
 
-    /// Lets go of them.
+    /// Releases the names.
     pub(crate) fn let_go(&mut self)
         ensures { self.new ≡ record self.old { kept = false } }
     {
         self.held = None;
     }
 
-    /// The name at this end, while it is kept.
+    /// Returns the name at this end, while it is kept.
     pub(crate) fn source(&self) -> &[u8]
         ensures { self.now.kept ≡ true → result.now ≡ self.now.source }
     {
@@ -69,13 +69,25 @@ impl Names {
         }
     }
 
-    /// The name at the receiver, while it is kept.
+    /// Returns the name at the receiver, while it is kept.
     pub(crate) fn destination(&self) -> &[u8]
         ensures { self.now.kept ≡ true → result.now ≡ self.now.destination }
     {
         match &self.held {
             Some(held) => held.destination.as_slice(),
             None => &[],
+        }
+    }
+
+    /// Returns the name at this end and the name at the receiver, while they are kept.
+    pub(crate) fn both(&self) -> Option<(&[u8], &[u8])>
+        ensures source { IfSome result (λ names. names.0.now ≡ self.now.source) }
+        ensures destination { IfSome result (λ names. names.1.now ≡ self.now.destination) }
+        ensures some { self.now.kept ≡ true → IsSome result }
+    {
+        match &self.held {
+            Some(held) => Some((held.source.as_slice(), held.destination.as_slice())),
+            None => None,
         }
     }
 }

@@ -26,8 +26,22 @@ use std::marker::Model;
 /// The sending side of one transaction (CCSDS 727.0-B-5, 4.6.1.1): what was sent of its file, what
 /// is due, and what is waited for. The time is that of the timers.
 ///
-/// It keeps no octet of the file, but what its checksum needs of the front that was sent. A closed one keeps
-/// neither the names nor what was asked for. Only `open` and `on_nak` take memory.
+/// ```text
+///            open
+///              |                  Finished arrives: reported; ACK due
+///              v      +-------------------------------------------------------+
+///         +---------+ |                                                       v
+///         | Sending |-+   limit reached, handler Abandon                  +--------+
+///         +---------+---------------------------------------------------> | Closed |--+ Finished
+///              | cancel, or a fault that cancels                          +--------+  | arrives:
+///              v                                                              ^  ^----+ ACK due
+///         +------------+  ACK of its EOF, or Finished: reported as cancelled; |
+///         | Cancelling |------------------------------------------------------+
+///         +------------+  limit reached: Abandoned
+/// ```
+///
+/// It keeps no octet of the file, but what its checksum needs of the front that was sent. A closed
+/// one keeps neither the names nor what was asked for. Only `open` and `on_nak` take memory.
 #[derive(Debug, Drop)]
 pub struct Sender {
     pub(crate) addressing: Addressing,
@@ -71,12 +85,12 @@ impl Sender {
     /// Opens the sender of a put, indicates Transaction, and makes room for its timers. Metadata is
     /// due then, and no timer is waited for.
     ///
-    /// What it is to send has to be sendable, as `Transfer::is_sendable` tells, and there is room
+    /// What it sends must be sendable, as `Transfer::is_sendable` says, and there must be room
     /// for three more indications.
     ///
     /// # Errors
     ///
-    /// Where there is no memory for its timers. All is then unchanged.
+    /// `AllocError` if there is no memory for its timers. All is then unchanged.
     pub fn open(
         alloc: Global,
         effects: &mut Effects,
@@ -121,7 +135,7 @@ impl Sender {
         })
     }
 
-    /// How far it has come.
+    /// Returns how far it has come.
     pub fn phase(&self) -> Phase
         ensures { result ≡ dues.phase_told self.now.phase }
     {
@@ -132,42 +146,42 @@ impl Sender {
         }
     }
 
-    /// Up to which offset octets of the file were sent, whether or not they came.
+    /// Returns the offset up to which octets of the file were sent, even if they didn't come.
     pub fn progress(&self) -> u64
         ensures { result ≡ self.now.sent }
     {
         self.sent
     }
 
-    /// The transaction.
+    /// Returns the transaction.
     pub fn id(&self) -> TransactionId
         ensures { result ≡ self.now.addressing.id }
     {
         self.addressing.id
     }
 
-    /// Whether it is sending the file that the outbox has under this name.
+    /// Returns `true` if it is sending the file that the outbox has under this name.
     pub fn sends_file(&self, name: &[u8]) -> bool
         ensures { result ≡ dues.sends_file name.now self.now }
     {
         self.phase == SenderPhase::Sending && self.names.source() == name
     }
 
-    /// Whether it is suspended: nothing is sent then, and nothing is waited for.
+    /// Returns `true` if it is suspended: nothing is sent then, and nothing is waited for.
     pub fn is_suspended(&self) -> bool
         ensures { result ≡ self.now.suspended }
     {
         self.suspended
     }
 
-    /// Whether a Prompt is due.
+    /// Returns `true` if a Prompt is due.
     pub fn has_prompt_due(&self) -> bool
         ensures { result ≡ is_some self.now.prompt_due }
     {
         self.prompt_due.is_some()
     }
 
-    /// A law: of every sender, whatever may be due can be written, and its data are in the file.
+    /// A law: for every sender, whatever may be due can be written, and its data are in the file.
     pub fn every_sender_can_send(&self)
         ensures { IsSender self.now }
     {
@@ -175,7 +189,7 @@ impl Sender {
         let _size = self.size;
     }
 
-    // Whether it waits for this timer.
+    // Returns `true` if it waits for this timer.
     pub(crate) fn waits(&self, kind: Kind) -> bool
         ensures { result ≡ sender_waits kind self.now }
     {
@@ -218,7 +232,7 @@ impl Sender {
         timers.set(self.addressing.id, &waits);
     }
 
-    // The transaction is cancelled because of an error: its EOF is due, and no more of the file.
+    // Cancels the transaction because of an error: its EOF is due, and no more of the file.
     pub(crate) fn enter_cancelling(&mut self, condition: Condition)
         requires { 0 < condition }
         ensures { self.new ≡ steps.cancelling condition self.old }
@@ -235,8 +249,8 @@ impl Sender {
         self.count = 0;
     }
 
-    // It is over, and so is a suspension. Its record may stay for long until it is forgotten: so
-    // memory lets go of the names, and of what was asked for.
+    // Closes it, and ends a suspension. Its record may stay for long until it is forgotten: so
+    // memory releases the names, and what was asked for.
     pub(crate) fn close(&mut self)
         ensures { self.new ≡ steps.closed self.old }
     {
@@ -246,7 +260,7 @@ impl Sender {
         self.asked.clear();
     }
 
-    // What a cancelled transaction comes to.
+    // Returns what a cancelled transaction comes to.
     pub(crate) fn cancelled(&self) -> Outcome
         ensures { result ≡ steps.cancelled self.now }
     {

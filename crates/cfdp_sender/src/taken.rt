@@ -5,7 +5,7 @@ pub enum Taken {
     Nothing,
     /// The PDU that was due was written, and has so many octets.
     Moved(usize),
-    /// The outbox failed to give the file data that were due: nothing was sent, and the transaction
-    /// is cancelled.
+    /// The outbox failed to give the file data that were due: nothing was sent, and the
+    /// transaction is cancelled.
     SourceFailed,
 }

@@ -29,17 +29,17 @@ use cfdp_timers::{Effects, Kind};
 
 impl Sender {
     /// Sends the PDU that is due: writes it into the first octets of `out`, whose others stay. It
-    /// has the large file flag where the file has 2^32 octets or more. File
-    /// data are read from the outbox; where that fails, it is fault 4, the transaction is
-    /// cancelled, and what `out` then holds is left open. Sending EOF for the first time is
-    /// indicated. Takes no memory, what the outbox takes for itself apart.
+    /// has the large file flag if the file has 2^32 octets or more. File data are read from the
+    /// outbox; if that fails, it is fault 4, the transaction is cancelled, and what `out` then
+    /// holds is left open. If EOF is sent for the first time, that is indicated. Takes no memory,
+    /// except what the outbox takes for itself.
     ///
-    /// The octets of the file are those that the outbox has once they are read: where it shows
+    /// The octets of the file are those that the outbox has once they are read: if it shows
     /// others than before, the files stand no more.
     ///
-    /// The effects have room for a step of the transaction. While it is sending, the outbox has
-    /// the file under the source name, with all its octets. `out` has room for the PDU, as `due`
-    /// tells.
+    /// The effects must have room for a step of the transaction. If the file is being sent, the
+    /// outbox must have it under the source name, with all its octets. `out` must have room for the
+    /// PDU, as `due` says.
     pub fn take_pdu<O: Outbox>(
         &mut self,
         effects: &mut Effects,
@@ -82,7 +82,7 @@ impl Sender {
         Taken::Moved(len)
     }
 
-    // Octets of the CRC of each PDU.
+    // Returns the number of octets of the CRC of each PDU.
     fn crc_len(&self) -> usize
         ensures { result ≡ crc_len self.now.addressing.crc }
     {
@@ -128,7 +128,7 @@ impl Sender {
         }
     }
 
-    // Writes a PDU with octets of the file, which the outbox puts right where they belong, and its
+    // Writes a PDU with octets of the file, which the outbox writes into their place, and its
     // CRC.
     fn write_data<O: Outbox>(
         &self,
@@ -160,7 +160,7 @@ impl Sender {
         Ok(self.addressing.write_crc(at + count, out))
     }
 
-    // The outbox failed to give the data that are due.
+    // Ends the transaction, since the outbox failed to give the data that are due.
     fn lose_source(&mut self, told: &mut Vec<Indication>)
         requires room { vec_len told.old + 2 ≤ vec_capacity told.old }
         ensures { Leaves (steps.sender_reads answers.Refused self.old self.old) self.new told.old
@@ -171,7 +171,7 @@ impl Sender {
         self.enter_cancelling(condition);
     }
 
-    // The PDU that was due was written. The answer is the timer that this arms anew.
+    // Notes that the PDU that was due was written. Returns the timer that this arms again.
     fn note_sent(
         &mut self,
         due: &SenderDue,
@@ -204,7 +204,7 @@ impl Sender {
         None
     }
 
-    // EOF was written.
+    // Notes that EOF was written.
     fn note_eof(&mut self, told: &mut Vec<Indication>)
         requires room { vec_len told.old + 1 ≤ vec_capacity told.old }
         ensures { Leaves (steps.pdu_sent answers.Done [] self.old dues.Eof) self.new told.old
@@ -218,7 +218,7 @@ impl Sender {
     }
 }
 
-// Reads octets of a file into `out` from the place `at` on.
+// Reads octets of a file into `out`, from the offset `at` on.
 fn read_to<O: Outbox>(
     outbox: &mut O,
     name: &[u8],

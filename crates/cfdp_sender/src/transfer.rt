@@ -24,8 +24,8 @@ pub struct Transfer {
 }
 
 impl Transfer {
-    /// Whether it can be sent: its ids fit their widths, and segment, names and size are in their
-    /// ranges.
+    /// Returns `true` if it can be sent: its ids must fit their widths, and segment, names and size
+    /// must be in their ranges.
     pub fn is_sendable(&self) -> bool
         ensures { IsTrue result ↔ IsSendable self.now }
     {

@@ -31,7 +31,7 @@ module _ {U : Type 0} (Steps : U → UserCall → U → Type 0) where
       subst (λ l. Chain Steps l a c) (sym (ap (map Hears) longer ∙ map-append Hears (take i all) (item ∷ [])))
       (chain-then (map Hears (take i all)) (Hears item ∷ []) a b c before (chain-one (Hears item) b c step))
 
-  -- where 64 bits don't count what was told, nothing is heard
+  -- if 64 bits don't count what was reported, nothing is heard
   pub chain-said_none : (t : TableState) (a : U) → nat_lt (length t.told) (2 ^ 64) ≡ false → Chain Steps (map Hears (said_by t)) a a
   chain-said_none t a great = subst (λ (l : List Indication). Chain Steps (map Hears l) a a) (sym (ap (λ (b : Bool). cond b (drop t.gone t.told) []) great)) (chain-none a)
 

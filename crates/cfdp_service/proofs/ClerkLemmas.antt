@@ -151,7 +151,7 @@ module _ {S : Type 0} (sent failed : S → List (List ℕ)) where
       } in
       (knows-chain old [] calls old new first chain).left
 
--- ---- what the station told
+-- ---- what the station indicated
 pub told-gone : (own : ℕ) (calls : List UserCall) (table : TableState) (id : TransactionId) → HearsGone calls table → IsToldComplete own (heard_by calls) id → IsToldComplete own table.told id
 told-gone own calls table id hears told = (
   told.0,

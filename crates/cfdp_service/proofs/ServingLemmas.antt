@@ -58,8 +58,8 @@ module _ {U : Type 0} (Steps : U → UserCall → U → Type 0) where
       (chain-then Steps (flat_map wish_calls done) (Asks (Some wish) ∷ Answered reply ∷ []) a b c before
       (chain-then Steps (Asks (Some wish) ∷ []) (Answered reply ∷ []) b asked c (chain-one Steps (Asks (Some wish)) b asked asks) (chain-one Steps (Answered reply) asked c answered)))
 
--- ---- what is let go
--- what is told once all is let go that is left
+-- ---- what is discarded
+-- what is reported once all is discarded that is left
 pub said-few : (t : TableState) → t.gone ≤ length t.told → (once_said t).gone ≤ length (once_said t).told
 said-few t few = by (nat_lt (length t.told) (2 ^ 64))
   where
@@ -74,7 +74,7 @@ said-gone t = by (nat_lt (length t.told) (2 ^ 64))
     by true = take_all (length t.told) t.told (omega arith) ∙ sym (take-append-drop t.gone t.told)
     by false = sym (append-nil (take t.gone t.told))
 
--- what was told before is told still
+-- what was indicated before is indicated still
 pub gains-gone : (a b : TableState) → a.gone ≤ length a.told → Gains a b → take b.gone b.told ≡ take a.gone a.told
 gains-gone a b few g = (λ i. take (g.gone i) (g.told i)) ∙ take-append-le a.gone a.told g.gained few
 
@@ -84,7 +84,7 @@ gains-few a b few g =
     let long : length b.told ≡ length a.told + length g.gained = ap length g.told ∙ length-append a.told g.gained in
     omega (arith, same, long, few)
 
--- records that are let go change nothing of it
+-- records that are discarded change nothing of it
 forgets-told : (id : TransactionId) (a b : EntityState) → Forgets id a b → (b.table.told ≡ a.table.told) × (b.table.gone ≡ a.table.gone)
 forgets-told id a b f = (ap (λ (e : EntityState). e.table.told) f.forgot, ap (λ (e : EntityState). e.table.gone) f.forgot)
 
@@ -103,18 +103,18 @@ some-told a b f = each-told f.ids a b f.forgets
 pub hears-first : (t : TableState) → t.gone ≡ 0 → HearsGone [] t
 hears-first t none = record { few = omega (arith, none); heard = ap (λ n. take n t.told) (sym none) }
 
--- as the station tells more
+-- as the station indicates more
 pub hears-gains : (calls : List UserCall) (t t_now : TableState) → HearsGone calls t → Gains t t_now → HearsGone calls t_now
 hears-gains calls t t_now h g = record { few = gains-few t t_now h.few g; heard = h.heard ∙ sym (gains-gone t t_now h.few g) }
 
--- by a call that tells it nothing
+-- by a call in which it hears nothing
 pub hears-more : (calls more : List UserCall) (t : TableState) → HearsGone calls t → heard_by more ≡ [] → HearsGone (calls ++ more) t
 hears-more calls more t h none = record {
   few = h.few;
   heard = heard-both calls more ∙ ap (λ l. heard_by calls ++ l) none ∙ append-nil (heard_by calls) ∙ h.heard;
 }
 
--- all that is left is told, and let go
+-- all that is left is reported, and discarded
 pub hears-said : (calls : List UserCall) (t t_now : TableState) → HearsGone calls t → t_now.told ≡ (once_said t).told → t_now.gone ≡ (once_said t).gone
     → HearsGone (calls ++ map Hears (said_by t)) t_now
 hears-said calls t t_now h told gone = record {
@@ -122,7 +122,7 @@ hears-said calls t t_now h told gone = record {
   heard = heard-both calls (map Hears (said_by t)) ∙ (λ i. h.heard i ++ heard-hears (said_by t) i) ∙ sym (said-gone t) ∙ (λ i. take (sym gone i) (sym told i));
 }
 
--- what is wished tells the user nothing
+-- the user hears nothing by what it wishes
 obeyed-unheard : (calls : List UserCall) (a b : StationState) → Obeys calls a b → heard_by calls ≡ []
 obeyed-unheard calls a b o =
     ap heard_by o.is ∙ obeys-unheard o.done o.rests (⊎_elim (λ e. ap heard_by e) (λ e. ap heard_by e.0) o.ends)
@@ -142,19 +142,21 @@ hears-same before calls intent t t_now h same =
 
 -- ---- before a turn
 module _ {W : Type 0} (Steps : W → WireCall → W → Type 0) where
-  pub gets-ready : (over : Bool) (intent : Intent) (before calls : List UserCall) (last prepared asked : PortState W) → Prepares calls last.station prepared.station
+  pub gets-ready : (over : Bool) (intent : Intent) (lacking : ℕ) (before calls : List UserCall) (last prepared asked : PortState W) → Prepares calls last.station prepared.station
       → prepared.wire ≡ last.wire → asked.station ≡ prepared.station → AsksToEnd Steps intent over prepared.station prepared.wire asked.wire
-      → GetsReady Steps over (record { port = last; calls = before }) (record { port = asked; calls = before ++ calls ++ Intends intent ∷ [] })
-  gets-ready over intent before calls last prepared asked prepares wire station asks = record {
+      → GetsReady Steps over (record { port = last; calls = before; lacking = lacking })
+      (record { port = asked; calls = before ++ calls ++ Intends intent ∷ []; lacking = lacking })
+  gets-ready over intent lacking before calls last prepared asked prepares wire station asks = record {
     calls = calls;
     intent = intent;
     prepares = subst (λ (s : StationState). Prepares calls last.station s) (sym station) prepares;
     asks = subst (λ (w : W). AsksToEnd Steps intent over asked.station w asked.wire) wire
         (subst (λ (s : StationState). AsksToEnd Steps intent over s prepared.wire asked.wire) (sym station) asks);
     is = refl;
+    lacking = refl;
   }
 
--- all that is left is told at the end
+-- all that is left is reported at the end
 pub hears-all : (calls : List UserCall) (s s_now : StationState) → HearsGone calls (table_of s) → s_now ≡ once_told s
     → HearsGone (calls ++ map Hears (said_by (table_of s)) ++ Ends ∷ []) (table_of s_now)
 hears-all calls s s_now h same =

@@ -1,5 +1,5 @@
--- What a clerk does with the files of its spool: one leaves it as sent once its put was told
--- complete, and as failed only if its put was refused or its transaction is over.
+-- What a clerk does with the files of its spool: one leaves it as sent only if its put was
+-- indicated complete, and as failed only if its put was refused or its transaction is over.
 use Rattle.std.specs.Prelude.{◌≡◌, ◌⊎◌, ℕ, List, [], ◌∷◌, ◌++◌, Contains, Option, Some, None, Ok, Err, option_and_then, if◌then◌else◌}
 use Rattle.cfdp_header.specs.declared.value.TransactionId.{TransactionId}
 use Rattle.cfdp_directives.specs.declared.pdu.codes.Delivery.TheVariants.{Complete}
@@ -18,7 +18,7 @@ use Rattle.cfdp_service.specs.declared.wish.Reply.TheVariants as replies
 use Rattle.cfdp_service.specs.declared.wish.Wish.{Wish}
 use Rattle.cfdp_service.specs.declared.wish.Wish.TheVariants as wishes
 
--- a clerk of the entity `own`: the file of the spool whose put it wishes, where that isn't
+-- a clerk of the entity `own`: the file of the spool whose put it wishes, if that isn't
 -- answered; the files whose puts are open, each with its transaction; and the spool
 pub record ClerkState (S : Type 0) : Type 0 where
   pub own : ℕ
@@ -26,7 +26,7 @@ pub record ClerkState (S : Type 0) : Type 0 where
   pub files : List OpenFile
   pub spool : S
 
--- the file of the put that was wished last, where it lies in the spool
+-- the file of the put that was wished last, if it lies in the spool
 abbrev pub asked_file : Option AskedPut → Option (List ℕ)
 asked_file asked = option_and_then
     (λ put. if put.is_file then Some put.names.source.items else None) asked
@@ -38,11 +38,11 @@ pub record WishesFile (name : List ℕ) (wish : Option Wish) : Type 0 where
   pub source : names.source.items ≡ name
   pub destination : names.destination.items ≡ name
 
--- What is asked is the file that is wished, where that is one.
+-- What is asked is the file that is wished, if that is one.
 abbrev pub WishesAsked : (asked : Option (List ℕ)) → Option Wish → Type 0
 WishesAsked asked wish = (name : List ℕ) → asked ≡ Some name → WishesFile name wish
 
--- The entity `own`, which sends the transaction, is told that its file was delivered.
+-- It is indicated to the entity `own`, which sends the transaction, that its file was delivered.
 abbrev pub Completes : ℕ → TransactionId → Indication → Type 0
 Completes own id indication = (id.source ≡ own)
     × (indication ≡ Finished id no_error Complete Retained)
@@ -72,7 +72,7 @@ module _ {S : Type 0} (gone : S → List (List ℕ)) where
   abbrev pub OpensNone : (old new : ClerkState S) → Type 0
   OpensNone old new = (file : OpenFile) → Contains new.files file → Contains old.files file
 
-  -- A file left the spool as sent: its put is open, and is told complete.
+  -- A file left the spool as sent: its put is open, and is indicated complete.
   pub record LeavesSent (indication : Indication) (old new : ClerkState S) : Type 0 where
     pub file : OpenFile
     pub was_open : Contains old.files file
@@ -87,7 +87,7 @@ module _ {S : Type 0} (gone : S → List (List ℕ)) where
     pub refused : reply ≡ replies.Put (Err by)
     pub leaves : Leaves name old new
 
-  -- A file left whose transaction is over, and wasn't told complete.
+  -- A file left whose transaction is over, and wasn't indicated complete.
   pub record LeavesOver (indication : Indication) (old new : ClerkState S) : Type 0 where
     pub id : TransactionId
     pub over : EndsBy id indication
@@ -128,13 +128,13 @@ pub record IsAccepted (calls : List UserCall) (name : List ℕ) (id : Transactio
   pub is : calls ≡ before ++ Asks wish ∷ Answered (replies.Put (Ok id)) ∷ behind
   pub wishes : WishesFile name wish
 
--- By these calls a put of this file was accepted, and the entity was told that it was delivered.
+-- By these calls a put of this file was accepted, and the entity heard that it was delivered.
 pub record IsDelivered (own : ℕ) (calls : List UserCall) (name : List ℕ) : Type 0 where
   pub id : TransactionId
   pub accepted : IsAccepted calls name id
   pub told : IsToldComplete own (heard_by calls) id
 
--- By these calls a put of this file was accepted, and of its transaction the entity was told
+-- By these calls a put of this file was accepted, and the entity heard that its transaction is
 -- complete.
 pub record IsSentFile (own : ℕ) (calls : List UserCall) (told : List Indication) (name : List ℕ)
     : Type 0 where

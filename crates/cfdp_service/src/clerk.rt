@@ -7,26 +7,27 @@ ghost use Rattle.cfdp_service.specs.Clerk.{WishesAsked, WishesFile, asked_file};
 ghost use Rattle.cfdp_service.specs.Limits.{has_too_many, is_too_long, limits_files};
 
 use crate::console::{Command, Console, Outcome};
+use crate::giving_up::{GapCount, refuse_silent};
 use crate::spool::Spool;
 use crate::tries::Tries;
 use crate::user::{Intent, User};
 use crate::wish::{PutNames, Reply, Wish};
 use cfdp_directives::{Condition, Delivery, FileStatus, Indication, Phase};
 use cfdp_header::TransactionId;
-use cfdp_station::{PutError, Request, Station};
+use cfdp_station::{EntityDrop, PutError, Request, Station};
 use cfdp_store::{Inbox, Outbox};
 use std::alloc::{AllocError, Global};
 use std::collections::VecDeque;
 use std::marker::Model;
 
-/// So many records of a station are left free: for what the peer sends, and since what is over here
-/// may not be so at the peer yet, which has as many.
+/// How many records of a station are left free: for what the peer sends, and since what is over
+/// here may not be so at the peer yet, which has as many.
 const LEFT_FREE: usize = 1024;
 
 /// The most commands that are taken before one turn.
 const MOST_COMMANDS: u32 = 64;
 
-/// So many turns a station that was told to stop takes once its puts are over and nothing waits, so
+/// How many turns a station that must stop takes after its puts are over and nothing waits, so
 /// that its last acknowledgements leave.
 const LAST_TURNS: u8 = 3;
 
@@ -41,24 +42,27 @@ pub struct ClerkLimits {
     pub most_size: u64,
     /// The most files that are received at a time; 0 for any number.
     pub most_open: usize,
+    /// The most gaps in what is held of a file that is received, by which the station drops file
+    /// data; 0 for any number.
+    pub most_gaps: u64,
 }
 
 impl ClerkLimits {
-    /// Returns whether they limit what the peer sends.
+    /// Returns `true` if they limit what the peer sends.
     fn limit_files(&self) -> bool
         ensures { result ≡ limits_files self.now }
     {
         self.most_size > 0 || self.most_open > 0
     }
 
-    /// Returns whether a file with octets up to this offset is longer than they allow.
+    /// Returns `true` if a file with octets up to this offset is longer than they allow.
     fn is_too_long(&self, end: u64) -> bool
         ensures { result ≡ is_too_long self.now end }
     {
         self.most_size > 0 && end > self.most_size
     }
 
-    /// Returns whether they allow no further file beside so many that are received.
+    /// Returns `true` if they allow no further file beside so many that are received.
     fn has_too_many(&self, beside: usize) -> bool
         ensures { result ≡ has_too_many self.now beside }
     {
@@ -79,12 +83,12 @@ pub struct OpenFile {
 #[derive(Drop)]
 struct AskedPut {
     names: PutNames,
-    // Whether its file lies in the spool, and whether it was put before.
+    // `true` if its file lies in the spool, and `true` if it was put before.
     is_file: bool,
     is_again: bool,
 }
 
-/// What a clerk was told of the end.
+/// What a clerk was asked about the end.
 #[derive(Clone, Copy, PartialEq, Eq)]
 enum Stage {
     /// Nothing: it goes on.
@@ -97,10 +101,12 @@ enum Stage {
 
 /// A user that sends files: those that were asked for before it began, those that are commanded at
 /// its console, and those that lie in its spool, in this order, and no more at a time than its
-/// limits say. A file leaves the spool as sent only once the station indicated that its put is
+/// limits say. A file may leave the spool as sent only if the station indicated that its put is
 /// complete. Before each turn it cancels each file that comes and is beyond the limits, with or
 /// without Metadata: one that is longer by its Metadata or by what came of it, and all but the
-/// first of those that come, in order of opening.
+/// first of those that come, in order of opening. If nothing limits their number, it cancels those
+/// of more than 3,072 that were silent the longest. If memory is short, or files that come have
+/// more than 2^22 gaps together, it cancels the one with the most gaps, unless that has few.
 #[derive(Drop)]
 pub struct Clerk<S: Spool, C: Console> {
     alloc: Global,
@@ -116,9 +122,14 @@ pub struct Clerk<S: Spool, C: Console> {
     // files that come and must be cancelled, and whether it has looked for more before this turn
     refused: Vec<TransactionId>,
     has_looked: bool,
+    // the file that must be cancelled for its memory, which takes no memory to note
+    given_up: Option<TransactionId>,
+    // whether the last turn lacked memory, and how many PDUs were dropped because of that before
+    is_short: bool,
+    dropped: u64,
     tries: Tries,
     stage: Stage,
-    // whether nothing waits in the station for its link
+    // `true` if nothing waits in the station for its link
     is_drained: bool,
 }
 
@@ -136,7 +147,7 @@ impl<S: Spool, C: Console> Model for Clerk<S, C> {
 }
 
 impl<S: Spool, C: Console> Clerk<S, C> {
-    /// One that wishes nothing yet, of the entity `own`.
+    /// Returns a clerk of the entity `own`, which wishes nothing yet.
     pub fn new(alloc: Global, own: u64, limits: ClerkLimits, spool: S, console: C) -> Self
         ensures { result ≡ record { own = own; asked = None; files = []; spool = spool } }
     {
@@ -152,27 +163,30 @@ impl<S: Spool, C: Console> Clerk<S, C> {
             puts: Vec::new(alloc),
             refused: Vec::new(alloc),
             has_looked: false,
+            given_up: None,
+            is_short: false,
+            dropped: 0,
             tries: Tries::new(alloc),
             stage: Stage::Serving,
             is_drained: false,
         }
     }
 
-    /// Its console, lent.
+    /// Borrows its console.
     pub fn console(&self) -> &C {
         &self.console
     }
 
-    /// Its console.
+    /// Returns its console.
     pub fn into_console(self) -> C {
         self.console
     }
 
-    /// Asks for a file to be sent: behind all others that wait, or ahead of them.
+    /// Asks for a file to be sent: after all others that wait, or before them.
     ///
     /// # Errors
     ///
-    /// `AllocError` where there is no memory for it.
+    /// `AllocError` if there is no memory for it.
     pub fn add(&mut self, names: PutNames, is_first: bool) -> Result<(), AllocError>
         ensures { self.new ≡ self.old }
     {
@@ -184,7 +198,23 @@ impl<S: Spool, C: Console> Clerk<S, C> {
         Ok(())
     }
 
-    /// How many puts are open.
+    /// Takes back a put that an earlier run made, and that goes on as this transaction. If the file
+    /// lies in the spool, it leaves that as if this run had put it.
+    pub fn takes_back(&mut self, id: TransactionId, names: PutNames)
+        ensures own { self.new.own ≡ self.old.own }
+        ensures asked { self.new.asked ≡ self.old.asked }
+        ensures sent { KeepsFiles S.sent self.old self.new }
+        ensures failed { KeepsFiles S.failed self.old self.new }
+        ensures files { (file : OpenFile) → Contains self.new.files file →
+            Contains self.old.files file
+            ⊎ ((names.source.items ≡ file.name.items) × (file.id ≡ id)) }
+    {
+        self.console.put_answered(&names, Reply::Put(Ok(id)), false);
+        let is_file = self.spool.takes_back(names.source.as_slice());
+        self.opened(names, is_file, id);
+    }
+
+    /// Returns how many puts are open.
     fn open_count(&self) -> usize {
         self.files.len().saturating_add(self.puts.len())
     }
@@ -209,7 +239,7 @@ impl<S: Spool, C: Console> Clerk<S, C> {
     }
 }
 
-/// What is wished next, and the file of the spool that it is about.
+/// Returns what is wished next, and the file of the spool that it is about.
 impl<S: Spool, C: Console> Clerk<S, C> {
     /// The next put, if one may be made.
     fn next_put(&mut self, records_left: usize) -> Option<Wish>
@@ -222,7 +252,7 @@ impl<S: Spool, C: Console> Clerk<S, C> {
     {
         if self.stage == Stage::Halted
             || self.open_count() >= self.limits.at_once
-            || records_left <= LEFT_FREE
+            || records_left < LEFT_FREE
             || !self.has_next()
             || !self.console.may_put()
         {
@@ -234,7 +264,7 @@ impl<S: Spool, C: Console> Clerk<S, C> {
         }
     }
 
-    /// Whether a file waits that may be put.
+    /// Returns `true` if a file waits that may be put.
     fn has_next(&mut self) -> bool
         ensures own { self.new.own ≡ self.old.own }
         ensures asked { self.new.asked ≡ self.old.asked }
@@ -245,7 +275,7 @@ impl<S: Spool, C: Console> Clerk<S, C> {
         !self.waiting.is_empty() || self.stage == Stage::Serving && self.spool.has_next()
     }
 
-    /// The put of the next file of the spool, if there is one, and no end was asked for.
+    /// Returns the put of the next file of the spool, if there is one, and if no end was asked for.
     fn next_file(&mut self) -> Option<Wish>
         requires { self.old.asked ≡ None }
         ensures files { self.new.files ≡ self.old.files }
@@ -275,7 +305,7 @@ impl<S: Spool, C: Console> Clerk<S, C> {
         }
     }
 
-    /// A put of these names. Where there is no memory for it, it waits once more.
+    /// Returns a put of these names. If there is no memory for it, it waits once more.
     fn wishes_put(&mut self, names: PutNames) -> Option<Wish>
         requires { self.old.asked ≡ None }
         ensures files { self.new.files ≡ self.old.files }
@@ -301,7 +331,7 @@ impl<S: Spool, C: Console> Clerk<S, C> {
     }
 }
 
-/// The names of a file that is to have its own name at the peer, twice.
+/// Returns the names of a file that keeps its name at the peer: the same name, twice.
 fn file_names(alloc: Global, name: &[u8]) -> Result<(PutNames, PutNames), AllocError>
     ensures { IfOk result (λ both. (both.1.source.items ≡ both.0.source.items)
         × (both.1.destination.items ≡ both.0.source.items)) }
@@ -311,9 +341,9 @@ fn file_names(alloc: Global, name: &[u8]) -> Result<(PutNames, PutNames), AllocE
     Ok((names, wished))
 }
 
-/// What became of a put.
+/// Notes what became of a put.
 impl<S: Spool, C: Console> Clerk<S, C> {
-    /// A put was accepted as this transaction.
+    /// Notes that a put was accepted as this transaction.
     fn opened(&mut self, names: PutNames, is_file: bool, id: TransactionId)
         ensures own { self.new.own ≡ self.old.own }
         ensures asked { self.new.asked ≡ self.old.asked }
@@ -332,7 +362,7 @@ impl<S: Spool, C: Console> Clerk<S, C> {
         }
     }
 
-    /// A put was refused by this cause.
+    /// Notes that a put was refused by this cause.
     fn refused(&mut self, put: &AskedPut, by: PutError)
         ensures own { self.new.own ≡ self.old.own }
         ensures asked { self.new.asked ≡ self.old.asked }
@@ -347,8 +377,8 @@ impl<S: Spool, C: Console> Clerk<S, C> {
         }
     }
 
-    /// A file of the spool wasn't sent: it is given once more if the cause may pass and it wasn't
-    /// tried too often, else it leaves the spool as failed.
+    /// Notes that a file of the spool wasn't sent: it is given once more if the cause may pass and
+    /// it wasn't tried too often, otherwise it leaves the spool as failed.
     fn gives_up(&mut self, name: &[u8], may_pass: bool)
         ensures own { self.new.own ≡ self.old.own }
         ensures asked { self.new.asked ≡ self.old.asked }
@@ -368,7 +398,7 @@ impl<S: Spool, C: Console> Clerk<S, C> {
         }
     }
 
-    /// The put of a file is complete: it leaves the spool.
+    /// Notes that the put of a file is complete: it leaves the spool.
     fn completes(&mut self, name: &[u8])
         ensures own { self.new.own ≡ self.old.own }
         ensures asked { self.new.asked ≡ self.old.asked }
@@ -381,7 +411,7 @@ impl<S: Spool, C: Console> Clerk<S, C> {
         self.console.ends_file(name, Outcome::Sent);
     }
 
-    /// The open file of this transaction, which isn't open from now on.
+    /// Returns the open file of this transaction, which isn't open from now on.
     fn take_file(&mut self, id: TransactionId) -> Option<OpenFile>
         ensures own { self.new.own ≡ self.old.own }
         ensures asked { self.new.asked ≡ self.old.asked }
@@ -394,7 +424,7 @@ impl<S: Spool, C: Console> Clerk<S, C> {
         if file.id == id { Some(file) } else { None }
     }
 
-    /// A transaction is over: whether its file was delivered, and whether a fault may pass.
+    /// Notes that a transaction is over: if its file was delivered, and if a fault may pass.
     fn over(&mut self, id: TransactionId, is_complete: bool, may_pass: bool)
         ensures own { self.new.own ≡ self.old.own }
         ensures asked { self.new.asked ≡ self.old.asked }
@@ -410,7 +440,7 @@ impl<S: Spool, C: Console> Clerk<S, C> {
         }
     }
 
-    /// The put of a file is over.
+    /// Notes that the put of a file is over.
     fn leaves(&mut self, file: &OpenFile, is_complete: bool, may_pass: bool)
         ensures own { self.new.own ≡ self.old.own }
         ensures asked { self.new.asked ≡ self.old.asked }
@@ -428,7 +458,7 @@ impl<S: Spool, C: Console> Clerk<S, C> {
         }
     }
 
-    /// Metadata of a file came: if it is too long, it must be cancelled.
+    /// Notes that Metadata of a file came: if it is too long, it must be cancelled.
     fn comes(&mut self, id: TransactionId, size: u64)
         ensures { self.new ≡ self.old }
     {
@@ -437,14 +467,48 @@ impl<S: Spool, C: Console> Clerk<S, C> {
         }
     }
 
-    /// Refuses, once before each turn, the files that are received and beyond the limits.
+    /// Refuses, once before each turn, the files that are received and beyond the limits, and those
+    /// that must be given up.
     fn looks<O: Outbox, I: Inbox>(&mut self, station: &Station<O, I>)
         ensures { self.new ≡ self.old }
     {
-        if !self.has_looked && self.limits.limit_files() {
-            refuse_beyond(&self.limits, station, &mut self.refused);
+        if self.has_looked {
+            return;
         }
         self.has_looked = true;
+        if self.limits.limit_files() {
+            refuse_beyond(&self.limits, station, &mut self.refused);
+        }
+        if self.limits.most_open == 0 {
+            refuse_silent(self.alloc, station, &mut self.refused);
+        }
+        self.looks_at_memory(station);
+    }
+
+    /// Gives up the file that takes the most memory, if memory is short.
+    fn looks_at_memory<O: Outbox, I: Inbox>(&mut self, station: &Station<O, I>)
+        ensures { self.new ≡ self.old }
+    {
+        let gaps = GapCount::of(station);
+        let dropped = station.drops(EntityDrop::NoMemory);
+        let is_short = self.is_short
+            || gaps.lacks_memory(self.dropped, dropped, self.limits.most_gaps);
+        self.is_short = false;
+        self.dropped = dropped;
+        self.given_up = gaps.given_up(is_short);
+        if let Some(id) = self.given_up {
+            self.console.gives_up(id);
+        }
+    }
+
+    /// Takes the next file that must be cancelled.
+    fn next_refused(&mut self) -> Option<TransactionId>
+        ensures { self.new ≡ self.old }
+    {
+        match self.given_up.take() {
+            Some(id) => Some(id),
+            None => self.refused.pop(),
+        }
     }
 }
 
@@ -468,14 +532,14 @@ fn refuse_beyond<O: Outbox, I: Inbox>(
     }
 }
 
-/// Takes a transaction from a list, where it stands there.
+/// Takes a transaction from a list, if it stands there.
 fn forget_id(ids: &mut Vec<TransactionId>, id: TransactionId) {
     if let Some(place) = ids.iter().position(|other| *other == id) {
         let _ = ids.remove(place);
     }
 }
 
-/// Whether a put that was refused by this cause may be accepted later.
+/// Returns `true` if a put that was refused by this cause may be accepted later.
 fn may_pass_refusal(by: PutError) -> bool {
     match by {
         PutError::TableFull | PutError::SourceFault | PutError::NoMemory => true,
@@ -484,7 +548,7 @@ fn may_pass_refusal(by: PutError) -> bool {
     }
 }
 
-/// The conditions of transactions that may end otherwise when they are tried once more: a limit was
+/// The conditions of transactions that may end otherwise if they are tried once more: a limit was
 /// reached, the peer was silent, its disk was full, or the file changed or was damaged on its way.
 /// An octet that was damaged in a PDU may also give the file another length or checksum type.
 const MAY_PASS: [Condition; 9] = [
@@ -499,7 +563,8 @@ const MAY_PASS: [Condition; 9] = [
     Condition::UNSUPPORTED_CHECKSUM_TYPE,
 ];
 
-/// Whether the entity `own` is told by this that this transaction, which it sends, is complete.
+/// Returns `true` if this indicates to the entity `own` that this transaction, which it sends, is
+/// complete.
 fn is_completion(own: u64, id: TransactionId, indication: &Indication) -> bool
     ensures complete { IsTrue result → Completes own id indication.now }
     ensures all { Completes own id indication.now → IsTrue result }
@@ -516,7 +581,7 @@ fn is_completion(own: u64, id: TransactionId, indication: &Indication) -> bool
 }
 
 impl Stage {
-    /// The stage once it was told to stop.
+    /// Returns the stage after the station was asked to stop.
     fn stopped(self) -> Stage {
         match self {
             Stage::Serving => Stage::Stopping(0),
@@ -532,7 +597,7 @@ impl<S: Spool, C: Console> User for Clerk<S, C> {
         self.looks(station);
         self.asked = None;
         self.is_drained = station.next_lane().is_none();
-        if let Some(id) = self.refused.pop() {
+        if let Some(id) = self.next_refused() {
             return Some(Wish::Change(id, Request::Cancel));
         }
         match self.commanded(station) {
@@ -593,6 +658,10 @@ impl<S: Spool, C: Console> User for Clerk<S, C> {
             Stage::Stopping(_) => Intent::GoOn,
             Stage::Serving | Stage::Halted => Intent::End,
         }
+    }
+
+    fn runs_short(&mut self) {
+        self.is_short = true;
     }
 
     fn ends<O: Outbox, I: Inbox>(&mut self, station: &Station<O, I>) {

@@ -1,4 +1,4 @@
-//! Where an operator stands.
+//! A console, at which an operator stands.
 ghost use Rattle.cfdp_service.specs.Calls.{ConsoleCall, Gives, Heard, Replied, Tells};
 
 use crate::wish::{PutNames, Reply};
@@ -10,7 +10,7 @@ use cfdp_store::{Inbox, Outbox};
 /// What an operator says to a station that runs, as far as it changes what the station does.
 #[derive(Drop)]
 pub enum Command {
-    /// To send a file: ahead of all others that wait where `is_first`, else behind them.
+    /// To send a file: before all others that wait if `is_first`, otherwise after them.
     Put { names: PutNames, is_first: bool },
     /// To change a transaction.
     Change(TransactionId, Request),
@@ -27,17 +27,18 @@ pub enum Outcome {
     Sent,
     /// It couldn't be sent.
     Failed,
-    /// It is to be sent once more.
+    /// It must be sent once more.
     PutBack,
 }
 
-/// Where an operator stands: it brings commands, and what the station does is told there.
+/// A console, at which an operator stands: it brings commands, and the station's events are
+/// reported there.
 pub trait Console: Drop {
     /// What a call may do, as with [`User`](crate::User).
     ghost steps: { Self → ConsoleCall → Self → Type 0 } = { λ _ _ _. Unit {0} };
 
-    /// The next command that came; `None` where none has. It is lent the station, and told how many
-    /// files wait for their put, so that it answers questions of the operator by itself.
+    /// Returns the next command that came; `None` if none has. It borrows the station, and is given
+    /// how many files wait for their put, so that it answers questions of the operator by itself.
     fn next<O: Outbox, I: Inbox>(
         &mut self,
         station: &Station<O, I>,
@@ -45,16 +46,20 @@ pub trait Console: Drop {
     ) -> Option<Command>
         ensures { steps self.old (Gives result) self.new };
 
-    /// Whether one put more may be made: the number of its transaction is reserved.
+    /// Returns `true` if one put more may be made: the number of its transaction is reserved.
     fn may_put(&mut self) -> bool;
 
-    /// Hears that a put of these names was answered so. `is_again` where the file was put before.
+    /// Hears that a put of these names was answered so. `is_again` if the file was put before.
     fn put_answered(&mut self, names: &PutNames, reply: Reply, is_again: bool)
         ensures { steps self.old (Replied reply) self.new };
 
     /// Hears how the change of a transaction was answered that was commanded last.
     fn change_answered(&mut self, reply: Reply)
         ensures { steps self.old (Replied reply) self.new };
+
+    /// Hears that the file of this transaction is given up, since memory is short and no other file
+    /// that is received takes more.
+    fn gives_up(&mut self, id: TransactionId);
 
     /// Hears what the station indicates.
     fn hears(&mut self, indication: &Indication)
@@ -64,9 +69,9 @@ pub trait Console: Drop {
     fn ends_file(&mut self, name: &[u8], outcome: Outcome)
         ensures { steps self.old Tells self.new };
 
-    /// Hears that the station has ended, which it is lent for the last time.
+    /// Hears that the station has ended, which it borrows for the last time.
     fn ends<O: Outbox, I: Inbox>(&mut self, station: &Station<O, I>);
 
-    /// Whether what it is told can't be written any more: the station ends.
+    /// Returns `true` if what it hears can't be written any more: the station must end.
     fn has_failed(&self) -> bool;
 }

@@ -17,9 +17,9 @@ pub fn what_is_sent_was_heard_complete<S: Spool>()
         → Contains (S.sent old.spool) name ⊎ IsDelivered old.own calls name }
 {}
 
-/// Whatever a station that serves a clerk did, over any wire: each file that left the spool as sent
-/// was put, and the station was told that it is complete. What that means for the peer, the promise
-/// of delivery says.
+/// Whatever a station that serves a clerk did, over any wire: if a file left the spool as sent, it
+/// was put, and it was indicated to the station that it is complete. What that means for the peer,
+/// the promise of delivery says.
 pub fn what_is_sent_was_told_complete<S: Spool, W: Wire>()
     ensures { (short : Bool) (calls : List UserCall) (first last : PortState W)
         (old new : ClerkState S) → Serves W.steps short calls first last

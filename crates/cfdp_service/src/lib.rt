@@ -11,6 +11,7 @@
 
 mod clerk;
 mod console;
+mod giving_up;
 mod laws;
 mod running;
 mod serving;
@@ -22,7 +23,7 @@ mod wish;
 pub use clerk::{Clerk, ClerkLimits};
 pub use console::{Command, Console, Outcome};
 pub use laws::{what_is_sent_was_heard_complete, what_is_sent_was_told_complete};
-pub use running::{Ended, ServiceEnds, ServiceOptions, run};
+pub use running::{Ended, ServiceEnds, ServiceOptions, run, run_restored};
 pub use serving::serve;
 pub use spool::{NoSpool, Spool};
 pub use user::{Intent, User};

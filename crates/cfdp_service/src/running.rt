@@ -1,5 +1,5 @@
 //! A whole service: a station is made, and serves its user to the end.
-ghost use Rattle.std.specs.Prelude.{◌≡◌, List, IfOk};
+ghost use Rattle.std.specs.Prelude.{◌≡◌, List, IfNone, IfOk, IfSome};
 ghost use Rattle.cfdp_port.specs.Port.{table_of};
 ghost use Rattle.cfdp_service.specs.Calls.{Chain, UserCall};
 ghost use Rattle.cfdp_service.specs.Serving.{Ran, Serves, has_failed};
@@ -18,7 +18,7 @@ pub struct ServiceOptions {
     pub config: Valid<StationConfig>,
     /// The count of its first frame in either lane, modulo 2^28.
     pub frame_count: u32,
-    /// What it is to one who looks on.
+    /// Which side it is to one who looks on.
     pub side: Side,
 }
 
@@ -33,9 +33,9 @@ pub struct ServiceEnds<O: SeekingOutbox, I: Inbox, W: PeerWire> {
 /// How a service ended.
 #[derive(Clone, Copy)]
 pub struct Ended {
-    /// Whether memory was wanting for a turn, which ended it.
+    /// `true` if there was no memory for 100 turns in a row, which ended it.
     pub is_short: bool,
-    /// Whether the outbox or the inbox failed.
+    /// `true` if the outbox or the inbox failed.
     pub has_failed: bool,
 }
 
@@ -43,7 +43,7 @@ pub struct Ended {
 ///
 /// # Errors
 ///
-/// `AllocError` where there is no memory for the station: nothing was asked of its user.
+/// `AllocError` if there is no memory for the station: nothing was asked of its user.
 pub fn run<O: SeekingOutbox, I: Inbox, W: PeerWire, U: User, L: Lookout>(
     alloc: Global,
     options: ServiceOptions,
@@ -68,7 +68,26 @@ pub fn run<O: SeekingOutbox, I: Inbox, W: PeerWire, U: User, L: Lookout>(
     Ok(ended)
 }
 
-/// Has a station that did nothing yet serve its user.
+/// Has a station serve its user as [`run`] does, on which what an earlier run left open was restored.
+/// Returns `None`, and does nothing, if the station has discarded an indication by now.
+pub fn run_restored<O: SeekingOutbox, I: Inbox, W: PeerWire, U: User, L: Lookout>(
+    port: &mut Port<O, I, W>,
+    user: &mut U,
+    lookout: &mut L,
+) -> Option<Ended>
+    ensures serves { IfSome result (λ ended. (calls : List UserCall)
+        × Serves W.steps ended.is_short calls port.old port.new
+        × Chain U.steps calls user.old user.new
+        × (ended.has_failed ≡ has_failed port.old.station port.new.station)) }
+    ensures none { IfNone result ((port.new ≡ port.old) × (user.new ≡ user.old)) }
+{
+    if port.station().indications_gone() > 0 {
+        return None;
+    }
+    Some(run_port(port, user, lookout))
+}
+
+/// Has a station serve its user. It must have done nothing yet.
 fn run_port<O: SeekingOutbox, I: Inbox, W: PeerWire, U: User, L: Lookout>(
     port: &mut Port<O, I, W>,
     user: &mut U,

@@ -1,5 +1,6 @@
 //! A station that serves its user over a wire, in turns.
-ghost use Rattle.std.specs.Prelude.{◌≡◌, ◌≢◌, ◌++◌, ◌≤◌, ◌&&◌, not, Bool, List, [], ◌∷◌, false};
+ghost use Rattle.std.specs.Prelude.{◌≡◌, ◌≢◌, ◌++◌, ◌<◌, ◌≤◌, ◌&&◌, ℕ, not, Bool, List, [], ◌∷◌};
+ghost use Rattle.std.specs.Prelude.{false};
 ghost use Rattle.std.specs.Prelude.{length};
 ghost use Rattle.std.specs.Prelude.{map, is_err, OnOk};
 ghost use Rattle.cfdp_port.specs.Gains.{Gains};
@@ -7,7 +8,7 @@ ghost use Rattle.cfdp_port.specs.Port.{AtStation, table_of};
 ghost use Rattle.cfdp_service.specs.Calls.{Chain, Hears, Intends, UserCall};
 ghost use Rattle.cfdp_service.specs.Serving.{AsksToEnd, Does, HearsGone, Obeys, Prepares};
 ghost use Rattle.cfdp_service.specs.Serving.{PutsFile, Run, Serves, TakesTurns, is_done, once_told};
-ghost use Rattle.cfdp_service.specs.Serving.{said_by};
+ghost use Rattle.cfdp_service.specs.Serving.{TakesSome, lacking_after, said_by};
 
 use crate::user::{Intent, User};
 use crate::wish::{PutNames, Reply, Wish};
@@ -23,17 +24,21 @@ const MOST_WISHES: u32 = 4096;
 /// The most turns: those of more than 300 years, if one takes ten microseconds.
 const MOST_TURNS: u64 = 1_000_000_000_000_000;
 
-/// Serves a user: does what it wishes, takes turns, and tells it what the station indicates.
+/// How many turns in a row may lack memory. After so many it gives up.
+const MOST_LACKING: u32 = 100;
+
+/// Serves a user: does what it wishes, takes turns, and lets it hear what the station indicates.
 ///
-/// In a turn the station takes what came, is told the time, and sends. Before each turn the user is
-/// asked what it wishes until that is nothing, at most 4,096 times, and each wish is done and
-/// answered; it hears what the station indicated, and that is let go, and so are the transactions
-/// that are over. Turns end where the user intends to halt; or where it intends to end, all
-/// transactions of the station are closed, and the wire is silent.
+/// In a turn the station takes what came, is given the time, and sends. Before each turn the user
+/// is asked what it wishes until that is nothing, at most 4,096 times, and each wish is done and
+/// answered; it hears what the station indicated, and that is discarded, and so are the
+/// transactions that are over. Turns end if the user intends to halt; or if it intends to end, all
+/// transactions of the station are closed, and the wire is silent. If there was no memory for all
+/// of a turn, the user hears that, and the next turn is taken.
 ///
 /// # Errors
 ///
-/// `AllocError` where memory was wanting for a turn, which ends it.
+/// `AllocError` if there was no memory for 100 turns in a row.
 pub fn serve<O: SeekingOutbox, I: Inbox, W: PeerWire, U: User, L: Lookout>(
     port: &mut Port<O, I, W>,
     user: &mut U,
@@ -55,19 +60,20 @@ pub fn serve<O: SeekingOutbox, I: Inbox, W: PeerWire, U: User, L: Lookout>(
 ///
 /// # Errors
 ///
-/// `AllocError` where memory was wanting for a turn, which ends it.
+/// `AllocError` if there was no memory for 100 turns in a row.
 fn serve_turns<O: SeekingOutbox, I: Inbox, W: PeerWire, U: User, L: Lookout>(
     port: &mut Port<O, I, W>,
     user: &mut U,
     lookout: &mut L,
 ) -> Result<(), AllocError>
     requires { (table_of port.old.station).gone ≡ 0 }
-    ensures { (calls : List UserCall)
-        × TakesTurns W.steps (is_err result) (record { port = port.old; calls = [] })
-        (record { port = port.new; calls = calls })
+    ensures { (calls : List UserCall) × (lacking : ℕ)
+        × TakesTurns W.steps (is_err result) (record { port = port.old; calls = []; lacking = 0 })
+        (record { port = port.new; calls = calls; lacking = lacking })
         × Chain U.steps calls user.old user.new
         × HearsGone calls (table_of port.new.station) }
 {
+    let mut lacking = 0u32;
     for before in 0..MOST_TURNS {
         prepare(port, user, lookout);
         let intent = user.intends();
@@ -75,15 +81,44 @@ fn serve_turns<O: SeekingOutbox, I: Inbox, W: PeerWire, U: User, L: Lookout>(
             return Ok(());
         }
         lookout.begins(before + 1);
-        match port.turn(lookout) {
-            Ok(()) => {}
-            Err(AllocError) => return Err(AllocError),
+        let is_short = take_turn(port, user, lookout);
+        lacking = lacking_after(is_short, lacking);
+        if lacking >= MOST_LACKING {
+            return Err(AllocError);
         }
     }
     Ok(())
 }
 
-/// Does what the user wishes, tells it what the station indicated, and lets go of that and of the
+/// Takes a turn. Returns `true` if there was no memory for all of it, which the user hears.
+fn take_turn<O: SeekingOutbox, I: Inbox, W: PeerWire, U: User, L: Lookout>(
+    port: &mut Port<O, I, W>,
+    user: &mut U,
+    lookout: &mut L,
+) -> bool
+    ensures turn { TakesSome W.steps result port.old port.new }
+    ensures gains { Gains (table_of port.old.station) (table_of port.new.station) }
+    ensures user { user.new ≡ user.old }
+{
+    match port.turn(lookout) {
+        Ok(()) => false,
+        Err(AllocError) => {
+            user.runs_short();
+            true
+        }
+    }
+}
+
+/// Returns how many turns in a row lacked memory, if this many did before one more was taken.
+fn lacking_after(is_short: bool, before: u32) -> u32
+    requires { before < 100 }
+    ensures after { result ≡ lacking_after is_short before }
+    ensures few { result ≤ 100 }
+{
+    if is_short { before + 1 } else { 0 }
+}
+
+/// Does what the user wishes, lets it hear what the station indicated, and discards that and the
 /// transactions that are over.
 fn prepare<O: SeekingOutbox, I: Inbox, W: PeerWire, U: User, L: Lookout>(
     port: &mut Port<O, I, W>,
@@ -158,8 +193,8 @@ fn put_file<O: SeekingOutbox, I: Inbox, W: PeerWire, L: Lookout>(
     }
 }
 
-/// Whether it is over: at once where the user intends that; else where it has all that it wished
-/// for, all transactions are closed, and the wire has been silent for long enough.
+/// Returns `true` if it is over: at once if the user intends that; otherwise if it has all that it
+/// wished for, all transactions are closed, and the wire has been silent for long enough.
 fn is_over<O: Outbox, I: Inbox, W: PeerWire>(port: &mut Port<O, I, W>, intent: Intent) -> bool
     ensures over { AsksToEnd W.steps intent result port.old.station port.old.wire port.new.wire }
     ensures station { port.new.station ≡ port.old.station }
@@ -177,9 +212,9 @@ fn is_over<O: Outbox, I: Inbox, W: PeerWire>(port: &mut Port<O, I, W>, intent: I
     }
 }
 
-/// Tells the user what the station indicated, and lets that go. Who looks on gives way before that,
-/// where there is something. Where 64 bits don't count what was indicated any more, nothing more is
-/// told.
+/// Lets the user hear what the station indicated, and discards that. Who looks on gives way before
+/// that, if there is something. If 64 bits don't count what was indicated any more, nothing more is
+/// reported.
 fn tell<O: Outbox, I: Inbox, W: Wire, U: User, L: Lookout>(
     port: &mut Port<O, I, W>,
     user: &mut U,
@@ -204,7 +239,7 @@ fn tell<O: Outbox, I: Inbox, W: Wire, U: User, L: Lookout>(
     port.forget_indications(count);
 }
 
-/// Tells the user each of these indications.
+/// Lets the user hear each of these indications.
 fn hear_each<U: User>(user: &mut U, all: &[cfdp_directives::Indication])
     ensures { Chain U.steps (map Hears all.now) user.old user.new }
 {

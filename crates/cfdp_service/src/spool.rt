@@ -3,38 +3,44 @@ ghost use Rattle.std.specs.Prelude.{◌≡◌, ◌++◌, ◌∷◌, [], ℕ, Lis
 
 use past::Past;
 
-/// A place in which files wait to be sent, each under the name that it is to have at the peer. A
-/// file that was given stays there until its sending is over.
+/// A place in which files wait, each under the name that it must have at the peer. A
+/// file that was given must stay there until its sending is over.
 pub trait Spool: Drop {
-    /// The names of the files that have left it as sent, in that order.
+    /// Returns the names of the files that have left it as sent, in that order.
     ghost sent: { Self → List (List ℕ) };
 
-    /// The names of the files that have left it as failed, in that order.
+    /// Returns the names of the files that have left it as failed, in that order.
     ghost failed: { Self → List (List ℕ) };
 
-    /// Whether a file waits: `next` gives its name then.
+    /// Returns `true` if a file waits: `next` gives its name then.
     fn has_next(&mut self) -> bool
         ensures sent { sent self.new ≡ sent self.old }
         ensures failed { failed self.new ≡ failed self.old };
 
-    /// The name of the next file that is to be sent; `None` where none waits. Each file that lies
-    /// there is given once, and once more after it was put back.
+    /// Returns the name of the next file to send; `None` if none waits. Each file that lies
+    /// there is given once, and once more if it was put back.
     fn next(&mut self) -> Option<Vec<u8>>
         ensures sent { sent self.new ≡ sent self.old }
         ensures failed { failed self.new ≡ failed self.old };
 
-    /// The file of this name, which was given, lies at the peer: it leaves the spool as sent.
+    /// Takes the file of this name as given, if it lies there: an earlier run began to send it.
+    /// Returns `true` if it does.
+    fn takes_back(&mut self, name: &[u8]) -> bool
+        ensures sent { sent self.new ≡ sent self.old }
+        ensures failed { failed self.new ≡ failed self.old };
+
+    /// Removes the file of this name as sent: it must have been given, and lies at the peer.
     fn sent(&mut self, name: &[u8])
         ensures sent { sent self.new ≡ sent self.old ++ (name.now ∷ []) }
         ensures failed { failed self.new ≡ failed self.old };
 
-    /// The file of this name, which was given, couldn't be sent: it leaves the spool as failed.
+    /// Removes the file of this name as failed: it must have been given, and couldn't be sent.
     fn failed(&mut self, name: &[u8])
         ensures sent { sent self.new ≡ sent self.old }
         ensures failed { failed self.new ≡ failed self.old ++ (name.now ∷ []) };
 
-    /// The file of this name, which was given, is to be given once more: its sending failed for a
-    /// cause that may pass.
+    /// Puts the file of this name back, to give it once more: it must have been given, and its
+    /// sending failed for a cause that may pass.
     fn put_back(&mut self, name: &[u8])
         ensures sent { sent self.new ≡ sent self.old }
         ensures failed { failed self.new ≡ failed self.old };
@@ -48,7 +54,7 @@ pub struct NoSpool {
 }
 
 impl NoSpool {
-    /// Nothing has left it.
+    /// Returns a spool that nothing has left.
     pub fn new() -> NoSpool
         ensures sent { result.sent ≡ [] }
         ensures failed { result.failed ≡ [] }
@@ -71,6 +77,10 @@ impl Spool for NoSpool {
 
     fn next(&mut self) -> Option<Vec<u8>> {
         None
+    }
+
+    fn takes_back(&mut self, _name: &[u8]) -> bool {
+        false
     }
 
     fn sent(&mut self, name: &[u8]) {

@@ -17,14 +17,14 @@ pub struct Tries {
 }
 
 impl Tries {
-    /// None was.
+    /// Returns an empty count.
     pub fn new(alloc: Global) -> Tries {
         Tries {
             tried: Vec::new(alloc),
         }
     }
 
-    /// How often this file was sent once more.
+    /// Returns how often this file was sent once more.
     pub fn count(&self, name: &[u8]) -> u32 {
         match self.place(name) {
             Some(place) => self.tried[place].count,
@@ -32,7 +32,7 @@ impl Tries {
         }
     }
 
-    /// Counts that it is. Without memory it isn't counted, and may be sent more often.
+    /// Counts that it is. If there is no memory, it isn't counted, and may be sent more often.
     pub fn counts(&mut self, alloc: Global, name: &[u8]) {
         if let Some(place) = self.place(name) {
             let tried = &mut self.tried[place];
@@ -49,7 +49,7 @@ impl Tries {
         }
     }
 
-    /// Where it stands.
+    /// Returns its index.
     fn place(&self, name: &[u8]) -> Option<usize>
         ensures { IfSome result (λ place. place < length self.now.tried.items) }
     {

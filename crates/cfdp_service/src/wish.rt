@@ -5,21 +5,21 @@ use cfdp_header::TransactionId;
 use cfdp_station::{PutError, Request, RequestError};
 use std::alloc::{AllocError, Global};
 
-/// A file that is to be sent.
+/// A file that a station must send.
 #[derive(Drop)]
 pub struct PutNames {
     /// Its name in the outbox.
     pub source: Vec<u8>,
-    /// The name under which the peer is to publish it.
+    /// The name under which the peer must publish it.
     pub destination: Vec<u8>,
 }
 
 impl PutNames {
-    /// The same in memory of its own.
+    /// Returns the same file, in memory of its own.
     ///
     /// # Errors
     ///
-    /// `AllocError` where there is none.
+    /// `AllocError` if there is none.
     pub fn copy(&self, alloc: Global) -> Result<PutNames, AllocError>
         ensures { IfOk result (λ copy. (copy.source.items ≡ self.now.source.items)
             × (copy.destination.items ≡ self.now.destination.items)) }
@@ -30,11 +30,11 @@ impl PutNames {
         })
     }
 
-    /// Those of a file that is to have its own name at the peer.
+    /// Returns the names of a file that keeps its name at the peer.
     ///
     /// # Errors
     ///
-    /// `AllocError` where there is no memory for them.
+    /// `AllocError` if there is no memory for them.
     pub fn alike(alloc: Global, name: &[u8]) -> Result<PutNames, AllocError>
         ensures { IfOk result (λ names. (names.source.items ≡ name.now)
             × (names.destination.items ≡ name.now)) }

@@ -23,7 +23,7 @@ might-more s (x ∷ es) e was may = (
 pub right-noted : (s : SpoolState) (e : Done) → IsRight s → May s e → IsRight (noted e s)
 right-noted s e was may = might-more (record s { done = [] }) s.done e was may
 
--- one file more was told to leave
+-- one file more must leave
 abbrev more : Told → SpoolState → SpoolState
 more t s = record s { told = s.told ++ t ∷ [] }
 
@@ -89,12 +89,12 @@ pub are_told-pop : (told : List Told) (xs ys : List Staying) (r : Option Staying
 are_told-pop told xs ys None same were = (subst (AreTold told) same were, tt)
 are_told-pop told xs ys (Some x) same were = (let w : AreTold told (x ∷ ys) = subst (AreTold told) same were in (w.1, w.0))
 
--- one file more was told
+-- one file more must leave
 pub are_told-more : (told : List Told) (t : Told) (xs : List Staying) → AreTold told xs → AreTold (told ++ t ∷ []) xs
 are_told-more told t [] were = tt
 are_told-more told t (x ∷ xs) were = (Contains-append_left told (t ∷ []) _ were.0, are_told-more told t xs were.1)
 
--- ---- the names of those that were told
+-- ---- the names of those that must leave
 
 pub names-same : (way other : Way) (s new : SpoolState) (name : List ℕ) → name_if way other name ≡ None → ToldToLeave name other s new
     → names_told way new.told ≡ names_told way s.told

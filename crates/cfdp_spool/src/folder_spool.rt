@@ -1,5 +1,6 @@
 //! A spool over a folder: files that are put into it are sent.
 ghost use Rattle.std.specs.Prelude.{◌≡◌, [], ◌∷◌, ◌++◌, IfOk, IfSome};
+ghost use Rattle.cfdp_store.specs.Names.{Allows};
 ghost use Rattle.cfdp_spool.specs.Leaving.{GivenAs, OnlyDoes, ToldToLeave, names_told};
 ghost use Rattle.cfdp_spool.specs.declared.folder_spool.place.Way.TheVariants.{Sent, Failed};
 
@@ -12,29 +13,30 @@ mod scan;
 mod stamp;
 
 use cfdp_service::Spool;
+use cfdp_store::NameRule;
 pub use folder::{SpoolFolder, tell_spool};
-pub use notice::{SpoolNews, SpoolNotice, SpoolTeller, StandardErrorTeller};
+pub use notice::{SpoolNews, SpoolNotice, SpoolTeller, StandardErrorTeller, rule_text};
 use place::Way;
 use queue::Queue;
 use std::marker::Model;
 
-/// The exit status where a folder failed.
+/// The exit status if a folder failed.
 const DEVICE: u8 = 3;
 
 /// A spool over a folder. The plain files in it that can be sent are given in the order in which
-/// they were written last, and then in that of their names; a file can be sent whose name is 1 to
-/// 64 of `A-Z a-z 0-9 . _ -`. What has another name, or is no plain file, is left alone, and so is
-/// all whose name begins with a point. So who writes a file writes it as `.NAME`, or in another
-/// folder of the file system, and renames it once it is whole.
+/// they were written last, and then in the order of their names; a file can be sent if a rule
+/// allows its name. What has another name, or is no plain file, is left alone, and so is all whose
+/// name begins with a point. So a writer must write a file as `.NAME`, or in another folder of the
+/// file system, and rename it once it is whole.
 ///
-/// A file that was sent is moved to the folder `.sent` in it, or removed; one that couldn't be is
-/// moved to `.failed`; each in the place of an older one of that name. `.leaving` has what is
-/// between both, and its lock keeps other stations away. Where the system refuses the move, that is
-/// told once, and tried again each second; the file isn't given again meanwhile.
+/// A file that was sent is moved to the folder `.sent` in it, or removed; if it couldn't be sent,
+/// it is moved to `.failed`; each in the place of an older one of that name. `.leaving` has what is
+/// between both, and its lock keeps other stations away. If the system refuses the move, that is
+/// noted once, and tried again each second; the file isn't given again meanwhile.
 ///
 /// A file that came under the name of one that is being sent stays, and is given too. It isn't
 /// moved: its predecessor was gone with that rename. What lies in the folder when the program ends,
-/// however that ends, is given anew by the next start.
+/// however that ends, is given again by the next start.
 ///
 /// The folder is looked through once a second at most, and not before all are given that the last
 /// look found, which are 1,024 at most. No more than 4,096 files are known at a time: those that
@@ -53,24 +55,27 @@ impl<'a, T: SpoolTeller> Model for FolderSpool<'a, T> {
 }
 
 impl<'a, T: SpoolTeller> FolderSpool<'a, T> {
-    /// A spool over this folder, which is there. Files that were sent are removed from it where
-    /// `removes_sent`. Of what an operator has to know `teller` is told.
+    /// Returns a spool over this folder, which must be there. It gives files whose names this rule
+    /// allows. Files that were sent are removed from it if `removes_sent`. What an operator must
+    /// know goes to `teller`.
     ///
     /// # Errors
     ///
-    /// The exit status, where the folder can't be had, or its files can't be moved, which was told
-    /// on standard error.
+    /// The exit status, if the folder can't be had, or its files can't be moved, as standard error
+    /// says then.
     pub fn open(
         rt: &'a HostRuntime,
         path: &str,
+        names: NameRule,
         removes_sent: bool,
         teller: T,
     ) -> Result<FolderSpool<'a, T>, u8>
         ensures path { IfOk result (λ spool. spool.path ≡ path.now) }
+        ensures names { IfOk result (λ spool. spool.names ≡ names) }
         ensures removes { IfOk result (λ spool. spool.removes ≡ removes_sent) }
         ensures told { IfOk result (λ spool. spool.told ≡ []) }
     {
-        match SpoolFolder::take(rt, path, removes_sent) {
+        match SpoolFolder::take(rt, path, names, removes_sent) {
             Ok(folder) => Ok(FolderSpool {
                 queue: Queue::new(rt, folder, teller),
             }),
@@ -100,8 +105,17 @@ impl<'a, T: SpoolTeller> Spool for FolderSpool<'a, T> {
         ensures failed { names_told Failed self.new.told ≡ names_told Failed self.old.told }
         ensures only { OnlyDoes self.old self.new }
         ensures given { IfSome result (λ name. GivenAs name.items self.new) }
+        ensures named { IfSome result (λ name. Allows self.old.names name.items) }
     {
         self.queue.next()
+    }
+
+    fn takes_back(&mut self, name: &[u8]) -> bool
+        ensures sent { names_told Sent self.new.told ≡ names_told Sent self.old.told }
+        ensures failed { names_told Failed self.new.told ≡ names_told Failed self.old.told }
+        ensures only { OnlyDoes self.old self.new }
+    {
+        self.queue.takes_back(name)
     }
 
     fn sent(&mut self, name: &[u8])

@@ -6,4 +6,6 @@
 
 mod folder_spool;
 
-pub use folder_spool::{FolderSpool, SpoolNews, SpoolNotice, SpoolTeller, StandardErrorTeller};
+pub use folder_spool::{
+    FolderSpool, SpoolNews, SpoolNotice, SpoolTeller, StandardErrorTeller, rule_text,
+};

@@ -12,7 +12,7 @@ pub hears_either : {X : Type 0} (r : Result X EntityDrop) (pdu : List ℕ) (old 
 hears_either (Ok x) pdu old new heard dropped = inl heard
 hears_either (Err by) pdu old new heard dropped = inr (by, dropped)
 
--- one is heard, and then those behind it
+-- one is heard, and then those after it
 hears_next : (pdus : List (List ℕ)) (i : ℕ) (pdu : List ℕ) (now next end : Counted) → i < length pdus → pdu ≡ slice_index_or pdus i [] →
     HearsPdu pdu now next → HearsAll (drop (suc i) pdus) next end → HearsAll (drop i pdus) now end
 hears_next [] i pdu now next end inside is one more = absurd (omega arith)

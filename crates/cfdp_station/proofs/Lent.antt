@@ -40,7 +40,7 @@ pub full-by : {E : Type 0} (result : Result Polled E) (old new : Counted) (down 
 full-by (Ok answer) old new down down_now moves shows = full-alone answer old new down down_now moves shows
 full-by (Err error) old new down down_now moves shows = tt
 
--- ---- where the files stand after a poll, it read what they had
+-- ---- if the files stand after a poll, it read what they had
 again : (old new : StationState) → new.entity.state.table.stands ≡ old.entity.state.table.stands → new.entity.state.table.sources ≡ old.entity.state.table.sources → station_lent new old ≡ old
 again old new stands sources = λ i. record old {
   entity = record old.entity { state = record old.entity.state { table = record old.entity.state.table { sources = sources i; stands = stands i } } };

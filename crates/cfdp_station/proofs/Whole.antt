@@ -41,7 +41,7 @@ next-is_whole d Data is = elim (cases_Bool (has_whole d.directives)) [
   | inr e ↦ is_whole d.file_data.link.zone (length d.file_data.waiting) (other_of (has_whole d.file_data) (sym (second d e) ∙ is))
 ]
 
--- where there is none, no whole zone waits in either
+-- if there is none, no whole zone waits in either
 pub none-is_whole : (d : DownState) → frame_lane d ≡ None → (l : Lane) → IsNotWhole (lane_down l d)
 none-is_whole d is Directives = elim (cases_Bool (has_whole d.directives)) [
   | inl e ↦ absurd (let bad : Some Directives ≡ None = sym (first d e) ∙ is in cc)

@@ -24,7 +24,7 @@ pub record HearsSent (link : LinkConfig) (old new : StationState) (last : Lane �
   pub heard : HearsAll pdus old.entity new.entity
   pub down : new.down ≡ old.down
 
--- Octets of which no packet can come were taken: nothing was heard.
+-- Octets were taken from which no packet can come: nothing was heard.
 pub record HearsNone (link : LinkConfig) (old new : StationState)
     (last : Lane → Option Delivery) : Type 0 where
   pub now : Lane → Option Delivery
@@ -33,7 +33,7 @@ pub record HearsNone (link : LinkConfig) (old new : StationState)
   pub entity : new.entity ≡ old.entity
   pub down : new.down ≡ old.down
 
--- Whatever the PDU says is true of a put of the entity `peer`.
+-- Whatever the PDU says must be true of a put of the entity `peer`.
 abbrev pub IsTruthOf : (peer : ℕ) → (TransactionId → Option Put) → List ℕ → Type 0
 IsTruthOf peer put_of pdu =
     (h : Header) (v : Content) → SpellsPdu h v pdu → SaysTruth peer put_of h.id v

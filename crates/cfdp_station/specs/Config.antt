@@ -1,4 +1,4 @@
--- How a station may be set up.
+-- What the configuration of a station must be.
 use Rattle.std.specs.Prelude.{◌≤◌}
 use Rattle.aos_frame.specs.Frame.{IsLink}
 use Rattle.cfdp_entity.specs.Config.{IsConfig}

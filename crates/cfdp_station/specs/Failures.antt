@@ -16,7 +16,7 @@ abbrev pub KeepsOutbox : (old new : Counted) → Type 0
 KeepsOutbox old new =
     (new.outbox_failures ≡ old.outbox_failures) × (old.inbox_failures ≤ new.inbox_failures)
 
--- A put was refused by this cause: a failure of the outbox was counted where that is it.
+-- A put was refused by this cause: if the cause is a failure of the outbox, that was counted.
 abbrev pub CountsPut : PutError → (old new : Counted) → Type 0
 CountsPut by old new =
     (new.outbox_failures ≡ failures_after old.outbox_failures

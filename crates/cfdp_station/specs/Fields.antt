@@ -1,4 +1,4 @@
--- What each field of a configuration has to be, so that a station can be set up so.
+-- What each field of a configuration must be, so that a station can be set up so.
 use Rattle.std.specs.Prelude.{◌≤◌}
 use Rattle.aos_frame.specs.Fields.{FitsLink}
 use Rattle.cfdp_entity.specs.Fields as entity

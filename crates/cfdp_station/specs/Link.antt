@@ -15,7 +15,7 @@ lane_for false = Directives
 abbrev pub next_lane : EntityState → Lane
 next_lane e = lane_for (turn_data (turn e) e)
 
--- Each lane's stream is longer by an idle packet at most; no packet is counted for that.
+-- Each lane's stream is longer by at most an idle packet; if it is, no packet is counted for that.
 pub record FlushesBoth (old new : DownState) : Type 0 where
   pub lanes : (l : Lane) → Flushes (lane_down l old) (lane_down l new)
   pub packet_count : new.packet_count ≡ old.packet_count

@@ -15,6 +15,6 @@ pub record IsNewAt (c : StationConfig) (stands : Bool) (sources files : FileMap)
   pub down : s.down ≡ first_down c.sends c.capacity
   pub up : s.up ≡ first_up c.receives
 
--- One whose files stand.
+-- A new station, if its files stand.
 abbrev pub IsFirstAt : StationConfig → (sources files : FileMap) → StationState → Type 0
 IsFirstAt c sources files s = IsNewAt c true sources files s

@@ -19,7 +19,7 @@ next_pdu e = turn_octets (turn e) e
 abbrev pub next_len : EntityState → ℕ
 next_len e = turn_len (turn e) e
 
--- the room for it: that of its lane
+-- the room for it: its lane's
 abbrev pub next_room : EntityState → DownState → ℕ
 next_room e down = room (lane_down (next_lane e) down)
 
@@ -50,8 +50,8 @@ Moves SourceFailed old new down down_now =
 abbrev pub Polls : Polled → (old new : StationState) → Type 0
 Polls answer old new = Moves answer old.entity new.entity old.down new.down × (new.up ≡ old.up)
 
--- What a poll that answered this has shown of the outbox's files: something only where it moved
--- file data, or was to move them.
+-- What a poll that answered this has shown of the outbox's files: something only if it moved
+-- file data, or would have moved them.
 abbrev pub Shows : Polled → (old new : EntityState) → Type 0
 Shows Moved old new = ShowsIf (turn_data (turn old) old) old.table new.table
 Shows SourceFailed old new = ShowsIf true old.table new.table

@@ -6,7 +6,7 @@ use Rattle.cfdp_entity.specs.declared.error.RequestError.{RequestError}
 use Rattle.cfdp_entity.specs.Requests.{AnswersRequest}
 use Rattle.cfdp_station.specs.Station.{StationState, KeepsLink}
 
--- Its entity answered a request of a transaction: it was accepted, or this is why not, and all is
+-- Its entity answered a request of a transaction: if it wasn't accepted, this is why, and all is
 -- as it was. Both ends of the link are as they were.
 pub record StationAnswers (c : Request) (id : TransactionId)
     (answer : Result (Unit {0}) RequestError) (old new : StationState) : Type 0 where

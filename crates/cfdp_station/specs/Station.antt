@@ -11,7 +11,7 @@ pub record StationState : Type 0 where
   pub down : DownState
   pub up : UpState
 
--- a station before a step that may read a file, but that its outbox has what it has afterwards
+-- a station before a step that may read a file, except that its outbox has what it has afterwards
 abbrev pub station_lent : (now old : StationState) → StationState
 station_lent now old = record old { entity = counted_lent now.entity old.entity }
 

@@ -1,4 +1,4 @@
--- What a frame does that a station takes.
+-- What a frame that a station takes does.
 use Rattle.std.specs.Prelude.{◌≡◌, ◌≤◌, ℕ, ◌⊎◌, List, [], ◌∷◌, length}
 use Rattle.cfd_bits.specs.Field.{field}
 use Rattle.aos_frame.specs.Frame.{other_lane}

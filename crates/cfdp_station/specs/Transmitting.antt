@@ -19,15 +19,15 @@ Times Step zero old new = new ≡ old
 Times {S} Step (suc count) old new = (mid : S) × Times Step count old mid × Step mid new
 
 -- ---- polls
--- More may be due behind a poll that answered so.
+-- More may be due after a poll that answered so.
 abbrev pub IsMore : Polled → Type 0
 IsMore Moved = ⊤
 IsMore SourceFailed = ⊤
 IsMore Nothing = ⊥
 IsMore Full = ⊥
 
--- A station was polled, and answered this. What it read of a file is what its outbox has then; it
--- may have shown other octets than before, and then the files stand no more.
+-- A station was polled, and answered this. What it read of a file is what its outbox has then; if
+-- it showed other octets than before, the files stand no more.
 pub record PollsOnce (answer : Polled) (old new : StationState) : Type 0 where
   pub polls : Polls answer (station_lent new old) new
   pub shows : Shows answer old.entity.state new.entity.state
@@ -52,7 +52,7 @@ FindsNone old new = (frame_lane old.down ≡ None)
 abbrev pub most_polls : ℕ
 most_polls = 8192
 
--- how polls end, and whether that is since a whole frame waits; else nothing is due or has room
+-- how polls end, and `true` if a whole frame waits; otherwise nothing is due or has room
 abbrev pub EndsPolls : (whole : Bool) → (count : ℕ) → (last new : StationState) → Type 0
 EndsPolls true count last new =
     (count < most_polls) × (frame_lane last.down ≢ None) × (new ≡ last)
@@ -74,8 +74,8 @@ pub record FillsDirectives (old new : StationState) : Type 0 where
   pub packet_count : new.down.packet_count ≡ old.down.packet_count
   pub keeps : KeepsRest old new
 
--- What is begun was filled up: directives alone where a whole frame waits, so that none waits for
--- the file data behind it, and else both lanes.
+-- What is begun was filled up: directives alone if a whole frame waits, so that none waits for
+-- the file data after it, otherwise both lanes.
 abbrev pub FillsUp : (whole : Bool) → (old new : StationState) → Type 0
 FillsUp true old new = FillsDirectives old new
 FillsUp false old new = FlushesBoth old.down new.down × KeepsRest old new
@@ -108,7 +108,7 @@ abbrev pub Gives : Option Lane → (frame : List ℕ) → (old new : StationStat
 Gives (Some lane) frame old new = GivesFrame lane frame old new
 Gives None frame old new = (frame_lane old.down ≡ None) × (new ≡ old)
 
--- A station was polled for its next frame, and gave it; or there was none.
+-- A station was polled for its next frame, and gave it, if there was one.
 pub record Transmits (answer : Option Lane) (frame : List ℕ) (old new : StationState) : Type 0 where
   pub pulled : StationState
   pub pulls : Pulls old pulled

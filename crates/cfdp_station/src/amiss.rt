@@ -1,4 +1,4 @@
-// Which field of a configuration isn't as it has to be.
+// Which field of a configuration isn't as it must be.
 ghost use Rattle.cfdp_station.specs.Config.{IsStationConfig};
 ghost use Rattle.cfdp_station.specs.Fields.{Fits};
 
@@ -8,16 +8,16 @@ use cfdp_entity::EntityField;
 use thiserror::Error;
 use valid_config::Config;
 
-/// A field of a [`StationConfig`](crate::StationConfig) that isn't as it has to be.
+/// A field of a [`StationConfig`](crate::StationConfig) that isn't as it must be.
 #[derive(Clone, Copy, Debug, PartialEq, Eq, Error)]
 pub enum StationField {
-    /// One of its entity.
+    /// A field of its entity.
     #[error("{0}")]
     Entity(EntityField),
-    /// One of the frames that it sends.
+    /// A field of the frames that it sends.
     #[error("frames sent: {0}")]
     Sends(LinkField),
-    /// One of the frames that it receives.
+    /// A field of the frames that it receives.
     #[error("frames received: {0}")]
     Receives(LinkField),
     /// The most octets of packets that may wait in each lane.

@@ -8,13 +8,13 @@ use link_stack::LinkConfig;
 
 /// The least and the most octets of packets that may wait in a lane.
 pub const LEAST_CAPACITY: usize = 8192;
-/// See [`LEAST_CAPACITY`].
+/// The most octets, see [`LEAST_CAPACITY`].
 pub const MOST_CAPACITY: usize = 65536;
 
-/// How many octets of packets may wait in a lane where nothing else is set.
+/// How many octets of packets may wait in a lane if nothing else is set.
 pub const DEFAULT_CAPACITY: usize = 16_384;
 
-/// How a station is set up: its entity, and both directions of its link. It is valid where these
+/// How a station is set up: its entity, and both directions of its link. It is valid only if these
 /// are and the capacity is in its range.
 #[derive(Clone, Copy, Debug, PartialEq, Eq)]
 pub struct StationConfig {
@@ -24,13 +24,13 @@ pub struct StationConfig {
     pub sends: LinkConfig,
     /// The frames that it receives: what its peer has as `sends`.
     pub receives: LinkConfig,
-    /// The most octets of packets that may wait in each lane to be made frames: 8,192 to 65,536.
+    /// The most octets of packets that may wait in each lane: 8,192 to 65,536.
     pub capacity: usize,
 }
 
 impl StationConfig {
-    /// A station with this entity, which sends and receives such frames, where 16,384 octets of
-    /// packets may wait in each lane.
+    /// Returns the configuration of a station with this entity, which sends and receives such
+    /// frames; 16,384 octets of packets may wait in each lane.
     pub fn new(entity: EntityConfig, sends: LinkConfig, receives: LinkConfig) -> StationConfig
         ensures valid { IsConfig entity → IsLink sends → IsLink receives → IsStationConfig result }
         ensures is { result ≡ record {

@@ -36,7 +36,7 @@ pub struct FrameDrops {
     pub segmented: u64,
     /// There was no memory for what the zone holds.
     pub no_memory: u64,
-    /// Its check tells that it was damaged on the way.
+    /// Its check says that it was damaged on the way.
     pub damaged: u64,
 }
 
@@ -90,7 +90,7 @@ pub struct Counters {
 }
 
 impl<O: Outbox, I: Inbox> Station<O, I> {
-    /// All that it counts: what it sent, and what was dropped of what it took.
+    /// Returns all that it counts: what it sent, and what was dropped of what it took.
     pub fn counters(&self) -> Counters
         ensures { result ≡ counts.counters self.now }
     {
@@ -143,7 +143,7 @@ impl<O: Outbox, I: Inbox> Station<O, I> {
         }
     }
 
-    // How often a PDU was dropped for its header.
+    // Returns how often a PDU was dropped for its header.
     fn bad_headers(&self, by: HeaderError) -> u64
         ensures { result ≡ counts.pdu_count (counts.by_header by) self.now }
     {

@@ -1,4 +1,4 @@
-//! What a user lets go, so that a station can stay up: its memory then follows what is open.
+//! What a user discards, so that a station can stay up: its memory then follows what is open.
 ghost use Rattle.std.specs.Prelude.{◌≡◌, IfErr, OnOk, OnErr};
 ghost use Rattle.std.specs.FinMap as map;
 ghost use Rattle.std.specs.Option.{option_map};
@@ -17,13 +17,14 @@ use cfdp_store::{Inbox, MemoryInbox, Outbox};
 use std::alloc::AllocError;
 
 impl<O: Outbox, I: Inbox> Station<O, I> {
-    /// Lets go of the record of a transaction that is over, so that there is room for another. It
-    /// is never opened again: an EOF or a Finished that still comes of it is acknowledged by what
+    /// Discards the record of a transaction that is over, so that there is room for another. It
+    /// is never opened again: if an EOF or a Finished of it still comes, it is acknowledged by what
     /// it says, and anything else is passed over.
     ///
     /// # Errors
     ///
-    /// The first cause that holds, in the order of [`ForgetError`]; nothing changed then.
+    /// The first cause that holds, if one does, in the order of [`ForgetError`]; nothing changed
+    /// then.
     pub fn forget(&mut self, id: TransactionId) -> Result<(), ForgetError>
         ensures forgot { OnOk result (Forgets id self.old.entity.state self.new.entity.state) }
         ensures refused { IfErr result (IsForgetRefusal (forget_refusal id
@@ -36,18 +37,18 @@ impl<O: Outbox, I: Inbox> Station<O, I> {
         self.entity.forget(id)
     }
 
-    /// Whether the record of a transaction was let go.
+    /// Returns `true` if the record of a transaction was discarded.
     pub fn was_forgotten(&self, id: TransactionId) -> bool
         ensures { result ≡ entities.is_forgotten self.now.entity.state id }
     {
         self.entity.was_forgotten(id)
     }
 
-    /// Lets go of the records of all transactions that are over and owe no acknowledgement.
+    /// Discards the records of all transactions that are over and must send no acknowledgement.
     ///
     /// # Errors
     ///
-    /// `AllocError` where there was no memory to note that one of them is over. Some others may
+    /// `AllocError` if there was no memory to note that one of them is over. Some others may
     /// have gone by then.
     pub fn forget_closed(&mut self) -> Result<(), AllocError>
         ensures some { ForgetsSome self.old.entity.state self.new.entity.state }
@@ -59,8 +60,8 @@ impl<O: Outbox, I: Inbox> Station<O, I> {
         self.entity.forget_closed()
     }
 
-    /// Lets the first so many indications go of those that are left, or all where there are fewer.
-    /// 2^64 - 1 indications can go in all: more stay.
+    /// Discards the first so many indications of those that are left, or all if there are fewer.
+    /// 2^64 - 1 indications can be discarded in all: more stay.
     pub fn forget_indications(&mut self, count: usize)
         ensures gone { self.new.entity ≡ record self.old.entity {
           state = with_table self.old.entity.state
@@ -71,12 +72,12 @@ impl<O: Outbox, I: Inbox> Station<O, I> {
         self.entity.forget_indications(count);
     }
 
-    /// Takes the first indication that is left, and lets it go. That moves the others up: where
-    /// many are left, read [`indications`](Self::indications) and let all go at once by
+    /// Takes the first indication that is left, and discards it. That moves the others up: if
+    /// many are left, read [`indications`](Self::indications) and discard all at once by
     /// [`forget_indications`](Self::forget_indications).
     ///
     /// ```
-    /// while let Some(told) = station.next_indication() {
+    /// while let Some(indication) = station.next_indication() {
     ///     // What became of a transaction.
     /// }
     /// ```
@@ -92,7 +93,7 @@ impl<O: Outbox, I: Inbox> Station<O, I> {
 }
 
 impl<O: Outbox> Station<O, MemoryInbox> {
-    /// Removes a published file from the inbox, if there is one of that name, and answers its
+    /// Removes a published file from the inbox, if there is one of that name, and returns its
     /// octets. Nothing else changes: not what is still received, nor what was indicated.
     pub fn remove_file(&mut self, name: &[u8]) -> Option<Vec<u8>>
         ensures octets { option_map (λ octets. octets.items) result

@@ -20,8 +20,8 @@ use link_stack::a_frame_gives_what_was_sent;
 /// A station hears PDUs that were sent, and no others, in whatever order and however often the
 /// frames come; and what it knows stays true.
 ///
-/// Each lane of the end that receives is left by the last frame of a stream that came; where the
-/// counts say that the next one follows that, it does.
+/// Each lane of the end that receives is as the last frame of a stream that came left it; if the
+/// counts say that the next frame follows that one, it must follow it.
 pub fn a_station_hears_what_was_sent()
     ensures frame { (link : LinkConfig) (old new : StationState) (last : Lane → Option Delivery)
         (d : Delivery) → IsLink link → AreLeft link old.up last →
@@ -31,7 +31,7 @@ pub fn a_station_hears_what_was_sent()
         (octets : List ℕ) → AreLeft link old.up last →
         ((lane : Lane) → IsStray (lane_channel lane link) octets) →
         TakesFrame octets old new → HearsNone link old new last }
-    // Where all that was put into the stream says the truth of puts, the entity keeps the truth of
+    // If all that was put into the stream says the truth of puts, the entity keeps the truth of
     // what it has heard, and of no more.
     ensures truth { (put_of : TransactionId → Option Put) (heard : List (List ℕ))
         (first : FileMap) (link : LinkConfig) (old new : StationState)

@@ -1,6 +1,6 @@
 //! A station: an entity of CFDP, class 2 (CCSDS 727.0-B-5), over both directions of one link.
 //!
-//! What its entity has to send goes down as packets in AOS transfer frames (CCSDS 133.0-B-2,
+//! What its entity must send goes down as packets in AOS transfer frames (CCSDS 133.0-B-2,
 //! 732.0-B-4), one PDU at a time: file data on one virtual channel, and directives on another,
 //! whose frames leave first. Of each frame that it takes, its entity hears the PDUs that come up,
 //! in order.
@@ -29,6 +29,24 @@
 //! }
 //! ```
 //!
+//! A program drives a station by four calls, in any order and as often as it likes:
+//!
+//! - [`tick`](Station::tick) gives it the time, by any clock that starts near 0: the configured
+//!   times are in its units. Call it before the other calls, and at the latest at
+//!   [`next_timeout`](Station::next_timeout): what wasn't answered until then is sent again, or
+//!   given up at its limit.
+//! - [`receive`](Station::receive) gives it a frame that arrived, whatever it has. A frame that
+//!   isn't of the peer is dropped and counted.
+//! - [`transmit`](Station::transmit) gives the next frame to send. Call it until it answers `None`,
+//!   or as often as the link has room. After `None` there is nothing to send until the user asks
+//!   for something, a frame arrives, or `next_timeout` is reached.
+//! - [`next_indication`](Station::next_indication) says what became of the transactions. Discard
+//!   indications, and what is kept of transactions that are over
+//!   ([`forget_closed`](Station::forget_closed)), from time to time: both stay until then.
+//!
+//! [`put`](Station::put), [`cancel`](Station::cancel), [`suspend`](Station::suspend) and the other
+//! requests may come at any time. The crate `station_example` is a program that does all of this.
+//!
 //! Tested by `tests/transcripts/stations.txt` and `tests/transcripts/setups.txt`.
 #![tactic(auto)]
 
@@ -40,6 +58,8 @@ mod laws;
 mod looking;
 mod moving;
 mod polled;
+mod removing_sources;
+mod restoring;
 mod station;
 mod transmitting;
 
@@ -50,11 +70,12 @@ pub use cfdp_directives::{
     PduError, Phase, Policy, Times,
 };
 pub use cfdp_entity::{
-    AddError, EntityConfig, EntityDrop, EntityField, ForgetError, PutError, Request, RequestError,
-    SentPdus, Transactions,
+    AddError, CommittedReceiver, CommittedSender, EntityConfig, EntityDrop, EntityField, Extents,
+    ForgetError, ForgottenNumbers, PutError, Record, Records, RemoveError, Request, RequestError,
+    RestoreError, SentPdus, Transactions,
 };
 pub use cfdp_header::{HeaderError, TransactionId};
-pub use cfdp_store::{Inbox, Outbox, SeekingOutbox, SteadyOutbox, StoreError};
+pub use cfdp_store::{Inbox, Outbox, ResumingInbox, SeekingOutbox, SteadyOutbox, StoreError};
 pub use cfdp_timers::Kind as Timer;
 pub use config::{DEFAULT_CAPACITY, LEAST_CAPACITY, MOST_CAPACITY, StationConfig};
 pub use counters::{Counters, FrameDrops, PduDrops};

@@ -15,34 +15,34 @@ use link_stack::Lane;
 use std::fmt;
 
 impl<O: Outbox, I: Inbox> Station<O, I> {
-    /// The transactions that have a record here, closed ones too, in order of opening, each with
-    /// how far it has come.
+    /// Returns the transactions that have a record here, closed ones too, in order of opening, each
+    /// with how far it has come.
     pub fn transactions(&self) -> Transactions<'_>
         ensures { result ≡ phases_of self.now.entity.state.table }
     {
         self.entity.transactions()
     }
 
-    /// Up to which offset octets of a transaction's file were sent by this station, whether or not
-    /// they came, or have come to it, some of which may be missing: what a Keep Alive says (CCSDS
-    /// 727.0-B-5, 5.2.8). `None` where the transaction has no record here.
+    /// Returns the offset up to which octets of a transaction's file were sent by this station,
+    /// even if they didn't come, or have come to it, even if some are missing: what a Keep Alive
+    /// says (CCSDS 727.0-B-5, 5.2.8). `None` if the transaction has no record here.
     pub fn progress(&self, id: TransactionId) -> Option<u64>
         ensures { result ≡ progress_told id self.now.entity.state.table }
     {
         self.entity.progress(id)
     }
 
-    /// How many more transactions there is room for: each has one of 4,096 records, which it keeps
-    /// until it is forgotten.
+    /// Returns how many more transactions there is room for: each has one of 4,096 records, which
+    /// it keeps until it is forgotten.
     pub fn records_left(&self) -> usize
         ensures { result + length self.now.entity.state.table.records ≡ 4096 }
     {
         self.entity.records_left()
     }
 
-    /// When [`tick`](Self::tick) has to be called at the latest: the earliest deadline of all armed
-    /// timers, those of kind Inactivity among them, in units of the clock that it is told; `None`
-    /// where none is armed.
+    /// Returns when [`tick`](Self::tick) must be called at the latest: the earliest deadline of all
+    /// armed timers, also those of kind Inactivity, in units of the clock of `tick`; `None`
+    /// if none is armed.
     pub fn next_timeout(&self) -> Option<u64>
         ensures { MatchOption result (self.now.entity.state.table.armed ≡ map.empty)
             (λ deadline. IsLeast self.now.entity.state.table.armed deadline) }
@@ -50,20 +50,20 @@ impl<O: Outbox, I: Inbox> Station<O, I> {
         self.entity.next_timeout()
     }
 
-    /// When a timer of a transaction expires, in units of the clock that the station is told; `None`
-    /// where it isn't armed.
+    /// Returns when a timer of a transaction expires, in units of the clock of
+    /// [`tick`](Self::tick); `None` if it isn't armed.
     pub fn deadline_of(&self, id: TransactionId, timer: Timer) -> Option<u64>
         ensures { result ≡ map.get self.now.entity.state.table.armed (id, timer) }
     {
         self.entity.deadline_of(id, timer)
     }
 
-    /// What was indicated behind the first so many indications, in order: none where there are no
-    /// more, and `None` where some of it was let go. Who adds up how many it has been given takes
-    /// out each one once.
+    /// Returns what was indicated after the first so many indications, in order: none if there are
+    /// no more, and `None` if some of it was discarded. A user that adds up how many it was given
+    /// takes out each one once.
     ///
     /// ```
-    /// for told in station.indications_since(seen).unwrap_or(&[]) {
+    /// for indication in station.indications_since(seen).unwrap_or(&[]) {
     ///     // What became of a transaction.
     ///     seen += 1;
     /// }
@@ -75,7 +75,7 @@ impl<O: Outbox, I: Inbox> Station<O, I> {
         self.entity.indications_since(mark)
     }
 
-    /// How many indications were let go: the mark of the first one that is left.
+    /// Returns how many indications were discarded: the mark of the first one that is left.
     pub fn indications_gone(&self) -> u64
         ensures { result ≡ self.now.entity.state.table.gone }
     {
@@ -84,7 +84,7 @@ impl<O: Outbox, I: Inbox> Station<O, I> {
 }
 
 impl<O: Outbox, I: Inbox> fmt::Debug for Station<O, I> {
-    /// Its entity, and how many octets of each lane wait to be made frames.
+    /// Writes its entity, and how many octets of each lane wait to be made frames.
     fn fmt<W: fmt::Write>(&self, f: &mut fmt::Formatter<W>) -> fmt::Result {
         f.debug_struct("Station")
             .field("entity", &self.entity)

@@ -19,7 +19,7 @@ use link_stack::{Down, Lane};
 use octet_strings::OctetStrings;
 use std::alloc::AllocError;
 
-/// The lane of a PDU: file data go on their own, directives on the other.
+/// Returns the lane of a PDU: file data go on their own, directives on the other.
 fn lane_for(file_data: bool) -> Lane
     ensures { result ≡ link.lane_for file_data }
 {
@@ -30,7 +30,7 @@ fn lane_for(file_data: bool) -> Lane
     }
 }
 
-/// The room for a PDU of each type: that of its lane.
+/// Returns the room for a PDU of each type: its lane's.
 fn rooms_of(down: &Down) -> Rooms
     ensures directives { result.directives ≡ downward.room down.now.directives }
     ensures file_data { result.file_data ≡ downward.room down.now.file_data }
@@ -43,7 +43,7 @@ fn rooms_of(down: &Down) -> Rooms
     }
 }
 
-/// Sends the PDU that the first octets of a buffer are down a lane that has room for it.
+/// Sends the PDU in the first octets of a buffer down a lane, which must have room for it.
 fn send_front(down: &mut Down, lane: Lane, buffer: &[u8], len: usize)
     requires some { 1 ≤ len }
     requires within { len ≤ length buffer.now }
@@ -94,14 +94,14 @@ pub(crate) fn move_one<O: Outbox, I: Inbox>(
     }
 }
 
-/// The entity hears a PDU, which it may drop.
+/// Lets the entity hear a PDU, which it may drop.
 fn hear_one<O: Outbox, I: Inbox>(entity: &mut Entity<O, I>, pdu: &[u8])
     ensures { HearsPdu pdu.now entity.old entity.new }
 {
     let _ = entity.receive(pdu);
 }
 
-/// The entity hears these PDUs, in order. What it drops it counts, and hears the next.
+/// Lets the entity hear these PDUs, in order. If it drops one, it counts that, and hears the next.
 pub(crate) fn hear_all<O: Outbox, I: Inbox>(entity: &mut Entity<O, I>, pdus: &OctetStrings)
     ensures { HearsAll pdus.now entity.old entity.new }
 {

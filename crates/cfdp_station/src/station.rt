@@ -51,11 +51,12 @@ use valid_config::Valid;
 
 /// An entity of CFDP, class 2, with both its stores and both directions of its link.
 ///
-/// The calls of the user, and `tick`, are those of its [`Entity`]. A [`poll`](Self::poll) moves one
-/// PDU down, into a packet of its own, on the lane of its type; [`next_frame`](Self::next_frame)
-/// gives the frames that are whole, those of directives first, and a [`flush`](Self::flush) makes
-/// the begun one of each lane whole: [`transmit`](Self::transmit) does all three for one frame.
-/// [`receive`](Self::receive) takes a frame of the peer, of either lane.
+/// The calls of the user, and `tick`, are the calls of its [`Entity`]. A [`poll`](Self::poll) moves
+/// one PDU down, into a packet of its own, on the lane of its type;
+/// [`next_frame`](Self::next_frame) gives the frames that are whole, those of directives first, and
+/// a [`flush`](Self::flush) makes the begun one of each lane whole: [`transmit`](Self::transmit)
+/// does all three for one frame. [`receive`](Self::receive) takes a frame of the peer, of either
+/// lane.
 ///
 /// Each PDU is written once, into a buffer made with the station. So `flush`, `frames_ahead` and
 /// `next_frame` take no memory, and `poll` none but what the entity's indications need.
@@ -86,11 +87,11 @@ impl<O: Outbox, I: Inbox> Model for Station<O, I> {
 }
 
 impl<O: Outbox, I: Inbox> Station<O, I> {
-    /// A station without transactions, over its two stores, that sent and took no frame.
+    /// Returns a station without transactions, over its two stores, that sent and took no frame.
     ///
     /// # Errors
     ///
-    /// `AllocError` only where the memory for the entity, or for a buffer, was refused.
+    /// `AllocError` only if the memory for the entity, or for a buffer, was refused.
     pub fn new(
         alloc: Global,
         config: Valid<StationConfig>,
@@ -114,7 +115,7 @@ impl<O: Outbox, I: Inbox> Station<O, I> {
         let down = Down::new(alloc, Valid::known(config.sends), config.capacity)?;
         let up = Up::new(alloc, Valid::known(config.receives))?;
         let buffer = vec![in alloc; 0u8; config.capacity]?;
-        // Last, so that no error lets an entity go.
+        // Last, so that no error drops an entity.
         let entity = Entity::new(alloc, Valid::known(config.entity), outbox, inbox)?;
         Ok(Station {
             entity,
@@ -128,10 +129,11 @@ impl<O: Outbox, I: Inbox> Station<O, I> {
     /// Counts the frames of both lanes from this number on, modulo 2^28, as if so many had left
     /// (CCSDS 732.0-B-4, 4.1.2.4).
     ///
-    /// It is meant before the first frame, for a station that is started anew where another one
-    /// sent before, whose last counts its peer still knows. Counted from 0 again, its first frame
-    /// may be taken for the next one of those. Counted from a number far from them, as one drawn by
-    /// chance, it shows the peer that frames are missing, and the peer lets go what it had begun.
+    /// It must be called before the first frame, if at all: if a station is restarted after another
+    /// one sent, the peer still knows that one's last counts. Counted from 0 again, its first frame
+    /// may be taken for the next one of those. Counted from a number far from them, such as one
+    /// drawn by chance, it shows the peer that frames are missing, and the peer discards what it
+    /// had begun.
     pub fn count_frames_from(&mut self, count: u32)
         ensures from { self.new.down ≡ both_counted_from count self.old.down }
         // A lane that sent nothing is then as one that made so many frames, each filled by an idle
@@ -144,8 +146,8 @@ impl<O: Outbox, I: Inbox> Station<O, I> {
         self.down.count_from(count);
     }
 
-    /// Has this in the operational control field of the frames that leave from now on, of both lanes
-    /// (CCSDS 732.0-B-4, 4.1.5), if the link has one; at first it is 0.
+    /// Puts this into the operational control field of the frames that leave from now on, of both
+    /// lanes (CCSDS 732.0-B-4, 4.1.5), if the link has one; at first it is 0.
     pub fn set_control_field(&mut self, control: u32)
         ensures set { self.new.down ≡ both_controlled control self.old.down }
         ensures rest { KeepsRest self.old self.new }
@@ -153,8 +155,8 @@ impl<O: Outbox, I: Inbox> Station<O, I> {
         self.down.set_control_field(control);
     }
 
-    /// The operational control field of the last frame of a lane that came from the peer and was
-    /// one of its channel; `None` where none came, or the link has no such field.
+    /// Returns the operational control field of the last frame of a lane that came from the peer
+    /// and was one of its channel; `None` if none came, or the link has no such field.
     pub fn control_field(&self, lane: Lane) -> Option<u32>
         ensures { result ≡ (lane_up lane self.now.up).control }
     {
@@ -162,12 +164,12 @@ impl<O: Outbox, I: Inbox> Station<O, I> {
     }
 
     /// Sends a file of the outbox, to be published by the peer under the second name; both have 1
-    /// to 255 octets. Answers the transaction.
+    /// to 255 octets. Returns the transaction.
     ///
     /// # Errors
     ///
-    /// The first cause that holds, in the order of [`PutError`]. A refused put uses no number, and
-    /// changes nothing but the outbox's failures.
+    /// The first cause that holds, if one does, in the order of [`PutError`]. A refused put uses no
+    /// number, and changes nothing except the outbox's failures.
     pub fn put(&mut self, source: &[u8], destination: &[u8]) -> Result<TransactionId, PutError>
         ensures accepted { IfOk result (λ id. Accepts source.now destination.now id
             self.old.entity.state self.new.entity.state) }
@@ -187,18 +189,20 @@ impl<O: Outbox, I: Inbox> Station<O, I> {
     ///
     /// # Errors
     ///
-    /// The first cause that holds, in the order of [`RequestError`]; nothing changed then.
+    /// The first cause that holds, if one does, in the order of [`RequestError`]; nothing changed
+    /// then.
     pub fn request(&mut self, id: TransactionId, request: Request) -> Result<(), RequestError>
         ensures { StationAnswers request id result self.old self.new }
     {
         self.entity.request(id, request)
     }
 
-    /// Gives a transaction up, and tells the peer.
+    /// Gives a transaction up, and says so to the peer.
     ///
     /// # Errors
     ///
-    /// The first cause that holds, in the order of [`RequestError`]; nothing changed then.
+    /// The first cause that holds, if one does, in the order of [`RequestError`]; nothing changed
+    /// then.
     pub fn cancel(&mut self, id: TransactionId) -> Result<(), RequestError>
         ensures { StationAnswers requests.Cancel id result self.old self.new }
     {
@@ -209,7 +213,8 @@ impl<O: Outbox, I: Inbox> Station<O, I> {
     ///
     /// # Errors
     ///
-    /// The first cause that holds, in the order of [`RequestError`]; nothing changed then.
+    /// The first cause that holds, if one does, in the order of [`RequestError`]; nothing changed
+    /// then.
     pub fn suspend(&mut self, id: TransactionId) -> Result<(), RequestError>
         ensures { StationAnswers requests.Suspend id result self.old self.new }
     {
@@ -220,51 +225,53 @@ impl<O: Outbox, I: Inbox> Station<O, I> {
     ///
     /// # Errors
     ///
-    /// The first cause that holds, in the order of [`RequestError`]; nothing changed then.
+    /// The first cause that holds, if one does, in the order of [`RequestError`]; nothing changed
+    /// then.
     pub fn resume(&mut self, id: TransactionId) -> Result<(), RequestError>
         ensures { StationAnswers requests.Resume id result self.old self.new }
     {
         self.request(id, Request::Resume)
     }
 
-    /// Asks the receiver of a file that this station sends for a Keep Alive where true, else for a
-    /// NAK.
+    /// Asks the receiver of a file that this station sends for a Keep Alive if `keep_alive` is set,
+    /// otherwise for a NAK.
     ///
     /// # Errors
     ///
-    /// The first cause that holds, in the order of [`RequestError`]; nothing changed then.
+    /// The first cause that holds, if one does, in the order of [`RequestError`]; nothing changed
+    /// then.
     pub fn prompt(&mut self, id: TransactionId, keep_alive: bool) -> Result<(), RequestError>
         ensures { StationAnswers (requests.Prompt keep_alive) id result self.old self.new }
     {
         self.request(id, Request::Prompt { keep_alive })
     }
 
-    /// How far a transaction has come; `None` where it has no record here.
+    /// Returns how far a transaction has come; `None` if it has no record here.
     pub fn phase(&self, id: TransactionId) -> Option<Phase>
         ensures { result ≡ phase_told id self.now.entity.state.table }
     {
         self.entity.phase(id)
     }
 
-    /// How often a PDU that came up was dropped by this cause. The count stays at the greatest
-    /// `u64`.
+    /// Returns how often a PDU that came up was dropped by this cause. The count stays at the
+    /// greatest `u64`.
     pub fn drops(&self, by: EntityDrop) -> u64
         ensures { result ≡ get_or self.now.entity.state.drops (drop_number by) 0 }
     {
         self.entity.drops(by)
     }
 
-    /// How often something of the frames taken was dropped by this cause, on either lane. The count
-    /// stays at the greatest `u64`.
+    /// Returns how often something of the frames taken was dropped by this cause, on either lane.
+    /// The count stays at the greatest `u64`.
     pub fn link_drops(&self, by: LinkDrop) -> u64
         ensures { result ≡ drop_count self.now.up (of_link.drop_number by) }
     {
         self.up.drops(by.number())
     }
 
-    /// The earliest deadline of the armed timers but those of kind Inactivity, in units of the
-    /// clock that [`tick`](Self::tick) is told; `None` where no other is armed: while one is, an
-    /// answer is waited for. [`next_timeout`](Self::next_timeout) tells that of all.
+    /// Returns the earliest deadline of the armed timers except those of kind Inactivity, in units
+    /// of the clock of [`tick`](Self::tick); `None` if no other is armed: if one is, an answer is
+    /// waited for. [`next_timeout`](Self::next_timeout) counts all timers.
     pub fn next_deadline(&self) -> Option<u64>
         ensures { MatchOption result (OnlyInactivity self.now.entity.state.table.armed)
             (λ deadline. IsLeastOther self.now.entity.state.table.armed deadline) }
@@ -272,7 +279,7 @@ impl<O: Outbox, I: Inbox> Station<O, I> {
         self.entity.next_deadline()
     }
 
-    /// What was indicated, in order, but for the first ones that were let go.
+    /// Returns what was indicated, in order, except for the first ones that were discarded.
     pub fn indications(&self) -> &[Indication]
         ensures { result.now ≡ drop self.now.entity.state.table.gone
             self.now.entity.state.table.told }
@@ -280,7 +287,7 @@ impl<O: Outbox, I: Inbox> Station<O, I> {
         self.entity.indications()
     }
 
-    /// The outbox, lent.
+    /// Borrows the outbox.
     pub fn outbox(&self) -> &O
         ensures files { O.files result.now ≡ self.now.entity.state.table.sources }
         ensures stands { O.stands result.now ≡ self.now.entity.state.table.stands }
@@ -289,7 +296,7 @@ impl<O: Outbox, I: Inbox> Station<O, I> {
         self.entity.outbox()
     }
 
-    /// The inbox, lent.
+    /// Borrows the inbox.
     pub fn inbox(&self) -> &I
         ensures published { I.published result.now ≡ self.now.entity.state.table.files }
         ensures failures { I.failures result.now ≡ self.now.entity.inbox_failures }
@@ -297,13 +304,13 @@ impl<O: Outbox, I: Inbox> Station<O, I> {
         self.entity.inbox()
     }
 
-    /// Moves the PDU whose turn it is down its lane, in a packet of its own, where one is due and
-    /// there is room for it: file data go on their own lane, directives on the other. One that
-    /// doesn't fit stays due. A PDU has 4,134 octets at the most.
+    /// Moves the PDU whose turn it is down its lane, in a packet of its own, if one is due and
+    /// there is room for it: file data go on their own lane, directives on the other. If a PDU
+    /// doesn't fit, it stays due. A PDU has at most 4,134 octets.
     ///
     /// # Errors
     ///
-    /// `AllocError` only where a record has the turn and its PDU fits, but the memory for the
+    /// `AllocError` only if a record has the turn and its PDU fits, but the memory for the
     /// step's indications was refused; nothing changed then.
     pub fn poll(&mut self) -> Result<Polled, AllocError>
         // What was read of a file is what the outbox has now.
@@ -333,7 +340,7 @@ impl<O: Outbox, I: Inbox> Station<O, I> {
         move_one(&mut self.entity, &mut self.down, &mut self.buffer)
     }
 
-    /// Fills the begun frame of each lane by an idle packet, where one is begun, so that all that
+    /// Fills the begun frame of each lane by an idle packet, if one is begun, so that all that
     /// was sent can leave in whole frames. It polls nothing.
     pub fn flush(&mut self)
         ensures flushed { FlushesBoth self.old.down self.new.down }
@@ -346,8 +353,8 @@ impl<O: Outbox, I: Inbox> Station<O, I> {
         self.down.flush(Lane::Data);
     }
 
-    /// Does the same in one lane, and leaves the other one as it is: so a directive need not wait
-    /// for the file data behind it, whose begun frame goes on being filled.
+    /// Fills the begun frame of one lane, and leaves the other as it is: so a directive need not
+    /// wait for the file data after it, whose begun frame goes on being filled.
     pub fn flush_lane(&mut self, lane: Lane)
         ensures flushed { Flushes (lane_down lane self.old.down) (lane_down lane self.new.down) }
         ensures other { lane_down (other_lane lane) self.new.down
@@ -358,9 +365,9 @@ impl<O: Outbox, I: Inbox> Station<O, I> {
         self.down.flush(lane);
     }
 
-    /// The most whole frames that can ever wait in a lane after a poll or a flush: a bound that
-    /// never changes, not how many wait now. A caller that has room for so many of each lane can
-    /// take them all.
+    /// Returns the most whole frames that can ever wait in a lane after a poll or a flush: a bound
+    /// that never changes, not how many wait now. If a caller has room for so many of each lane, it
+    /// can take them all.
     pub fn frames_ahead(&self, lane: Lane) -> usize
         ensures enough { HoldsAtMost result (lane_down lane self.now.down) }
         ensures no_more { result * (lane_down lane self.now.down).link.zone
@@ -369,32 +376,32 @@ impl<O: Outbox, I: Inbox> Station<O, I> {
         self.down.frames_ahead(lane)
     }
 
-    /// The octets of each frame that it sends, in either lane: 8 more than those of a zone, and
-    /// those of the fields of the link.
+    /// Returns the number of octets of each frame that it sends, in either lane: 8 more than a zone
+    /// has, and the octets of the link's fields.
     pub fn frame_len(&self) -> usize
         ensures { (lane : Lane) → result ≡ frame_len (lane_down lane self.now.down).link }
     {
         self.down.frame_len()
     }
 
-    /// The lane whose frame [`next_frame`](Self::next_frame) gives next: directives go first.
-    /// `None` where no whole frame waits in either.
+    /// Returns the lane whose frame [`next_frame`](Self::next_frame) gives next: directives go
+    /// first. `None` if no whole frame waits in either.
     pub fn next_lane(&self) -> Option<Lane>
         ensures { result ≡ frame_lane self.now.down }
     {
         self.down.next_lane()
     }
 
-    /// Writes the oldest whole frame of [`next_lane`](Self::next_lane), takes it off, and tells the
-    /// lane. The buffer has [`frame_len`](Self::frame_len) octets.
+    /// Writes the oldest whole frame of [`next_lane`](Self::next_lane), takes it off, and returns
+    /// the lane. The buffer must have [`frame_len`](Self::frame_len) octets.
     ///
-    /// `None` where no whole frame waits: nothing changed then.
+    /// Returns `None` if no whole frame waits: nothing changed then.
     pub fn next_frame(&mut self, out: &mut [u8]) -> Option<Lane>
         requires { length out.old ≡ frame_len self.old.down.directives.link }
         // Directives go first.
         ensures lane { result ≡ frame_lane self.old.down }
         ensures kept { result ≡ None → (self.new ≡ self.old) × (out.new ≡ out.old) }
-        // It is the frame of the lane's stream behind those made.
+        // It is the frame of the lane's stream after those made.
         ensures made { IfSome result (λ lane. MakesFrame out.new (lane_down lane self.old.down)
             (lane_down lane self.new.down)) }
         ensures other { IfSome result (λ lane. lane_down (other_lane lane) self.new.down
@@ -409,8 +416,8 @@ impl<O: Outbox, I: Inbox> Station<O, I> {
     ///
     /// It always returns. What can't be read of the frame is counted in
     /// [`link_drops`](Self::link_drops), and a PDU that the entity doesn't take in
-    /// [`drops`](Self::drops). What finds no memory is dropped and counted in one of both, as if it
-    /// had been lost.
+    /// [`drops`](Self::drops). If there is no memory for something, it is dropped and counted in
+    /// one of both, as if it had been lost.
     pub fn receive(&mut self, frame: &[u8])
         ensures { TakesFrame frame.now self.old self.new }
     {
@@ -419,12 +426,12 @@ impl<O: Outbox, I: Inbox> Station<O, I> {
         hear_all(&mut self.entity, &self.given);
     }
 
-    /// Tells the time: each timer that is due as the call begins expires once, in the order of
-    /// their deadlines. A time earlier than the last one told counts as that.
+    /// Notes the time: each timer that is due as the call begins expires once, in the order of
+    /// their deadlines. If the time is earlier than the last one given, it counts as that.
     ///
     /// # Errors
     ///
-    /// `AllocError` only where a timer is due, but the memory for what fires, or for its
+    /// `AllocError` only if a timer is due, but the memory for what fires, or for its
     /// indications, was refused; nothing changed then, the time neither.
     pub fn tick(&mut self, now: u64) -> Result<(), AllocError>
         ensures ticked { OnOk result (Ticks now self.old.entity.state.table
@@ -445,12 +452,12 @@ impl<O: Outbox, I: Inbox> Station<O, I> {
 }
 
 impl<I: Inbox> Station<MemoryOutbox, I> {
-    /// Adds a file to the outbox, under a name that it has no file of: so no file changes that is
-    /// being sent. Its octets are copied, and stay as long as the station.
+    /// Adds a file to the outbox. The outbox must have no file of its name: so no file changes that
+    /// is being sent. Its octets are copied, and stay until the file is removed.
     ///
     /// # Errors
     ///
-    /// The first cause that holds, in the order of [`AddError`]; nothing changed then.
+    /// The first cause that holds, if one does, in the order of [`AddError`]; nothing changed then.
     pub fn add_source(&mut self, name: &[u8], octets: &[u8]) -> Result<(), AddError>
         ensures added { OnOk result (AddsFile name.now octets.now self.old.entity.state
             self.new.entity.state) }
@@ -466,13 +473,13 @@ impl<I: Inbox> Station<MemoryOutbox, I> {
 }
 
 impl<O: SeekingOutbox, I: Inbox> Station<O, I> {
-    /// Looks for the file of a name, so that a put can send it as it is now: whether there is one.
-    /// Where the file of that name is being sent already, it isn't looked for: a put sends what is
-    /// sent then.
+    /// Looks for the file of a name, so that a put can send it as it is now. Returns `true` if
+    /// there is one. If the file of that name is being sent already, it isn't looked for: a put
+    /// sends what is sent then.
     ///
     /// # Errors
     ///
-    /// That of the outbox, which is counted. Nothing else changed then.
+    /// The error of the outbox, if it fails, which is counted. Nothing else changed then.
     pub fn look_for(&mut self, name: &[u8]) -> Result<bool, StoreError>
         ensures has { IfOk result (λ has. has
             ≡ is_some (map.get self.new.entity.state.table.sources name.now)) }

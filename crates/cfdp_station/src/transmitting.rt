@@ -13,7 +13,7 @@ use std::alloc::AllocError;
 const MOST_POLLS: u32 = 8192;
 
 impl<O: Outbox, I: Inbox> Station<O, I> {
-    /// Writes the next frame that is to leave, and tells its lane; `None` where there is nothing to
+    /// Writes the next frame that must leave, and returns its lane; `None` if there is nothing to
     /// send. It polls until a whole frame waits, or nothing is due or has room, at most 8,192
     /// times, and fills up what is begun. Directives go first. The vector then has the octets of a
     /// frame, whatever it had.
@@ -26,7 +26,7 @@ impl<O: Outbox, I: Inbox> Station<O, I> {
     ///
     /// # Errors
     ///
-    /// `AllocError` where there is no memory for the frame, or for a poll: what was polled before
+    /// `AllocError` if there is no memory for the frame, or for a poll: what was polled before
     /// stays, and waits for the next call.
     pub fn transmit(&mut self, frame: &mut Vec<u8>) -> Result<Option<Lane>, AllocError>
         ensures sent { IfOk result (λ lane. Transmits lane frame.new.items self.old self.new) }
@@ -38,17 +38,17 @@ impl<O: Outbox, I: Inbox> Station<O, I> {
         self.transmit_into(frame.as_mut_slice())
     }
 
-    /// The same, into a buffer of [`frame_len`](Self::frame_len) octets.
+    /// Writes that frame into a buffer, which must have [`frame_len`](Self::frame_len) octets.
     ///
     /// # Errors
     ///
-    /// `AllocError` where there is no memory for a poll: what was polled before stays, and waits
+    /// `AllocError` if there is no memory for a poll: what was polled before stays, and waits
     /// for the next call.
     pub fn transmit_into(&mut self, frame: &mut [u8]) -> Result<Option<Lane>, AllocError>
         requires { length frame.old ≡ frame_len self.old.down.directives.link }
         ensures sent { IfOk result (λ lane. Transmits lane frame.new self.old self.new) }
         ensures err { OnErr result (PullsInPart self.old self.new) }
-        // But for a frame the buffer is as it was.
+        // Except for a frame the buffer is as it was.
         ensures kept { IfOk result (λ lane. lane ≡ None → frame.new ≡ frame.old) }
         ensures unwritten { OnErr result (frame.new ≡ frame.old) }
     {
@@ -64,8 +64,8 @@ fn fit(frame: &mut Vec<u8>, len: usize) -> Result<(), AllocError>
     frame.resize(len, 0)
 }
 
-/// Polls for the frame that is to leave next, and fills up what is begun: directives alone where a
-/// whole frame waits, and else both lanes.
+/// Polls for the frame that leaves next, and fills up what is begun: directives alone if a
+/// whole frame waits, otherwise both lanes.
 fn pull<O: Outbox, I: Inbox>(station: &mut Station<O, I>) -> Result<(), AllocError>
     ensures ok { OnOk result (Pulls station.old station.new) }
     ensures err { OnErr result (PullsInPart station.old station.new) }
@@ -79,7 +79,7 @@ fn pull<O: Outbox, I: Inbox>(station: &mut Station<O, I>) -> Result<(), AllocErr
     Ok(())
 }
 
-/// Polls until a whole frame waits, or nothing is due or has room: whether a frame is why it ends.
+/// Polls until a whole frame waits, or nothing is due or has room. Returns `true` if a frame waits.
 fn poll_dry<O: Outbox, I: Inbox>(station: &mut Station<O, I>) -> Result<bool, AllocError>
     ensures ok { IfOk result (λ whole. PollsDry whole station.old station.new) }
     ensures err { OnErr result (PullsInPart station.old station.new) }

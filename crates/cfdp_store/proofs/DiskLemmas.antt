@@ -7,10 +7,10 @@ use Rattle.cfdp_header.proofs.Ids.{same_id-itself, other_id}
 use Rattle.cfdp_header.specs.Ids.{same_id}
 use Rattle.cfdp_header.specs.declared.value.TransactionId.{TransactionId}
 use Rattle.cfdp_store.proofs.Octets.{get-written_within, length-front, get_or-front}
-use Rattle.cfdp_store.specs.Disk.{Part, made, part_with, cut_to, Disk, no_files, with_file, disk_after, disk_from, disk_of, published_by, staged_by}
+use Rattle.cfdp_store.specs.Disk.{Part, made, found, part_with, cut_to, Disk, no_files, with_file, disk_after, disk_from, disk_of, published_by, staged_by}
 use Rattle.cfdp_store.specs.Staged.{OctetMap, OthersKeep, written, front}
 use Rattle.cfdp_store.specs.declared.parts.Done.{Done}
-use Rattle.cfdp_store.specs.declared.parts.Done.TheVariants.{Made, Wrote, Cut, Named, Lost}
+use Rattle.cfdp_store.specs.declared.parts.Done.TheVariants.{Made, Found, Wrote, Read, Cut, Named, Lost}
 
 disk_from-append : (d : Disk) (es : List Done) (e : Done) → disk_from d (es ++ e ∷ []) ≡ disk_after (disk_from d es) e
 unfolding disk_from
@@ -32,7 +32,9 @@ noted e same next = record { is = next ∙ ap (λ es. es ++ e ∷ []) same }
 -- whose part file it is
 abbrev pub part_of : Done → TransactionId
 part_of (Made id) = id
+part_of (Found id end) = id
 part_of (Wrote id at octets) = id
+part_of (Read id at octets) = id
 part_of (Cut id size) = id
 part_of (Named id name) = id
 part_of (Lost id) = id
@@ -40,14 +42,18 @@ part_of (Lost id) = id
 -- what the part file then is
 abbrev part_after : Option Part → Done → Option Part
 part_after p (Made id) = Some made
+part_after p (Found id end) = Some (found end)
 part_after p (Wrote id at octets) = option_map (λ q. part_with q at octets) p
+part_after p (Read id at octets) = option_map (λ q. part_with q at octets) p
 part_after p (Cut id size) = option_map (cut_to size) p
 part_after p (Named id name) = None
 part_after p (Lost id) = None
 
 parts_after : (d : Disk) (e : Done) (other : TransactionId) → (disk_after d e).parts other ≡ (if same_id (part_of e) other then part_after (d.parts (part_of e)) e else d.parts other)
 parts_after d (Made id) other = refl
+parts_after d (Found id end) other = refl
 parts_after d (Wrote id at octets) other = refl
+parts_after d (Read id at octets) other = refl
 parts_after d (Cut id size) other = refl
 parts_after d (Named id name) other = refl
 parts_after d (Lost id) other = refl
@@ -83,12 +89,12 @@ module _ {old new : List Done} {e : Done} (next : Adds old e new) where
   pub files_next : published_by new ≡ (disk_after (disk_of old) e).files
   files_next = ap (λ d. d.files) now
 
--- where octets are written over what is staged
+-- if octets are written over what is staged
 pub staged-with : (p : Option Part) (at : ℕ) (xs : List ℕ) → IsSome (octets_of p) → octets_of (option_map (λ q. part_with q at xs) p) ≡ Some (written (unwrap_or (octets_of p) empty) at xs)
 staged-with None at xs h = absurd (cc)
 staged-with (Some p) at xs h = refl
 
--- a file that was cut has what stood in front
+-- a file that was cut has what stood before
 pub front-cut : (m : OctetMap) (size : ℕ) → front (written empty 0 (front m size)) size ≡ front m size
 front-cut m size =
     let long : length (front m size) ≡ size = length-front m size in

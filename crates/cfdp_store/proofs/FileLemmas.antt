@@ -1,4 +1,4 @@
--- What a map from names does, seen as a `FinMap`: as files, where octets stand under each name.
+-- What a map from names does, seen as a `FinMap`: as files, if octets stand under each name.
 use Rattle.std.proofs.Common.{◌≡◌, ℕ, Bool, true, false, cond, List, [], ◌∷◌, Option, Some, None, refl, sym, ap, ◌∙◌}
 use Rattle.std.proofs.lemmas.Bool.{false≢true}
 use Rattle.std.specs.Prelude.{map, Vec}

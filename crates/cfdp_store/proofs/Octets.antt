@@ -33,7 +33,7 @@ unfolding written
 get-written_below m at [] n h = refl
 get-written_below m at (x ∷ xs) n h = first m at x xs n ∙ elsewhere n at _ _ (omega arith) ∙ get-written_below m (at + 1) xs n (omega arith)
 
--- octets behind a write stand
+-- octets after a write stand
 pub get-written_behind : (m : OctetMap) (at : ℕ) (xs : List ℕ) (n : ℕ) → at + length xs ≤ n → get (written m at xs) n ≡ get m n
 unfolding written
 get-written_behind m at [] n h = refl
@@ -69,7 +69,7 @@ length-front m size = length-front_from m 0 size
 pub get_or-front : (m : OctetMap) (size k d : ℕ) → k < size → get_or (front m size) k d ≡ unwrap_or (get m k) 0
 get_or-front m size k d h = get_or-front_from m 0 size k d h ∙ ap (λ j. unwrap_or (get m j) 0) (omega arith)
 
--- where all of them were written, each is the octet that stands there
+-- if all of them were written, each is the octet that stands there
 pub slice_get-front : (m : OctetMap) (size n : ℕ) → Covers size m → n < size → slice_get (front m size) n ≡ get m n
 slice_get-front m size n covers h =
     let inside : n < length (front m size) = omega (arith, length-front m size) in
@@ -79,7 +79,7 @@ slice_get-front m size n covers h =
     some_of None d s = absurd (cc)
     some_of (Some x) d s = refl
 
--- a write from within what was written, or just behind it, on
+-- a write from within what was written, or just after it, on
 pub Covers-written : (m : OctetMap) (size at : ℕ) (xs : List ℕ) → Covers size m → at ≤ size → Covers (max size (at + length xs)) (written m at xs)
 Covers-written m size at xs covers within n h = elim (cases_lt n at) [
   | inl low ↦ subst IsSome (sym (get-written_below m at xs n low)) (covers n (omega arith))

@@ -205,7 +205,7 @@ module _ (expected : List (List ℕ)) {old new : List Shown} {name : List ℕ} {
 pub lens-read : {name : List ℕ} {at : ℕ} {octets : List ℕ} {before after : Seen} (lens : LenMap) → Gives name at octets before after → AreLens lens before.files → AreLens lens after.files
 lens-read lens read are q = are q ∙ sym (read.rereads.lens q)
 
--- ---- where all that was seen is as expected, each file is one that is expected
+-- ---- if all that was seen is as expected, each file is one that is expected
 fitted-whole : (len : ℕ) (octets : List ℕ) → length octets ≡ len → fitted len octets ≡ octets
 fitted-whole len octets long = ap (λ n. take n (octets ++ replicate len 0)) (sym long) ∙ take-append_seam octets (replicate len 0)
 

@@ -1,14 +1,18 @@
 -- Calls of stores, each with its arguments and what it answered.
-use Rattle.std.specs.Prelude.{◌≡◌, ℕ, List, Option, Result, Err}
+use Rattle.std.specs.Prelude.{◌≡◌, ℕ, Bool, List, Option, Result, Err}
 use Rattle.cfdp_header.specs.declared.value.TransactionId.{TransactionId}
 use Rattle.cfdp_store.specs.declared.error.StoreError.{StoreError}
 use Rattle.cfdp_store.specs.declared.error.StoreError.TheVariants.{Device}
 
--- whether a call could be done
+-- true if a call could be done
 abbrev pub Answer : Type 0
 Answer = Result (Unit {0}) StoreError
 
--- a call of an outbox. A `read` is lent octets, and leaves others in their place
+-- what a look answered: whether there is a file of the name
+abbrev pub Looked : Type 0
+Looked = Result Bool StoreError
+
+-- a call of an outbox. A `read` borrows octets, and leaves others in their place
 pub data OutboxCall : Type 0 where
   Len : (name : List ℕ) (answer : Result (Option ℕ) StoreError) → OutboxCall
   Read : (name : List ℕ) (offset : ℕ) (lent : List ℕ) (answer : Answer) (left : List ℕ) → OutboxCall

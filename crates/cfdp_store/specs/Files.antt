@@ -11,10 +11,10 @@ module _ {Y Z : Type 0} where
   files_of entries = from_entries (map (λ e. (e.0.items, e.1.items)) entries)
 
 module _ {Y V W : Type 0} where
-  -- what these entries list: under each name what a function tells of the value that stands there
+  -- what these entries list: under each name what a function makes of the value that stands there
   abbrev pub listed : (V → W) → List (Vec ℕ Y × V) → FinMap (slice_cmp nat_cmp) W
   listed tells entries = from_entries (map (λ e. (e.0.items, tells e.1)) entries)
 
--- the octets of the file of a name, none where there is no such file
+-- the octets of the file of a name; none if there is no such file
 abbrev pub octets_in : FileMap → List ℕ → List ℕ
 octets_in files name = unwrap_or (get files name) []

@@ -11,13 +11,14 @@ burnt f = record { left = f.left - 1; refused = f.refused }
 abbrev pub blown : Fuse → Fuse
 blown f = record { left = f.left; refused = failures_after f.refused false }
 
--- the failures of a store, and the calls that its fuse refused. The count stays at the greatest u64
+-- the failures of a store, and the calls that its fuse refused. If the count is the greatest u64,
+-- it stays so
 abbrev pub all_failures : ℕ → Fuse → ℕ
 all_failures store fuse = min (store + fuse.refused) (2 ^ 64 - 1)
 
 module _ {S C : Type 0} (Steps : S → C → S → Type 0) (Refuses : C → Type 0) where
-  -- A call through a fuse that has calls left is one call of the store, with the same arguments
-  -- and the same answer. Behind a blown fuse the store isn't called
+  -- A call through a fuse that has calls left is one call of the store, with the same arguments and
+  -- the same answer. If the fuse is blown, the store isn't called
   abbrev pub Passes : S → Fuse → C → S → Fuse → Type 0
   Passes store fuse call store_after fuse_after =
       (0 < fuse.left → Steps store call store_after × (fuse_after ≡ burnt fuse))

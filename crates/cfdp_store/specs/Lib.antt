@@ -5,8 +5,10 @@ pub mod Files
 pub mod Folder
 pub mod Fuse
 pub mod Memory
+pub mod Names
 pub mod Pieces
 pub mod Rereading
+pub mod Resuming
 pub mod Shown
 pub mod Staged
 pub mod Stores

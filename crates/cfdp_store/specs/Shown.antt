@@ -1,4 +1,4 @@
--- What the files of a folder have, by what the system showed of them. Nobody can tell what a file
+-- What the files of a folder have, by what the system showed of them. Nobody can know what a file
 -- has before it is read, so a list of what is expected stands beside it: what each look will find.
 use Rattle.std.specs.Prelude.{◌≡◌, ℕ, ◌+◌, ◌==◌, Bool, true, false, ◌&&◌, List, [], ◌∷◌, ◌++◌, length, get_or, take, drop, replicate, bytes_eq, Some, IsTrue, if◌then◌else◌}
 use Rattle.std.specs.Option.{option_map}
@@ -16,7 +16,7 @@ use Rattle.cfdp_store.specs.declared.sources.Shown.TheVariants.{Found, Missing, 
 abbrev pub fitted : ℕ → List ℕ → List ℕ
 fitted len octets = take len (octets ++ replicate len 0)
 
--- what a file has where these octets were read
+-- what a file has if these octets were read
 abbrev pub there : List ℕ → ℕ → List ℕ → List ℕ
 there octets at file = take (length octets) (drop at file)
 
@@ -36,7 +36,7 @@ pub record Seen : Type 0 where
 abbrev pub nothing_seen : Seen
 nothing_seen = record { files = empty; stands = true; looks = 0 }
 
--- a look found a file so long, where this was expected
+-- a look found a file so long, if this was expected
 abbrev pub with_found : List ℕ → ℕ → List ℕ → Seen → Seen
 with_found name len octets s = record {
   files = insert s.files name (fitted len octets);
@@ -69,11 +69,11 @@ seen_from expected s (e ∷ es) = seen_from expected (shown_after expected s e) 
 abbrev pub seen_by : List (List ℕ) → List Shown → Seen
 seen_by expected es = seen_from expected nothing_seen es
 
--- These octets are what is expected of one of the looks; nothing is, behind the last.
+-- These octets are what is expected of one of the looks; nothing is, after the last.
 abbrev pub IsExpected : List (List ℕ) → List ℕ → Type 0
 IsExpected expected octets = (look : ℕ) × (octets ≡ get_or expected look [])
 
--- Where all that was seen was as expected, each file is one that is expected.
+-- If all that was seen was as expected, each file is one that is expected.
 abbrev pub AreExpected : List (List ℕ) → Seen → Type 0
 AreExpected expected s = IsTrue s.stands → (name octets : List ℕ)
     → get s.files name ≡ Some octets → IsExpected expected octets

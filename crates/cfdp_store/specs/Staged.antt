@@ -13,7 +13,7 @@ unfoldable pub written : OctetMap → ℕ → List ℕ → OctetMap
 written m at [] = m
 written m at (x ∷ xs) = insert (written m (at + 1) xs) at x
 
--- so many octets from an offset on, 0 where none is staged
+-- so many octets from an offset on, each 0 if it isn't staged
 unfoldable pub front_from : OctetMap → ℕ → ℕ → List ℕ
 front_from m at zero = []
 front_from m at (suc n) = unwrap_or (get m at) 0 ∷ front_from m (at + 1) n
@@ -26,7 +26,7 @@ front m size = front_from m 0 size
 abbrev pub Covers : ℕ → OctetMap → Type 0
 Covers size m = (n : ℕ) → n < size → IsSome (get m n)
 
--- what is staged for a transaction, nothing where it isn't begun
+-- what is staged for a transaction; nothing if it isn't begun
 abbrev pub staged_for : (TransactionId → Option OctetMap) → TransactionId → OctetMap
 staged_for staged id = unwrap_or (staged id) empty
 

@@ -6,7 +6,7 @@ use Rattle.cfdp_store.specs.declared.stored.Stored.{Stored}
 use Rattle.cfdp_store.specs.declared.stored.Stored.TheVariants.{Done, Refused}
 use Rattle.cfdp_store.specs.Calls.{Answer}
 
--- a count of failures after a call that was Ok or not. It stays at the greatest u64
+-- a count of failures after a call that was Ok or not. If it is the greatest u64, it stays so
 abbrev pub failures_after : ℕ → Bool → ℕ
 failures_after count ok = if ok then count else max count (min (count + 1) (2 ^ 64 - 1))
 
@@ -22,11 +22,11 @@ refusal_name Device = codes "Device"
 refusal_name Name = codes "Name"
 refusal_name NoMemory = codes "NoMemory"
 
--- whether a store did what one call asked of it
+-- true if a store did what one call asked of it
 abbrev pub stored_by : Answer → Stored
 stored_by answer = if is_ok answer then Done else Refused
 
--- A step that a store refused was counted: the failures rose, unless they were the greatest count
+-- If a store refused a step, it was counted: the failures rose, unless they were the greatest count
 -- already. They never fall.
 abbrev pub Counts : Stored → (before after : ℕ) → Type 0
 Counts Done before after = before ≤ after

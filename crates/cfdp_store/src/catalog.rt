@@ -23,7 +23,7 @@ pub struct Catalog {
 }
 
 impl Catalog {
-    /// Nothing was found yet.
+    /// Returns a catalog in which nothing was found yet.
     pub fn new(alloc: Global, expected: Snapshot<Past<Past<u8>>>) -> Self
         ensures shown { result.shown ≡ [] }
         ensures expected { result.expected.value ≡ expected.value }
@@ -36,7 +36,7 @@ impl Catalog {
         }
     }
 
-    /// How long the file of that name is, if it was found.
+    /// Returns how long the file of that name is, if it was found.
     pub fn len(&self, name: &[u8]) -> Option<u64>
         ensures { result ≡ option_map length
             (map.get (seen_by self.now.expected.value self.now.shown).files name.now) }
@@ -47,7 +47,7 @@ impl Catalog {
         }
     }
 
-    /// The stamp of the file of that name, if it was found.
+    /// Returns the stamp of the file of that name, if it was found.
     pub fn stamp(&self, name: &[u8]) -> Option<Stamp> {
         self.stamps.get(name)
     }
@@ -70,7 +70,7 @@ impl Catalog {
         Ok(())
     }
 
-    /// Notes that a look found that nothing has a name.
+    /// Notes that a look found no file of this name.
     pub fn forget(&mut self, name: &[u8])
         ensures none { map.get (seen_by self.new.expected.value self.new.shown).files name.now
             ≡ None }

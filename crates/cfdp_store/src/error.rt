@@ -23,7 +23,7 @@ pub enum StoreError {
 }
 
 impl StoreError {
-    /// The number of this error in reports, from 1 on.
+    /// Returns the number of this error in reports, from 1 on.
     pub fn number(self) -> u8
         ensures { result ≡ refusal_number self }
     {
@@ -34,7 +34,7 @@ impl StoreError {
         }
     }
 
-    /// The name of this error in reports.
+    /// Returns the name of this error in reports.
     pub fn name(self) -> &'static str
         ensures { result.now ≡ refusal_name self }
     {
@@ -54,7 +54,7 @@ impl From<AllocError> for StoreError {
     }
 }
 
-/// For stores on a device: what isn't want of memory is `Device`.
+/// For stores on a device: any error is `Device` unless memory ran out.
 impl From<io::Error> for StoreError {
     ghost from_gives = { λ error e. (error_kind error ≡ OutOfMemory → e ≡ NoMemory)
         × (error_kind error ≢ OutOfMemory → e ≡ Device) };

@@ -9,9 +9,8 @@ use std::marker::Model;
 
 /// Files in memory by their names.
 ///
-/// A name is a run of octets, and so is what a file has in it: any octets are a name, and none are
-/// one, too. At most one file stands under a name. Names ascend octet by octet, a shorter one
-/// before those that it begins.
+/// A name is any octets, also none, and so is what a file has in it. At most one file stands under
+/// a name. Names ascend octet by octet; if a name begins another, it stands before it.
 #[derive(Debug, Drop)]
 pub struct Files {
     files: BTreeMap<Vec<u8>, Vec<u8>>,
@@ -33,7 +32,7 @@ impl Model for Files {
 }
 
 impl Files {
-    /// No files. Takes no memory; `alloc` serves what is added later.
+    /// Returns no files. It takes no memory; `alloc` serves what is added later.
     pub fn new(alloc: Global) -> Self
         ensures { result ≡ map.empty }
     {
@@ -42,29 +41,29 @@ impl Files {
         }
     }
 
-    /// The files of a map from names to octets. Takes no memory.
+    /// Returns the files of a map from names to octets. It takes no memory.
     pub fn from_map(files: BTreeMap<Vec<u8>, Vec<u8>>) -> Self
         ensures { result ≡ files_of files.entries }
     {
         Files { files }
     }
 
-    /// The map that the files are kept in, from names to octets. Takes no memory.
+    /// Returns the map in which the files are kept, from names to octets. It takes no memory.
     pub fn into_map(self) -> BTreeMap<Vec<u8>, Vec<u8>>
         ensures { files_of result.entries ≡ self }
     {
         self.files
     }
 
-    /// The map that the files are kept in, from names to octets. Its `iter` goes over them in
-    /// ascending order of their names.
+    /// Returns the map in which the files are kept, from names to octets. Its `iter` goes over them
+    /// in ascending order of their names.
     pub fn entries(&self) -> &BTreeMap<Vec<u8>, Vec<u8>>
         ensures { files_of result.now.entries ≡ self.now }
     {
         &self.files
     }
 
-    /// The octets of the file of that name, if there is one.
+    /// Returns the octets of the file of that name, if there is one.
     pub fn get(&self, name: &[u8]) -> Option<&[u8]>
         ensures { option_map (λ octets. octets.now) result ≡ map.get self.now name.now }
     {
@@ -72,7 +71,7 @@ impl Files {
         Some(octets.as_slice())
     }
 
-    /// The octets of the file of that name, none where there is no such file.
+    /// Returns the octets of the file of that name; none if there is no such file.
     pub fn octets(&self, name: &[u8]) -> &[u8]
         ensures { result.now ≡ octets_in self.now name.now }
     {
@@ -82,11 +81,11 @@ impl Files {
         }
     }
 
-    /// Puts a file under a name, in the place of one that is there.
+    /// Puts a file under a name, in place of the file that has it, if there is one.
     ///
     /// # Errors
     ///
-    /// `AllocError` where there is no memory for it. The files are then as before.
+    /// `AllocError` if there is no memory for it. The files are then as before.
     pub fn insert(&mut self, name: Vec<u8>, octets: Vec<u8>) -> Result<(), AllocError>
         ensures ok { OnOk result (self.new ≡ map.insert self.old name.items octets.items) }
         ensures err { OnErr result (self.new ≡ self.old) }
@@ -95,7 +94,7 @@ impl Files {
         Ok(())
     }
 
-    /// Removes the file of that name, if there is one, and answers its octets.
+    /// Removes the file of that name, if there is one, and returns its octets.
     pub fn remove(&mut self, name: &[u8]) -> Option<Vec<u8>>
         ensures octets { option_map (λ octets. octets.items) result ≡ map.get self.old name.now }
         ensures files { self.new ≡ map.remove self.old name.now }

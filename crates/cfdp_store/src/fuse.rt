@@ -2,7 +2,7 @@ ghost use Rattle.std.specs.Prelude.{◌≡◌, ◌-◌, ◌<◌, IsOk};
 ghost use Rattle.cfdp_store.specs.Calls.{OutboxRefuses, InboxRefuses};
 ghost use Rattle.cfdp_store.specs.Fuse.{Passes, all_failures, blown, burnt};
 
-use crate::{Inbox, Outbox, SeekingOutbox, SteadyOutbox, StoreError};
+use crate::{Inbox, Outbox, ResumingInbox, SeekingOutbox, SteadyOutbox, StoreError};
 use cfdp_header::TransactionId;
 
 /// How many more calls go through to a store, and how many were refused since.
@@ -13,7 +13,8 @@ pub struct Fuse {
 }
 
 impl Fuse {
-    /// A fuse that blows at the given call, counting from 1. At 0 it blows at the first one, too.
+    /// Returns a fuse that blows at the given call, counted from 1. If it is 0, the fuse blows at
+    /// the first call, too.
     fn new(call: u64) -> Self
         ensures { result ≡ record { left = call - 1; refused = 0 } }
     {
@@ -23,7 +24,7 @@ impl Fuse {
         }
     }
 
-    /// Lets a call through, or refuses it.
+    /// Lets a call through, or refuses it if none is left.
     fn pass(&mut self) -> Result<(), StoreError>
         ensures through { 0 < self.old.left → IsOk result × (self.new ≡ burnt self.old) }
         ensures refused { self.old.left ≡ 0
@@ -40,9 +41,9 @@ impl Fuse {
 
 /// An outbox that fails from a chosen call on, for tests of what comes after a failure.
 ///
-/// A call before the chosen one is one call of the store behind it, with the same arguments, and
-/// gives the store's own answer. The chosen call and all later ones answer `Device`, and the store
-/// behind isn't called.
+/// A call before the chosen one is one call of the store inside, with the same arguments, and gives
+/// the store's own answer. The chosen call and all later ones answer `Device`, and the store inside
+/// isn't called.
 #[derive(Debug, Drop)]
 pub struct FuseOutbox<O> {
     store: O,
@@ -50,8 +51,8 @@ pub struct FuseOutbox<O> {
 }
 
 impl<O: Outbox> FuseOutbox<O> {
-    /// An outbox over `store` whose call number `call` fails, and all later ones, counting from 1.
-    /// `failures` isn't counted as a call. At 0 all calls fail, as at 1.
+    /// Returns an outbox over `store`. Its call number `call`, counted from 1, and all later ones
+    /// fail. `failures` isn't counted as a call. If `call` is 0, all calls fail, as at 1.
     pub fn new(store: O, call: u64) -> Self
         ensures { result ≡ record {
           store = store;
@@ -65,14 +66,14 @@ impl<O: Outbox> FuseOutbox<O> {
         }
     }
 
-    /// The store behind the fuse.
+    /// Returns the store inside the fuse.
     pub fn inner(&self) -> &O
         ensures { result.now ≡ self.now.store }
     {
         &self.store
     }
 
-    /// The store behind the fuse; the fuse itself is dropped.
+    /// Returns the store inside the fuse; the fuse itself is dropped.
     pub fn into_inner(self) -> O
         ensures { result ≡ self.store }
     {
@@ -117,9 +118,9 @@ impl<O: SeekingOutbox> SeekingOutbox for FuseOutbox<O> {
 
 /// An inbox that fails from a chosen call on, for tests of what comes after a failure.
 ///
-/// A call before the chosen one is one call of the store behind it, with the same arguments, and
-/// gives the store's own answer. The chosen call and all later ones answer `Device`, and the store
-/// behind isn't called.
+/// A call before the chosen one is one call of the store inside, with the same arguments, and gives
+/// the store's own answer. The chosen call and all later ones answer `Device`, and the store inside
+/// isn't called.
 #[derive(Debug, Drop)]
 pub struct FuseInbox<I> {
     store: I,
@@ -127,8 +128,8 @@ pub struct FuseInbox<I> {
 }
 
 impl<I: Inbox> FuseInbox<I> {
-    /// An inbox over `store` whose call number `call` fails, and all later ones, counting from 1.
-    /// `failures` isn't counted as a call. At 0 all calls fail, as at 1.
+    /// Returns an inbox over `store`. Its call number `call`, counted from 1, and all later ones
+    /// fail. `failures` isn't counted as a call. If `call` is 0, all calls fail, as at 1.
     pub fn new(store: I, call: u64) -> Self
         ensures { result ≡ record {
           store = store;
@@ -142,14 +143,14 @@ impl<I: Inbox> FuseInbox<I> {
         }
     }
 
-    /// The store behind the fuse.
+    /// Returns the store inside the fuse.
     pub fn inner(&self) -> &I
         ensures { result.now ≡ self.now.store }
     {
         &self.store
     }
 
-    /// The store behind the fuse; the fuse itself is dropped.
+    /// Returns the store inside the fuse; the fuse itself is dropped.
     pub fn into_inner(self) -> I
         ensures { result ≡ self.store }
     {
@@ -188,5 +189,17 @@ impl<I: Inbox> Inbox for FuseInbox<I> {
 
     fn failures(&self) -> u64 {
         self.store.failures().saturating_add(self.fuse.refused)
+    }
+}
+
+impl<I: ResumingInbox> ResumingInbox for FuseInbox<I> {
+    fn adopt(&mut self, id: TransactionId, end: u64) -> Result<bool, StoreError> {
+        self.fuse.pass()?;
+        self.store.adopt(id, end)
+    }
+
+    fn read(&mut self, id: TransactionId, offset: u64, out: &mut [u8]) -> Result<bool, StoreError> {
+        self.fuse.pass()?;
+        self.store.read(id, offset, out)
     }
 }

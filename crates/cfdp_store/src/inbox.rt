@@ -13,14 +13,14 @@ use cfdp_header::TransactionId;
 ///
 /// The octets of a file come in any order, so they are staged first, for the transaction that
 /// brings them. Once all of them are there, the file is published under its name, and only then do
-/// others see it. A name is a run of octets, and so is what a file has in it.
+/// others see it. A name is a list of octets, and so is what a file has in it.
 pub trait Inbox: Drop {
     /// The octets of each published file by its name. Of these calls only a `publish` that answers
     /// `Ok` changes them.
     ghost published: { Self → FileMap };
 
-    /// The octets staged for a transaction, by their offsets in the file. `None` where nothing may
-    /// be written for it: it wasn't begun, was published or discarded since, or a call of it failed
+    /// The octets staged for a transaction, by their offsets in the file. `None` if nothing may be
+    /// written for it: it wasn't begun, was published or discarded since, or a call of it failed
     /// since.
     ghost staged: { Self → TransactionId → Option OctetMap };
 
@@ -28,9 +28,9 @@ pub trait Inbox: Drop {
     ghost failures: { Self → ℕ };
 
     /// What a call may do: it leads from one state of the store, with its arguments and its answer,
-    /// to another. A store says by it what is true of this store alone, as that it fails only for
-    /// memory, or nothing. One that wraps another says by it that the answer is the other's own,
-    /// after one call of it.
+    /// to another. Here a store may say what is true of this store alone, for example that it fails
+    /// only if memory runs out. If a store wraps another, it says here that the answer is the
+    /// other's own, after one call of it.
     ghost steps: { Self → InboxCall → Self → Type 0 } = { λ _ _ _. Unit {0} };
 
     /// Begins a transaction, with nothing staged for it. What was staged for it before is dropped.
@@ -47,8 +47,8 @@ pub trait Inbox: Drop {
         ensures failures { failures self.new ≡ failures_after (failures self.old) (is_ok result) };
 
     /// Stages octets of a transaction, the first of them at an offset of its file. They replace
-    /// what was staged there. The transaction is begun: its last `begin` answered `Ok`, and no call
-    /// of it failed, published or discarded since.
+    /// what was staged there. The transaction must be begun: its last `begin` answered `Ok`, and no
+    /// call of it failed, published or discarded since.
     ///
     /// # Errors
     ///
@@ -62,9 +62,9 @@ pub trait Inbox: Drop {
         ensures published { published self.new ≡ published self.old }
         ensures failures { failures self.new ≡ failures_after (failures self.old) (is_ok result) };
 
-    /// Publishes the first `size` staged octets of a transaction under a name, in the place of a
-    /// file that is there. The transaction is begun, as with `write`, and all these octets were
-    /// written. What is staged for it is dropped.
+    /// Publishes the first `size` staged octets of a transaction under a name, in place of the file
+    /// that has it, if there is one. The transaction must be begun, as with `write`, and all these
+    /// octets must have been written. What is staged for it is dropped.
     ///
     /// # Errors
     ///
@@ -81,7 +81,7 @@ pub trait Inbox: Drop {
         ensures others { OthersKeep id (staged self.old) (staged self.new) }
         ensures failures { failures self.new ≡ failures_after (failures self.old) (is_ok result) };
 
-    /// Lets what is staged for a transaction go, if anything is.
+    /// Discards what is staged for a transaction, if anything is.
     ///
     /// # Errors
     ///
@@ -93,7 +93,7 @@ pub trait Inbox: Drop {
         ensures published { published self.new ≡ published self.old }
         ensures failures { failures self.new ≡ failures_after (failures self.old) (is_ok result) };
 
-    /// How many calls failed so far. The count stays at the greatest `u64`.
+    /// Returns how many calls failed so far. If the count is the greatest `u64`, it stays so.
     fn failures(&self) -> u64
         ensures { result ≡ failures self.now };
 }

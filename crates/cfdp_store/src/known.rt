@@ -9,7 +9,7 @@ use std::fs::Metadata;
 use std::marker::Model;
 use std::os::unix::fs::MetadataExt;
 
-/// How long a file is, which one it is, and when it was last changed. As long as this stays, so
+/// How long a file is, which one it is, and when it was last changed. If this stays the same, so
 /// does what the file has.
 #[derive(Clone, Copy, Debug, PartialEq)]
 pub struct Stamp {
@@ -22,7 +22,7 @@ pub struct Stamp {
 }
 
 impl Stamp {
-    /// That of a file of the system.
+    /// Returns the stamp of a file of the system.
     pub fn of(file: &Metadata) -> Stamp {
         Stamp {
             len: file.len(),

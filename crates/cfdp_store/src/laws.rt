@@ -15,24 +15,23 @@ pub fn written_octets_stand()
         → map.get (written m at xs) n ≡ map.get m n }
 {}
 
-/// A law: octets written from within what was written, or right behind it, take nothing away, and
-/// reach as far as they do.
+/// A law: if octets are written from within what was written, or right after it, they take nothing
+/// away, and reach as far as they do.
 pub fn written_octets_cover()
     ensures { (m : OctetMap) (size at : ℕ) (xs : List ℕ) → Covers size m → at ≤ size
         → Covers (max size (at + length xs)) (written m at xs) }
 {}
 
-/// A law: the first `size` staged octets are as many, and each is the one that stands there, where
-/// all were written.
+/// A law: if the first `size` octets were all written, there are as many staged, and each is the
+/// one that stands there.
 pub fn front_is_what_stands()
     ensures len { (m : OctetMap) (size : ℕ) → length (front m size) ≡ size }
     ensures octets { (m : OctetMap) (size n : ℕ) → Covers size m → n < size
         → slice_get (front m size) n ≡ map.get m n }
 {}
 
-/// A law: where all that was seen of a folder was as expected, so that the files of its outbox
-/// stand, each of them is one of the files that were expected of the looks, whole and octet by
-/// octet.
+/// A law: if all that was seen of a folder was as expected, so that the files of its outbox stand,
+/// each of them is one of the files that were expected of the looks, whole and octet by octet.
 pub fn files_that_stand_are_expected()
     ensures { (expected : List (List ℕ)) (shown : List Shown) →
         AreExpected expected (seen_by expected shown) }

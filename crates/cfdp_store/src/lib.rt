@@ -1,5 +1,5 @@
-//! Where the files to be sent lie, and where received files are staged and published: the two
-//! traits, stores in memory and in folders, and stores that fail from a chosen call on.
+//! Where the files to send lie, and where received files are staged and published: the two traits,
+//! stores in memory and in folders, and stores that fail from a chosen call on.
 //!
 //! A received file is staged as its octets come, in any order, and is there for others once it is
 //! published:
@@ -27,16 +27,18 @@ mod inbox;
 mod known;
 mod laws;
 mod memory;
+mod name_rule;
 mod no_inbox;
 mod outbox;
 mod parts;
 mod pieces;
+mod resuming;
 mod sources;
 mod stored;
 
 pub use error::StoreError;
 pub use files::Files;
-pub use folder::{FolderInbox, is_folder_name};
+pub use folder::FolderInbox;
 pub use folder_error::FolderError;
 pub use folder_outbox::FolderOutbox;
 pub use fuse::{FuseInbox, FuseOutbox};
@@ -45,6 +47,8 @@ pub use laws::{
     files_that_stand_are_expected, front_is_what_stands, written_octets_cover, written_octets_stand,
 };
 pub use memory::{MemoryInbox, MemoryOutbox};
+pub use name_rule::{NameRule, is_folder_name};
 pub use no_inbox::NoInbox;
 pub use outbox::{Outbox, SeekingOutbox, SteadyOutbox};
+pub use resuming::ResumingInbox;
 pub use stored::Stored;

@@ -1,13 +1,15 @@
-ghost use Rattle.std.specs.Prelude.{◌≡◌, refl, Some, None, false, IsSome, IfOk, OnErr, OnOk};
+ghost use Rattle.std.specs.Prelude.{◌≡◌, ◌+◌, ◌<◌, ◌^◌, refl, Some, None, true, false, length};
+ghost use Rattle.std.specs.Prelude.{IsSome, IfOk, OnErr, OnOk};
 ghost use Rattle.std.specs.FinMap as map;
 ghost use Rattle.std.specs.Option.{option_map};
 ghost use Rattle.cfdp_header.specs.declared.value.TransactionId.{TransactionId};
+ghost use Rattle.cfdp_store.specs.Resuming.{AreStaged, ReachesTo, ShowsStaged};
 ghost use Rattle.cfdp_store.specs.Stores.{failures_after};
 ghost use Rattle.cfdp_store.specs.Staged.{OthersKeep, written, front, staged_for};
 ghost use Rattle.cfdp_store.specs.Memory.{octets_for, Succeeds, FailsForMemoryAlone};
 
 use crate::pieces::Pieces;
-use crate::{Files, Inbox, Outbox, SeekingOutbox, SteadyOutbox, StoreError};
+use crate::{Files, Inbox, Outbox, ResumingInbox, SeekingOutbox, SteadyOutbox, StoreError};
 use cfdp_header::TransactionId;
 use std::alloc::{AllocError, Global};
 use std::collections::HashMap;
@@ -35,7 +37,7 @@ impl Model for MemoryOutbox {
 }
 
 impl MemoryOutbox {
-    /// No files. Takes no memory; `alloc` serves what is added later.
+    /// Returns no files. It takes no memory; `alloc` serves what is added later.
     pub fn new(alloc: Global) -> Self
         ensures { result ≡ map.empty }
     {
@@ -44,23 +46,32 @@ impl MemoryOutbox {
         }
     }
 
-    /// An outbox with these files. Takes no memory.
+    /// Returns an outbox with these files. It takes no memory.
     pub fn with_files(files: Files) -> Self
         ensures { result ≡ files }
     {
         MemoryOutbox { files }
     }
 
-    /// Puts a file under a name, in the place of one that is there.
+    /// Puts a file under a name, in place of the file that has it, if there is one.
     ///
     /// # Errors
     ///
-    /// `AllocError` where there is no memory for it. The files are then as before.
+    /// `AllocError` if there is no memory for it. The files are then as before.
     pub fn add(&mut self, name: Vec<u8>, octets: Vec<u8>) -> Result<(), AllocError>
         ensures ok { OnOk result (self.new ≡ map.insert self.old name.items octets.items) }
         ensures err { OnErr result (self.new ≡ self.old) }
     {
         self.files.insert(name, octets)
+    }
+
+    /// Removes the file of a name, if there is one, and returns its octets. The other files stay.
+    pub fn remove(&mut self, name: &[u8]) -> Option<Vec<u8>>
+        ensures octets { option_map (λ octets. octets.items) result
+            ≡ map.get self.old name.now }
+        ensures files { self.new ≡ map.remove self.old name.now }
+    {
+        self.files.remove(name)
     }
 }
 
@@ -99,8 +110,8 @@ impl SeekingOutbox for MemoryOutbox {
     }
 }
 
-/// Files in memory, as they were received. Every name is good, and a call fails only for want of
-/// memory; `discard` never does.
+/// Files in memory, as they were received. Any name is accepted, and a call fails only if memory
+/// runs out; `discard` never fails.
 #[derive(Debug, Drop)]
 pub struct MemoryInbox {
     files: Files,
@@ -110,8 +121,8 @@ pub struct MemoryInbox {
 }
 
 impl MemoryInbox {
-    /// An inbox with nothing published and nothing staged. Takes no memory; `alloc` serves what
-    /// comes later.
+    /// Returns an inbox with nothing published and nothing staged. It takes no memory; `alloc`
+    /// serves what comes later.
     pub fn new(alloc: Global) -> Self
         ensures published { ⟦<MemoryInbox as Inbox>⟧.published result ≡ map.empty }
         ensures staged { (id : TransactionId) → ⟦<MemoryInbox as Inbox>⟧.staged result id ≡ None }
@@ -125,7 +136,8 @@ impl MemoryInbox {
         }
     }
 
-    /// An inbox in which these files are published already. Nothing is staged. Takes no memory.
+    /// Returns an inbox in which these files are published already. Nothing is staged. It takes no
+    /// memory.
     pub fn with_files(alloc: Global, files: Files) -> Self
         ensures published { ⟦<MemoryInbox as Inbox>⟧.published result ≡ files }
         ensures staged { (id : TransactionId) → ⟦<MemoryInbox as Inbox>⟧.staged result id ≡ None }
@@ -137,14 +149,14 @@ impl MemoryInbox {
         }
     }
 
-    /// The published files.
+    /// Returns the published files.
     pub fn published(&self) -> &Files
         ensures { result.now ≡ ⟦<MemoryInbox as Inbox>⟧.published self.now }
     {
         &self.files
     }
 
-    /// Removes a published file, if there is one of that name, and answers its octets. What is
+    /// Removes a published file, if there is one of that name, and returns its octets. What is
     /// staged, and the other files, stay.
     pub fn remove(&mut self, name: &[u8]) -> Option<Vec<u8>>
         ensures octets { option_map (λ octets. octets.items) result
@@ -159,7 +171,7 @@ impl MemoryInbox {
         self.files.remove(name)
     }
 
-    /// Counts a failure for want of memory, and names it.
+    /// Counts a failure that came because memory ran out, and returns it.
     fn no_memory(&mut self) -> StoreError
         ensures counted { self.new
             ≡ record self.old { failed = failures_after self.old.failed false } }
@@ -182,14 +194,14 @@ impl MemoryInbox {
             None => Pieces::new(self.alloc),
         };
         let mut octets = pieces.into_front(size)?;
-        // A vector that grew by doubling has up to as much room again.
+        // If a vector grew by doubling, it may have as much room again.
         octets.shrink_to_fit();
         self.files
             .insert(Vec::from_slice(self.alloc, name)?, octets)
     }
 }
 
-/// Stages octets of a transaction that is begun.
+/// Stages octets of a transaction, which must be begun.
 fn stage(
     staged: &mut HashMap<TransactionId, Pieces>,
     id: TransactionId,
@@ -244,5 +256,52 @@ impl Inbox for MemoryInbox {
 
     fn failures(&self) -> u64 {
         self.failed
+    }
+}
+
+/// Returns `true` if something is begun for a transaction, and the octet before `end` is staged, if
+/// `end` isn't 0.
+fn reaches(staged: &HashMap<TransactionId, Pieces>, id: TransactionId, end: u64) -> bool
+    ensures yes { result ≡ true → ReachesTo end (octets_for staged.now id) }
+    ensures no { result ≡ false → ReachesTo end (octets_for staged.now id) → ⊥ }
+{
+    match staged.get(&id) {
+        Some(pieces) => end == 0 || pieces.octet_at(end - 1).is_some(),
+        None => false,
+    }
+}
+
+/// Copies staged octets of a transaction, and returns `true` if each of them was written.
+fn show(
+    staged: &HashMap<TransactionId, Pieces>,
+    id: TransactionId,
+    offset: u64,
+    out: &mut [u8],
+) -> bool
+    requires { offset + length out.old < 2 ^ 64 }
+    ensures staged { result ≡ true → octets_for staged.now id
+        ≡ Some (written (staged_for (octets_for staged.now) id) offset out.new) }
+    ensures yes { result ≡ true → AreStaged offset (length out.new) (octets_for staged.now id) }
+    ensures no { result ≡ false
+        → AreStaged offset (length out.new) (octets_for staged.now id) → ⊥ }
+{
+    match staged.get(&id) {
+        Some(pieces) => pieces.read(offset, out),
+        None => false,
+    }
+}
+
+/// The part of a file is what was staged for its transaction before, by whatever run. No call
+/// fails, and none changes anything.
+impl ResumingInbox for MemoryInbox {
+    ghost resumes = { λ old call new. ShowsStaged (octets_for old.staged) (octets_for new.staged)
+        call };
+
+    fn adopt(&mut self, id: TransactionId, end: u64) -> Result<bool, StoreError> {
+        Ok(reaches(&self.staged, id, end))
+    }
+
+    fn read(&mut self, id: TransactionId, offset: u64, out: &mut [u8]) -> Result<bool, StoreError> {
+        Ok(show(&self.staged, id, offset, out))
     }
 }

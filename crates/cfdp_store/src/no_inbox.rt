@@ -14,7 +14,7 @@ pub struct NoInbox {
 }
 
 impl NoInbox {
-    /// One that has refused nothing yet.
+    /// Returns an inbox that has refused nothing yet.
     pub fn new() -> Self
         ensures { result ≡ record { refused = 0 } }
     {

@@ -1,6 +1,7 @@
 // The part files of a folder: what the system did with them, and the calls of it.
 ghost use Rattle.std.specs.FinMap as map;
-ghost use Rattle.std.specs.Prelude.{◌≡◌, ◌≢◌, ◌++◌, ◌∷◌, [], None, IsSome, IfErr, OnOk, OnErr};
+ghost use Rattle.std.specs.Prelude.{◌≡◌, ◌≢◌, ◌++◌, ◌∷◌, [], true, false, Some, None, Ok, IsSome};
+ghost use Rattle.std.specs.Prelude.{IfErr, OnOk, OnErr};
 ghost use Rattle.cfdp_store.specs.Disk.{published_by, staged_by};
 ghost use Rattle.cfdp_store.specs.Staged.{OthersKeep, front, staged_for, written};
 
@@ -9,7 +10,7 @@ use cfdp_header::TransactionId;
 use past::Past;
 use std::alloc::Global;
 use std::fs::{self, File, Files, OpenFile};
-use std::io::{ErrorKind, Seek, SeekFrom, Write};
+use std::io::{ErrorKind, Read, Seek, SeekFrom, Write};
 
 /// The most part files that are open at once.
 const MOST_OPEN: usize = 16;
@@ -19,11 +20,15 @@ const MOST_OPEN: usize = 16;
 pub enum Done {
     /// It made it, with no octets.
     Made(TransactionId),
+    /// It found it, with at least so many octets.
+    Found(TransactionId, u64),
     /// It wrote octets, from an offset on.
     Wrote(TransactionId, u64, Past<u8>),
+    /// It read octets, from an offset on.
+    Read(TransactionId, u64, Past<u8>),
     /// It cut it to a length, or filled it up with zeros.
     Cut(TransactionId, u64),
-    /// It gave it this name, in the place of the file that had it.
+    /// It gave it this name, in place of the file that had it.
     Named(TransactionId, Past<u8>),
     /// It removed it, or refused something: what it has is known no more.
     Lost(TransactionId),
@@ -47,7 +52,7 @@ pub struct Parts<F: Files + Drop> {
     pub done: Past<Done>,
 }
 
-// Each of these functions asks one thing of the system; `done` says nothing of it yet.
+// Each of these functions asks one thing of the system; `done` doesn't note it yet.
 impl<F: Files + Drop> Parts<F> {
     fn path(&self, id: TransactionId) -> Result<String, FolderError>
         ensures { IfErr result (λ error. error ≢ FolderError.Name) }
@@ -64,7 +69,7 @@ impl<F: Files + Drop> Parts<F> {
         }
     }
 
-    /// Closes the part file that wasn't used for the longest time where no more may be open.
+    /// Closes the part file that wasn't used for the longest time if no more may be open.
     fn make_room(&mut self)
         ensures { self.new.done ≡ self.old.done }
     {
@@ -80,7 +85,7 @@ impl<F: Files + Drop> Parts<F> {
         let _ = self.open.push(part);
     }
 
-    /// Takes a part file from those that are open, or opens it.
+    /// Takes a part file out of the open ones, or opens it.
     fn take(&mut self, id: TransactionId) -> Result<Part<F>, FolderError>
         ensures done { self.new.done ≡ self.old.done }
         ensures err { IfErr result (λ error. error ≢ FolderError.Name) }
@@ -91,6 +96,7 @@ impl<F: Files + Drop> Parts<F> {
         self.make_room();
         let path = self.path(id)?;
         let file = File::options()
+            .read(true)
             .write(true)
             .open(&self.files, path.as_str())?;
         Ok(Part { id, file })
@@ -125,7 +131,46 @@ impl<F: Files + Drop> Parts<F> {
         Ok(())
     }
 
-    /// What it has is then on the device, too.
+    /// Opens a part file if it is there, and has at least so many octets.
+    fn try_adopt(&mut self, id: TransactionId, end: u64) -> Result<bool, FolderError>
+        ensures done { self.new.done ≡ self.old.done }
+        ensures err { IfErr result (λ error. error ≢ FolderError.Name) }
+    {
+        let part = match self.take(id) {
+            Ok(part) => part,
+            Err(FolderError::System(ErrorKind::NotFound)) => return Ok(false),
+            Err(error) => return Err(error),
+        };
+        let found = part.file.metadata()?;
+        if found.len() < end {
+            return Ok(false);
+        }
+        self.keep(part);
+        Ok(true)
+    }
+
+    /// Reads octets of a part file, if it has them all.
+    fn try_read(
+        &mut self,
+        id: TransactionId,
+        offset: u64,
+        out: &mut [u8],
+    ) -> Result<bool, FolderError>
+        ensures done { self.new.done ≡ self.old.done }
+        ensures err { IfErr result (λ error. error ≢ FolderError.Name) }
+    {
+        let mut part = self.take(id)?;
+        part.file.seek(SeekFrom::Start(offset))?;
+        match part.file.read_exact(out) {
+            Ok(()) => {}
+            Err(error) if error.kind() == ErrorKind::UnexpectedEof => return Ok(false),
+            Err(error) => return Err(FolderError::from(error)),
+        }
+        self.keep(part);
+        Ok(true)
+    }
+
+    /// Cuts a part file to a length, or fills it up. What it has is then on the device, too.
     fn try_cut(&mut self, id: TransactionId, size: u64) -> Result<(), FolderError>
         ensures done { self.new.done ≡ self.old.done }
         ensures err { IfErr result (λ error. error ≢ FolderError.Name) }
@@ -136,8 +181,8 @@ impl<F: Files + Drop> Parts<F> {
         Ok(())
     }
 
-    /// The folder is flushed to the device too, so that the file keeps its name. Where that alone
-    /// fails, the file may lie there under its name.
+    /// Gives a part file a name. The folder is flushed to the device too, so that the file keeps
+    /// its name. If only that fails, the file may lie there under its name.
     fn try_name(&mut self, id: TransactionId, name: &[u8]) -> Result<(), FolderError>
         ensures done { self.new.done ≡ self.old.done }
         ensures err { IfErr result (λ error. error ≢ FolderError.Name) }
@@ -164,7 +209,7 @@ impl<F: Files + Drop> Parts<F> {
     }
 }
 
-/// The path of a file in a folder.
+/// Returns the path of a file in a folder.
 pub fn path_in(alloc: Global, folder: &str, name: &[u8]) -> Result<String, FolderError>
     ensures { IfErr result (λ error. error ≢ FolderError.Name) }
 {
@@ -176,7 +221,7 @@ pub fn path_in(alloc: Global, folder: &str, name: &[u8]) -> Result<String, Folde
 
 // Each of these notes what the system did, as far as it answered that it did it.
 impl<F: Files + Drop> Parts<F> {
-    /// No part files, in a folder that is there.
+    /// Returns no part files, in a folder that must be there.
     pub fn new(files: F, alloc: Global, folder: String) -> Self
         ensures { result.done ≡ [] }
     {
@@ -189,7 +234,7 @@ impl<F: Files + Drop> Parts<F> {
         }
     }
 
-    /// Makes a part file with no octets, in the place of what it was.
+    /// Makes a part file with no octets, in place of what it was.
     pub fn make(&mut self, id: TransactionId) -> Result<(), FolderError>
         ensures staged { OnOk result (staged_by self.new.done id ≡ Some map.empty) }
         ensures others { OthersKeep id (staged_by self.old.done) (staged_by self.new.done) }
@@ -202,6 +247,53 @@ impl<F: Files + Drop> Parts<F> {
         }
         self.done.put(&Done::Made(id));
         Ok(())
+    }
+
+    /// Returns `true` if a part file is there that has at least so many octets.
+    pub fn adopt(&mut self, id: TransactionId, end: u64) -> Result<bool, FolderError>
+        ensures staged { result ≡ Ok true → IsSome (staged_by self.new.done id) }
+        ensures short { result ≡ Ok false → self.new.done ≡ self.old.done }
+        ensures others { OthersKeep id (staged_by self.old.done) (staged_by self.new.done) }
+        ensures published { published_by self.new.done ≡ published_by self.old.done }
+    {
+        match self.try_adopt(id, end) {
+            Ok(true) => {
+                self.done.put(&Done::Found(id, end));
+                Ok(true)
+            }
+            Ok(false) => Ok(false),
+            Err(error) => {
+                self.done.put(&Done::Lost(id));
+                Err(error)
+            }
+        }
+    }
+
+    /// Reads octets of a part file, from an offset on, and returns `true` if it has them all.
+    pub fn read(
+        &mut self,
+        id: TransactionId,
+        offset: u64,
+        out: &mut [u8],
+    ) -> Result<bool, FolderError>
+        requires { IsSome (staged_by self.old.done id) }
+        ensures staged { result ≡ Ok true → staged_by self.new.done id
+            ≡ Some (written (staged_for (staged_by self.old.done) id) offset out.new) }
+        ensures short { result ≡ Ok false → self.new.done ≡ self.old.done }
+        ensures others { OthersKeep id (staged_by self.old.done) (staged_by self.new.done) }
+        ensures published { published_by self.new.done ≡ published_by self.old.done }
+    {
+        match self.try_read(id, offset, out) {
+            Ok(true) => {
+                self.done.put(&Done::Read(id, offset, Past::of(out)));
+                Ok(true)
+            }
+            Ok(false) => Ok(false),
+            Err(error) => {
+                self.done.put(&Done::Lost(id));
+                Err(error)
+            }
+        }
     }
 
     /// Writes octets to a part file, from an offset on.
@@ -262,7 +354,7 @@ impl<F: Files + Drop> Parts<F> {
         answer
     }
 
-    /// Lets a part file go for which the system refused something.
+    /// Removes a part file if the system refused something for it.
     fn lose(&mut self, id: TransactionId)
         ensures { self.new.done ≡ self.old.done ++ Done.Lost id ∷ [] }
     {

@@ -1,21 +1,23 @@
 // The octets staged for one transaction.
 ghost use Rattle.std.specs.FinMap as map;
-ghost use Rattle.std.specs.Prelude.{◌≡◌, ℕ, ◌+◌, ◌-◌, ◌<◌, ◌≤◌, ◌++◌, [], ◌∷◌, length, slice_index};
-ghost use Rattle.std.specs.Prelude.{vec_len, vec_capacity, IfOk, IfSome, IfNone, OnErr, OnOk};
+ghost use Rattle.std.specs.Prelude.{◌≡◌, ℕ, ◌+◌, ◌-◌, ◌<◌, ◌≤◌, ◌^◌, ◌++◌, [], ◌∷◌, length, slice_index};
+ghost use Rattle.std.specs.Prelude.{true, false, vec_len, vec_capacity, Some, IfOk, IfSome, IfNone};
+ghost use Rattle.std.specs.Prelude.{OnErr, OnOk};
 ghost use Rattle.cfdp_store.specs.Pieces.{octets_of};
-ghost use Rattle.cfdp_store.specs.Staged.{written, front};
+ghost use Rattle.cfdp_store.specs.Resuming.{AreStaged};
+ghost use Rattle.cfdp_store.specs.Staged.{OctetMap, written, front};
 
 use std::alloc::{AllocError, Global};
 use std::marker::Model;
 
-/// Octets that were written one behind another, the first of them at an offset of the file.
+/// Octets that were written one after another, the first of them at an offset of the file.
 #[derive(Debug, Drop)]
 pub struct Piece {
     offset: u64,
     octets: Vec<u8>,
 }
 
-/// Appends a piece, for which there is room.
+/// Appends a piece. There must be room for it.
 fn put(pieces: &mut Vec<Piece>, piece: Piece)
     requires { vec_len pieces.old < vec_capacity pieces.old }
     ensures { pieces.new.items ≡ pieces.old.items ++ piece ∷ [] }
@@ -23,7 +25,7 @@ fn put(pieces: &mut Vec<Piece>, piece: Piece)
     let _ = pieces.push(piece);
 }
 
-/// Takes off the last piece, where octets at this offset come right behind it.
+/// Takes off the last piece, if octets at this offset come right after it.
 fn take_last(pieces: &mut Vec<Piece>, offset: u64) -> Option<Piece>
     ensures last { IfSome result (λ last. pieces.old.items ≡ pieces.new.items ++ last ∷ []) }
     ensures ends { IfSome result (λ last. offset ≡ last.offset + length last.octets.items) }
@@ -38,7 +40,7 @@ fn take_last(pieces: &mut Vec<Piece>, offset: u64) -> Option<Piece>
     None
 }
 
-/// Takes off the only piece, where it is the first `size` octets.
+/// Takes off the only piece, if it is the first `size` octets.
 fn take_whole(pieces: &mut Vec<Piece>, size: u64) -> Option<Vec<u8>>
     ensures whole { IfSome result (λ octets. octets.items
         ≡ front (octets_of pieces.old.items) size) }
@@ -53,8 +55,8 @@ fn take_whole(pieces: &mut Vec<Piece>, size: u64) -> Option<Vec<u8>>
 }
 
 /// Octets of a file by their offsets, kept as the pieces in which they were written, the oldest
-/// first: those written right behind the last piece lengthen it. So a file that comes in order is
-/// one piece, and octets at a high offset take at most twice the memory that they are.
+/// first. If octets are written right after the last piece, they lengthen it. So a file that comes
+/// in order is one piece, and octets at a high offset take at most twice the memory that they are.
 #[derive(Debug, Drop)]
 pub struct Pieces {
     pieces: Vec<Piece>,
@@ -76,7 +78,7 @@ impl Model for Pieces {
 }
 
 impl Pieces {
-    /// No octets. Takes no memory.
+    /// Returns no octets. It takes no memory.
     pub fn new(alloc: Global) -> Self
         ensures { result ≡ map.empty }
     {
@@ -90,7 +92,7 @@ impl Pieces {
     ///
     /// # Errors
     ///
-    /// `AllocError` where there is no memory for them. All is then as before.
+    /// `AllocError` if there is no memory for them. All is then as before.
     pub fn write(&mut self, offset: u64, octets: &[u8]) -> Result<(), AllocError>
         ensures ok { OnOk result (self.new ≡ written self.old offset octets.now) }
         ensures err { OnErr result (self.new ≡ self.old) }
@@ -113,11 +115,12 @@ impl Pieces {
         Ok(())
     }
 
-    /// The first `size` octets, 0 where none was written. Where they came in order, none is copied.
+    /// Returns the first `size` octets, each 0 if it wasn't written. If they came in order, none is
+    /// copied.
     ///
     /// # Errors
     ///
-    /// `AllocError` where there is no memory for them.
+    /// `AllocError` if there is no memory for them.
     pub fn into_front(mut self, size: u64) -> Result<Vec<u8>, AllocError>
         ensures { IfOk result (λ octets. octets.items ≡ front self size) }
     {
@@ -125,6 +128,36 @@ impl Pieces {
             Some(octets) => Ok(octets),
             None => self.front(size),
         }
+    }
+
+    /// Returns the octet at an offset, if it was written.
+    pub fn octet_at(&self, at: u64) -> Option<u8>
+        ensures { result ≡ map.get self.now at }
+    {
+        let mut found = None;
+        for piece in &self.pieces {
+            if let Some(octet) = octet_in(piece, at) {
+                found = Some(octet);
+            }
+        }
+        found
+    }
+
+    /// Copies octets from an offset on, as many as `out` has, and returns `true` if each of them
+    /// was written.
+    pub fn read(&self, offset: u64, out: &mut [u8]) -> bool
+        requires { offset + length out.old < 2 ^ 64 }
+        ensures whole { result ≡ true → written self.now offset out.new ≡ self.now }
+        ensures staged { result ≡ true → AreStaged offset (length out.new) (Some self.now) }
+        ensures lacks { result ≡ false → AreStaged offset (length out.new) (Some self.now) → ⊥ }
+    {
+        for at in 0..out.len() {
+            match self.octet_at(offset + at as u64) {
+                Some(octet) => out[at] = octet,
+                None => return false,
+            }
+        }
+        true
     }
 
     fn front(&self, size: u64) -> Result<Vec<u8>, AllocError>
@@ -138,7 +171,24 @@ impl Pieces {
     }
 }
 
-/// Copies a piece into `octets` from the place `offset` on, as far as it reaches.
+/// Returns the octet at an offset of the file, if a piece has it.
+fn octet_in(piece: &Piece, at: u64) -> Option<u8>
+    ensures has { IfSome result (λ octet. (m : OctetMap) →
+        map.get (written m piece.now.offset piece.now.octets.items) at ≡ Some octet) }
+    ensures lacks { IfNone result ((m : OctetMap) →
+        map.get (written m piece.now.offset piece.now.octets.items) at ≡ map.get m at) }
+{
+    if at < piece.offset {
+        return None;
+    }
+    let index = (at - piece.offset) as usize;
+    if piece.octets.len() <= index {
+        return None;
+    }
+    Some(piece.octets[index])
+}
+
+/// Copies a piece into `octets` from the offset `offset` on, as far as it reaches.
 fn copy_into(octets: &mut [u8], offset: u64, piece: &[u8])
     ensures below { (k : ℕ) → k < offset → slice_index octets.new k ≡ slice_index octets.old k }
     ensures within { (k : ℕ) → offset ≤ k → k < offset + length piece.now → k < length octets.old

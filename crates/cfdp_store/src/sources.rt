@@ -12,7 +12,7 @@ use std::io::{self, ErrorKind, Read, Seek, SeekFrom};
 /// The most files that are open at once.
 const MOST_OPEN: usize = 16;
 
-/// How many octets of a file are read at once, where it is read again before it is closed.
+/// How many octets of a file are read at once, if it is read again before it is closed.
 const BLOCK: u64 = 65_536;
 
 /// What the system showed of a file.
@@ -39,7 +39,7 @@ struct Source<F: Files> {
 }
 
 impl<F: Files> Source<F> {
-    /// Fails where the file isn't the one that was looked for, or isn't as it was then.
+    /// Fails if the file isn't the one that was looked for, or isn't as it was then.
     fn check(&self) -> Result<(), FolderError> {
         let found = self.file.metadata()?;
         if Stamp::of(&found) != self.stamp {
@@ -48,8 +48,9 @@ impl<F: Files> Source<F> {
         Ok(())
     }
 
-    /// How many octets are read where so many are wanted. The first time no more than these: where
-    /// many files are read in turn, each is closed before the rest of a block would be of use.
+    /// Returns how many octets are read if so many are asked for. The first time no more than these
+    /// are read: if many files are read in turn, each is closed before the rest of a block would be
+    /// of use.
     fn block_len(&self, wanted: usize) -> u64 {
         if self.block.is_empty() {
             return (wanted as u64).min(BLOCK);
@@ -57,8 +58,8 @@ impl<F: Files> Source<F> {
         BLOCK
     }
 
-    /// Reads the block that begins there, as far as the file goes. It is checked behind the read:
-    /// what was read after a change is never used.
+    /// Reads the block that begins there, as far as the file goes. It is checked after the read: if
+    /// the file was changed before, what was read is never used.
     fn load(&mut self, start: u64, wanted: usize) -> Result<(), FolderError> {
         let count = self
             .stamp
@@ -74,13 +75,13 @@ impl<F: Files> Source<F> {
         self.check()
     }
 
-    /// Whether the block has the octet at an offset.
+    /// Returns `true` if the block has the octet at an offset.
     fn has(&self, offset: u64) -> bool {
         self.start <= offset && offset - self.start < self.block.len() as u64
     }
 
-    /// What the file has from an offset on, where so many octets are wanted, to the end of the
-    /// block. Empty behind the file's end.
+    /// Returns what the file has from an offset on, to the end of the block, if so many octets are
+    /// asked for. It is empty after the file's end.
     fn octets_from(&mut self, offset: u64, wanted: usize) -> Result<&[u8], FolderError> {
         if !self.has(offset) {
             self.load(offset, wanted)?;
@@ -105,7 +106,7 @@ impl<F: Files> Source<F> {
     }
 }
 
-/// Why a file can't be read that was there.
+/// Returns why a file that was there can't be read.
 fn changed_or_refused(error: io::Error) -> FolderError {
     match error.kind() {
         ErrorKind::NotFound | ErrorKind::UnexpectedEof => FolderError::Changed,
@@ -113,7 +114,7 @@ fn changed_or_refused(error: io::Error) -> FolderError {
     }
 }
 
-/// The files of a folder, and those of them that are open, the one used last behind the others.
+/// The files of a folder, and the open ones; the one used last comes after the others.
 #[derive(Drop)]
 pub struct Sources<F: Files + Drop> {
     files: F,
@@ -123,7 +124,7 @@ pub struct Sources<F: Files + Drop> {
 }
 
 impl<F: Files + Drop> Sources<F> {
-    /// None is open. The folder is there.
+    /// Returns the files of a folder, which must be there. None is open.
     pub fn new(files: F, alloc: Global, folder: String) -> Self {
         Sources {
             files,
@@ -139,7 +140,7 @@ impl<F: Files + Drop> Sources<F> {
         path_in(self.alloc, self.folder.as_str(), name)
     }
 
-    /// Which of the open files has this name.
+    /// Returns which of the open files has this name.
     fn place_of(&self, name: &[u8]) -> Option<usize>
         ensures { IfSome result (λ at. at < vec_len self.now.opened) }
     {
@@ -153,7 +154,7 @@ impl<F: Files + Drop> Sources<F> {
         }
     }
 
-    /// Closes the file that wasn't used for the longest time where no more may be open.
+    /// Closes the file that wasn't used for the longest time if no more may be open.
     fn make_room(&mut self) {
         if self.opened.len() >= MOST_OPEN {
             let _ = self.opened.remove(0);
@@ -179,7 +180,7 @@ impl<F: Files + Drop> Sources<F> {
         Ok(source)
     }
 
-    /// Takes a file from those that are open, or opens it.
+    /// Takes a file out of the open ones, or opens it.
     fn take(&mut self, name: &[u8], stamp: Stamp) -> Result<Source<F>, FolderError> {
         match self.place_of(name) {
             Some(at) => Ok(self.opened.remove(at)),
@@ -190,8 +191,8 @@ impl<F: Files + Drop> Sources<F> {
         }
     }
 
-    /// The stamp of the plain file of that name, `None` where nothing has that name. It is closed
-    /// if it was open.
+    /// Returns the stamp of the plain file of that name; `None` if nothing has that name. The file
+    /// is closed if it was open.
     pub fn look(&mut self, name: &[u8]) -> Result<Option<Stamp>, FolderError>
         ensures { IfErr result (λ error. error ≢ FolderError.Name) }
     {
@@ -207,7 +208,7 @@ impl<F: Files + Drop> Sources<F> {
         }
     }
 
-    /// Reads octets of a file that had this stamp when it was looked for. It is closed where that
+    /// Reads octets of a file that had this stamp when it was looked for. It is closed if that
     /// fails, so that no block is used that wasn't read well.
     pub fn read(
         &mut self,

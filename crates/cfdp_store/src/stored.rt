@@ -13,7 +13,7 @@ pub enum Stored {
 }
 
 impl Stored {
-    /// That of one call's answer.
+    /// Returns `Done` if one call's answer is `Ok`.
     pub fn of(answer: Result<(), StoreError>) -> Stored
         ensures { result ≡ stored_by answer }
     {

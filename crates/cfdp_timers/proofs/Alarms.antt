@@ -1,4 +1,4 @@
--- Lists of alarms: those that are due, and the earliest.
+-- Lists of alarms: the due ones, and the earliest.
 use Rattle.std.proofs.Common.{◌≡◌, ℕ, ◌+◌, ◌*◌, ◌≤◌, List, [], ◌∷◌, ◌++◌, length, filter, refl, sym, ap, ◌∙◌, Bool, true, false, cond, Option, Some, None, arith, length-append, min, nat_le, is_some, true≢false}
 use Rattle.std.specs.List.{IsDistinct}
 use Rattle.std.specs.Map.{keys_of, lookup}
@@ -114,7 +114,7 @@ length-due-le at (e ∷ es) =
     let rest = length-due-le at es in
     omega (arith, all, a, rest)
 
--- ---- what the earliest is, where no timer stands twice
+-- ---- what the earliest is, if no timer stands twice
 pub earliest-none : (xs : List (Timer × ℕ)) → earliest xs ≡ None → xs ≡ []
 unfolding earliest
 earliest-none [] e = refl

@@ -1,4 +1,5 @@
--- The bounds of blocks: what a transaction that is added, a deadline that is set and a bound that is set do to them.
+-- The bounds of blocks: what a transaction that is added, a deadline that is set and a bound that
+-- is set do to them.
 use Rattle.std.proofs.Common.{◌≡◌, ◌≢◌, ◌⊎◌, inl, inr, ℕ, zero, suc, ◌+◌, ◌*◌, ◌/◌, ◌<◌, ◌≤◌, List, [], ◌∷◌, ◌++◌, length, set, get_or, refl, sym, ap, subst, ◌∙◌, true, false, cond, Option, Some, None, arith, min, nat_eq, length-append, length-set}
 use Rattle.std.specs.Map.{values_of}
 use Rattle.std.specs.Ordering.{is_eq, nat_cmp}
@@ -177,7 +178,7 @@ no_later-next d Inactivity at h =
     no_later-right d.eof_ack (earlier d.nak (earlier d.finished_ack d.inactivity)) at
     (no_later-right d.nak (earlier d.finished_ack d.inactivity) at (no_later-right d.finished_ack d.inactivity at (at, h, omega arith)))
 
--- those of a block's places up to one are no earlier
+-- the bounds of a block's indices up to one are no earlier
 pub record AreNoEarlier (es : List (TransactionId × Deadlines)) (first place : ℕ) (o : Option ℕ) : Type 0 where
   pub each : (q : ℕ) (kind : Kind) (at : ℕ) → first ≤ q → q < place → deadline_at (deadlines_in es q) kind ≡ Some at → IsNoLater o at
 

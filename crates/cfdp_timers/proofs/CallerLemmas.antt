@@ -1,4 +1,4 @@
--- Exported: what proofs of a crate above cite of rooms, armed timers and those that fired.
+-- Exported: what proofs of a crate above cite of rooms, armed timers and fired timers.
 use Rattle.std.proofs.Common.{◌≡◌, ℕ, ◌≤◌, Bool, not, true, false, cond, if◌then◌else◌, ◌||◌, Option, Some, None, List, refl, sym, ap, ◌∙◌}
 use Rattle.std.specs.Prelude.{nat_le}
 use Rattle.std.specs.Cmp.{Equal-is}

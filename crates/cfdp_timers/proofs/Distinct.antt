@@ -1,4 +1,4 @@
--- No timer stands twice among the alarms, and what follows for those that are due.
+-- No timer stands twice among the alarms, and what follows for the due ones.
 use Rattle.std.proofs.Common.{◌≡◌, ℕ, List, [], ◌∷◌, ◌++◌, length, get_or, refl, sym, ap, subst, ◌∙◌, Bool, true, false, cond, ◌||◌, ◌&&◌, T, Option, Some, None, append_assoc, nat_le}
 use Rattle.std.specs.declared.cmp.Ordering.{Ordering}
 use Rattle.std.specs.declared.cmp.Ordering.TheVariants.{Less, Equal, Greater}
@@ -39,7 +39,7 @@ unfolding IsDistinct
 one_more id kind None rest apart none = apart
 one_more id kind (Some at) rest apart none = (head_apart (id, kind) rest (none_passes_from_lookup (eq_by_cmp timer_cmp (id, kind)) rest none), apart)
 
--- another kind's alarm in front is passed over
+-- another kind's alarm at the front is passed over
 passed : (id : TransactionId) (k kind : Kind) (o : Option ℕ) (rest : List (Timer × ℕ)) → is_eq (nat_cmp (kind_place k) (kind_place kind)) ≡ false
     → lookup (eq_by_cmp timer_cmp (id, k)) rest ≡ None → lookup (eq_by_cmp timer_cmp (id, k)) (alarm_if id kind o ++ rest) ≡ None
 unfolding step

@@ -1,4 +1,5 @@
--- The earliest deadline of all, block by block: a block is skipped whose bound is no earlier than what was found.
+-- The earliest deadline of all, block by block: a block is skipped whose bound is no earlier than
+-- what was found.
 use Rattle.std.proofs.Common.{◌≡◌, ℕ, zero, suc, ◌+◌, ◌*◌, ◌≤◌, List, [], ◌∷◌, length, drop, get_or, slice_get, refl, sym, ap, ◌∙◌, true, false, cond, Option, Some, None, arith, min, nat_le}
 use Rattle.std.proofs.lemmas.Bool.{leb-false}
 use Rattle.std.proofs.lemmas.List.{drop_all, at_drop_more}
@@ -37,7 +38,7 @@ earliest-at es place = by (slice_get es place) refl
         ∙ ap (λ (x : TransactionId × Deadlines). earlier (earliest (alarms_of x.0 x.1)) (earliest (alarms (drop (place + 1) es)))) (get_or_from_slice_get es place e e is)
         ∙ ap (λ o. earlier o (earliest (alarms (drop (place + 1) es)))) (earliest-of e.0 e.1 ∙ ap next_of (sym (deadlines-at es place e is)))
 
--- one place more
+-- one more index
 pub earliest-more : (es : List (TransactionId × Deadlines)) (place : ℕ) (first now all : Option ℕ) → now ≡ earlier first (next_of (deadlines_in es place))
     → earlier first (earliest (alarms (drop place es))) ≡ all
     → earlier now (earliest (alarms (drop (place + 1) es))) ≡ all

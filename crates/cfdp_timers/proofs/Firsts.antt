@@ -1,4 +1,5 @@
--- The earliest deadlines of blocks: what a place that is added or set does to them, and that the earliest of theirs is that of all.
+-- The earliest deadlines of blocks: what an index that is added or set does to them, and that the
+-- earliest of theirs is the earliest of all.
 use Rattle.std.proofs.Common.{◌≡◌, ◌≢◌, ◌⊎◌, inl, inr, ℕ, zero, suc, ◌+◌, ◌*◌, ◌/◌, ◌%◌, ◌<◌, ◌≤◌, List, [], ◌∷◌, ◌++◌, length, take, drop, set, get_or, refl, sym, ap, subst, ◌∙◌, not, true, false, true≢false, Option, Some, None, arith, min, nat_le, nat_eq, length-drop, length-append, length-take, length-set}
 use Rattle.std.proofs.lemmas.Bool.{leb-true, leb-false, eqb-true, eq-eqb}
 use Rattle.std.specs.Option.{option_eq}
@@ -51,7 +52,7 @@ changed o old v (inl apart) = elim (earlier_is old o) as (λ _. earlier v o ≡ 
 changed o old v (inr later) =
     ap (λ x. earlier x o) (sym later) ∙ earlier_assoc old v o ∙ ap (earlier old) (earlier_comm v o) ∙ sym (earlier_assoc old o v)
 
--- the one at a place, and the others
+-- the one at an index, and the others
 apart_at : (xs : List (Option ℕ)) (x : Option ℕ) (ys : List (Option ℕ)) → earliest_of (xs ++ x ∷ ys) ≡ earlier x (earlier (earliest_of xs) (earliest_of ys))
 unfolding earliest_of
 apart_at xs x ys =
@@ -130,7 +131,7 @@ module _ (n : ℕ) where
           let whole' : take n (each ++ None ∷ []) ≡ each ++ None ∷ [] = take_all n (each ++ None ∷ []) (omega (arith, part, many)) in
           (h.0 ∙ ap earliest_of whole ∙ sym (earliest_of-push each) ∙ ap earliest_of (sym whole'), subst (λ es. AreFirsts n es fs) (none ∙ sym none') h.1)
 
-  -- the block of a place
+  -- the block of an index
   next_block : (b : ℕ) (each : List (Option ℕ)) → drop (b * n) (drop n each) ≡ drop (suc b * n) each
   next_block b each =
       let e : n + b * n ≡ suc b * n = omega arith in
@@ -166,7 +167,7 @@ module _ (n : ℕ) where
             (firsts-set (drop n each) fs b r v x low rest h.1 (is ∙ ap (λ w. earliest_of (set (take n w) r v)) (sym (next_block b each)))),
       )
 
-  -- a place that had another deadline before
+  -- an index that had another deadline before
   module _ (each : List (Option ℕ)) (place : ℕ) (old : Option ℕ) (some : 0 < n) (within : place < length each) where
     abbrev before : List (Option ℕ)
     before = set each place old
@@ -239,7 +240,7 @@ module _ (n : ℕ) where
           subst (λ es. AreFirsts n es (set firsts (place / n) x)) (ap (λ k. set before k now) whole ∙ back)
           (firsts-set before firsts (place / n) (place % n) now x low at are (is ∙ ap earliest_of window-is))
 
--- what `==` tells of two deadlines
+-- what `==` says of two deadlines
 pub same_deadline : (a b : Option ℕ) → option_eq nat_eq a b ≡ true → a ≡ b
 same_deadline None None e = refl
 same_deadline None (Some y) e = absurd (true≢false (sym e))

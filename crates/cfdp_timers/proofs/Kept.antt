@@ -50,7 +50,7 @@ contains-roomy_of es id = set.contains-from_list id_total (keys_of es) id ∙ sy
 unfoldable pub step : Ordering → Kind → ℕ → Option ℕ → Option ℕ → Option ℕ
 step r k j o f = cond (is_eq (ordering_then r (nat_cmp (kind_place k) j))) (option_or o f) f
 
--- what is found where a timer may stand in front
+-- what is found if a timer may stand before it
 pub found_one : (i : TransactionId) (k : Kind) (id : TransactionId) (kind : Kind) (o : Option ℕ) (rest : List (Timer × ℕ))
     → lookup (eq_by_cmp timer_cmp (i, k)) (alarm_if id kind o ++ rest) ≡ step (id_cmp i id) k (kind_place kind) o (lookup (eq_by_cmp timer_cmp (i, k)) rest)
 unfolding step

@@ -1,4 +1,5 @@
--- The earliest deadline but Inactivity's, over all entries, is the least of the other kinds' timers.
+-- The earliest deadline except Inactivity's, over all entries, is the least of the other kinds'
+-- timers.
 use Rattle.std.proofs.Common.{◌≡◌, ◌≢◌, ◌⊎◌, inl, inr, ℕ, ◌≤◌, List, [], ◌∷◌, refl, sym, ap, ◌∙◌, true, false, cond, Option, Some, None, arith, min, nat_le}
 use Rattle.std.specs.List.{IsDistinct}
 use Rattle.std.specs.Map.{keys_of, lookup}

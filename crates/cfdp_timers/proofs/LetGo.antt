@@ -1,4 +1,4 @@
--- A transaction that is let go: the last one takes its place.
+-- A transaction that is removed: the last one takes its index.
 use Rattle.std.proofs.Common.{◌≡◌, ◌⊎◌, inl, inr, ℕ, zero, suc, ◌-◌, ◌/◌, ◌<◌, ◌≤◌, List, [], ◌∷◌, ◌++◌, length, take, drop, set, get_or, swap_remove, refl, sym, ap, subst, ◌∙◌, Bool, ◌&&◌, not, true, false, cond, Option, Some, None, arith, nat_le, nat_eq, is_some, length-append, length-take}
 use Rattle.std.specs.Cmp.{Equal-is}
 use Rattle.std.specs.FinMap as map
@@ -128,7 +128,7 @@ module _ (es : Entries) (bounds : List ℕ) (place : ℕ) (d : TransactionId × 
       let last : (get_or es left d).1 ≡ moved = value-at es left d (omega (arith, within)) in
       ap (λ l. get_or l q no_deadlines) (values-take left (set es place (get_or es left d)) ∙ ap (take left) (values-set es place (get_or es left d) ∙ ap (set (values_of es) place) last))
 
-  -- a deadline is that of the one that was moved, or stood there before
+  -- a deadline is the deadline of the one that was moved, or stood there before
   from : (q : ℕ) (k : Kind) (x : ℕ) → deadline_at (deadlines_in after q) k ≡ Some x → ((q ≡ place) × (deadline_at moved k ≡ Some x)) ⊎ (deadline_at (deadlines_in es q) k ≡ Some x)
   from q k x h = elim (cases_lt q left) [
     | inl low ↦ here low

@@ -25,7 +25,7 @@ module _ {K X : Type 0} where
   keys-replaced (e ∷ es) zero w = refl
   keys-replaced (e ∷ es) (suc i) w = ap (λ l. e.0 ∷ l) (keys-replaced es i w)
 
--- the entry at the place that was found is the one that was looked for
+-- the entry at the index that was found is the one that was looked for
 pub found-entry : (es : List (TransactionId × Deadlines)) (id : TransactionId) (place : ℕ) → position ((eq-value).it id) (keys_of es) ≡ Some place → slice_get es place
     ≡ Some (id, deadlines_in es place)
 found-entry es id place is =
@@ -38,7 +38,7 @@ found-entry es id place is =
     let value : (get_or es place none).1 ≡ deadlines_in es place = sym (get_or-map (λ (e : TransactionId × Deadlines). e.1) es place none no_deadlines below) in
     slice_get-get_or es place none below ∙ (λ i. Some (sym key i, value i))
 
--- what is found once the value at a place is another one
+-- what is found once the value at an index is another one
 pub lookup-replaced : {X : Type 0} (es : List (TransactionId × X)) (i : ℕ) (k : TransactionId) (v w : X) (q : TransactionId) → IsDistinct (eq_by_cmp id_cmp) (keys_of es)
     → slice_get es i ≡ Some (k, v) → lookup (eq_by_cmp id_cmp q) (set_value_at es i w) ≡ cond (eq_by_cmp id_cmp k q) (Some w) (lookup (eq_by_cmp id_cmp q) es)
 lookup-replaced [] i k v w q apart at = absurd (none-some (k, v) at)

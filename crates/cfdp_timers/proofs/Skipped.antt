@@ -1,4 +1,5 @@
--- Walks over blocks: one transaction more, a block that is skipped since its bound is later, and the end.
+-- Walks over blocks: one more transaction, a block that is skipped since its bound is later, and
+-- the end.
 use Rattle.std.proofs.Common.{◌≡◌, ℕ, zero, suc, ◌+◌, ◌*◌, ◌/◌, ◌<◌, ◌≤◌, List, [], ◌∷◌, ◌++◌, length, take, drop, get_or, slice_get, refl, sym, ap, ◌∙◌, cond, Option, Some, None, arith, length-append}
 use Rattle.std.proofs.lemmas.Bool.{lt-leb}
 use Rattle.std.proofs.lemmas.List.{take-append-drop, drop_all, at_drop_more, get_or-map}
@@ -14,7 +15,7 @@ use Rattle.cfdp_timers.specs.Entries.{no_deadlines, deadline_at, deadlines_in, a
 use Rattle.cfdp_timers.proofs.Alarms.{due-alarms_of, due-cons, due-nil}
 use Rattle.cfdp_timers.proofs.Written.{alarms-append}
 
--- the entry that is found has the deadlines of its place
+-- the entry that is found has the deadlines of its index
 pub deadlines-at : (es : List (TransactionId × Deadlines)) (place : ℕ) (e : TransactionId × Deadlines) → slice_get es place ≡ Some e → deadlines_in es place ≡ e.1
 deadlines-at es place e is =
     get_or-map (λ (x : TransactionId × Deadlines). x.1) es place e no_deadlines (slice_get_within es place e is) ∙ ap (λ (x : TransactionId × Deadlines). x.1) (get_or_from_slice_get es place e e is)
@@ -43,7 +44,7 @@ module _ (at : ℕ) where
           ap (λ b. cond b only []) (lt-leb x at (h x refl))
 
   module _ (es : List (TransactionId × Deadlines)) where
-    -- one transaction more of a walk, or none
+    -- one more transaction of a walk, or none
     pub due-at : (place : ℕ) (e : TransactionId × Deadlines) → slice_get es place ≡ Some e → due at (alarms (drop place es)) ≡ due at (alarms_of e.0 e.1) ++ due at (alarms (drop (place + 1) es))
     due-at place e is =
         at_drop_more (λ l. due at (alarms l)) es place e (slice_get_within es place e is) ∙ due-cons at (get_or es place e) (drop (place + 1) es)
@@ -54,7 +55,7 @@ module _ (at : ℕ) where
         let end = length-past es place is in
         ap (λ l. due at (alarms l)) (drop_all place es end ∙ sym (drop_all (place + 1) es (omega (arith, end))))
 
-    -- a place none of whose timers is due
+    -- an index none of whose timers is due
     step : (place : ℕ) → ((kind : Kind) (x : ℕ) → deadline_at (deadlines_in es place) kind ≡ Some x → at < x) → due at (alarms (drop place es)) ≡ due at (alarms (drop (place + 1) es))
     step place later = by (slice_get es place) refl
       where
@@ -102,7 +103,7 @@ module _ (at : ℕ) where
     pub due-end : (blocks : ℕ) → length es ≤ 64 * blocks → due at (alarms (drop (64 * blocks) es)) ≡ []
     due-end blocks end = ap (λ l. due at (alarms l)) (drop_all (64 * blocks) es end) ∙ due-nil at
 
-    -- where one of a transaction's timers is due, some of all are
+    -- if one of a transaction's timers is due, some of all are
     pub some-at : (place : ℕ) (e : TransactionId × Deadlines) → slice_get es place ≡ Some e → 1 ≤ length (due at (alarms_of e.0 e.1)) → 1 ≤ length (due at (alarms es))
     some-at place e is some =
         let front = due at (alarms (take place es)) in

@@ -46,7 +46,7 @@ pub roomy_of-push : (es : List (TransactionId × Deadlines)) (i : TransactionId)
 unfolding roomy_of
 roomy_of-push es i d = ap (λ l. set.from_list l) (keys-push es i d) ∙ set.from_list_push id_total id_cmp-IsAntisymmetric (keys_of es) i
 
--- one that has room is added to no avail
+-- if a transaction has room, adding it again changes nothing
 pub insert-present : (s : set.FinSet id_cmp) (i : TransactionId) → set.contains s i ≡ true → set.insert s i ≡ s
 insert-present s i there = set.same_set id_total id_cmp-IsAntisymmetric _ _ (λ q. set.contains-insert id_total s i q
     ∙ elim (eq_by_cmp id_cmp q i) as (λ b. eq_by_cmp id_cmp q i ≡ b → (b || set.contains s q) ≡ set.contains s q) [
@@ -82,7 +82,8 @@ pub get-with_timer : (armed : Armed) (t : Timer) (o : Option ℕ) (u : Timer) �
 get-with_timer armed t None u = map.get-remove timer_total armed t u
 get-with_timer armed t (Some at) u = map.get-insert timer_total armed t at u
 
--- what two lists of entries answer, of which the second has d with one deadline changed at a transaction
+-- what two lists of entries answer, of which the second has d with one deadline changed at a
+-- transaction
 module _ (es fs : List (TransactionId × Deadlines)) (id : TransactionId) (kind : Kind) (d w : Deadlines) (o : Option ℕ)
     (apart : IsDistinct (eq_by_cmp id_cmp) (keys_of es)) (apart' : IsDistinct (eq_by_cmp id_cmp) (keys_of fs)) (had : lookup (eq_by_cmp id_cmp id) es ≡ Some d)
     (is : w ≡ with_deadline d kind o) (now : (q : TransactionId) → lookup (eq_by_cmp id_cmp q) fs ≡ cond (eq_by_cmp id_cmp id q) (Some w) (lookup (eq_by_cmp id_cmp q) es)) where
@@ -120,7 +121,7 @@ pub with_timer-absent : (es : List (TransactionId × Deadlines)) (id : Transacti
 with_timer-absent es id kind None apart none room = remove-absent es id kind apart none
 with_timer-absent es id kind (Some at) apart none room = absurd (true≢false (sym (room refl) ∙ sym (has-room es id) ∙ ap is_some none))
 
--- the state, where the transactions are the same
+-- the state, if the transactions are the same
 pub state_of-written : (time : ℕ) (es fs : List (TransactionId × Deadlines)) (armed : Armed) → keys_of fs ≡ keys_of es → armed_of fs ≡ armed
     → state_of time fs ≡ record { time = time; roomy = roomy_of es; armed = armed }
 unfolding roomy_of

@@ -15,14 +15,14 @@ use Rattle.cfdp_header.specs.Ids.{id_cmp}
 abbrev pub Armed : Type 0
 Armed = map.FinMap timer_cmp ℕ
 
--- what `Timers` holds: the latest time told, the transactions whose timers can be armed, and the
+-- what `Timers` holds: the latest time given, the transactions whose timers can be armed, and the
 -- armed timers
 pub record TimersState : Type 0 where
   pub time : ℕ
   pub roomy : set.FinSet id_cmp
   pub armed : Armed
 
--- their codes: a type whose model holds one of them lists it in its own
+-- their codes: if the model of a type holds one of them, the type lists it in its own
 abbrev pub roomy_code : Coded (set.FinSet id_cmp)
 roomy_code = set.code (id.the_row).coded
 

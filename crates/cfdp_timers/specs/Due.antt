@@ -9,7 +9,7 @@ use Rattle.std.specs.FinMap as map
 use Rattle.cfdp_timers.specs.Order.{Timer, timer_cmp}
 use Rattle.cfdp_timers.specs.Armed.{Armed}
 
--- whether a timer is armed with a deadline at a time or before it
+-- true if a timer is armed with a deadline at a time or before it
 abbrev pub is_due : Armed → ℕ → Timer → Bool
 is_due armed at t = option_map_or (λ d. nat_le d at) (map.get armed t) false
 
@@ -26,7 +26,7 @@ pub record AreDue (armed : Armed) (at : ℕ) (fired : List Timer) : Type 0 where
 abbrev pub due_count : Armed → ℕ → ℕ
 due_count armed at = count_by (λ e. nat_le e.1 at) (map.entries armed)
 
--- what is left once those that are due have fired
+-- what is left once the due timers have fired
 unfoldable pub still_armed : ℕ → Armed → Armed
 still_armed at armed = map.retain_keys armed (λ t. not (is_due armed at t))
 

@@ -6,13 +6,13 @@ use Rattle.cfdp_header.specs.declared.value.TransactionId.{TransactionId}
 use Rattle.cfdp_directives.specs.declared.user.indication.Indication.{Indication}
 use Rattle.cfdp_timers.specs.declared.effects.Effects.{Effects}
 
--- There is room for a step of this transaction: for three indications, the most that one step
+-- There must be room for a step of this transaction: for three indications, the most that one step
 -- makes, and for its timers.
 pub record HasRoom (id : TransactionId) (effects : Effects) : Type 0 where
   pub told : vec_len effects.told + 3 ≤ vec_capacity effects.told
   pub timers : set.contains effects.timers.roomy id ≡ true
 
--- Of the room for indications, at most so many places were used.
+-- At most so many places of the room for indications were used.
 abbrev pub UsesAtMost : ℕ → (before now : Vec Indication Global) → Type 0
 UsesAtMost count before now =
     vec_len now + vec_capacity before ≤ vec_len before + count + vec_capacity now

@@ -29,7 +29,7 @@ with_deadline d Inactivity at = record d { inactivity = at }
 abbrev pub no_deadlines : Deadlines
 no_deadlines = record { eof_ack = None; nak = None; finished_ack = None; inactivity = None }
 
--- the deadlines of the transaction at a place
+-- the deadlines of the transaction at an index
 abbrev pub deadlines_in : List (TransactionId × Deadlines) → ℕ → Deadlines
 deadlines_in es place = get_or (values_of es) place no_deadlines
 
@@ -44,12 +44,12 @@ alarms_of id d =
     alarm_if id EofAck d.eof_ack ++ (alarm_if id Nak d.nak
     ++ (alarm_if id FinishedAck d.finished_ack ++ alarm_if id Inactivity d.inactivity))
 
--- and those of all
+-- and the armed timers of all
 unfoldable pub alarms : List (TransactionId × Deadlines) → List (Timer × ℕ)
 alarms [] = []
 alarms (e ∷ es) = alarms_of e.0 e.1 ++ alarms es
 
--- those that are due at a time
+-- the timers that are due at a time
 abbrev pub due : ℕ → List (Timer × ℕ) → List (Timer × ℕ)
 due at = filter (λ e. nat_le e.1 at)
 
@@ -59,7 +59,7 @@ timer_of a = (a.id, a.kind)
 abbrev pub entry_of : Alarm → Timer × ℕ
 entry_of a = ((a.id, a.kind), a.deadline)
 
--- the earlier of two deadlines, where both are there
+-- the earlier of two deadlines, if both are there
 abbrev pub earlier : Option ℕ → Option ℕ → Option ℕ
 earlier None b = b
 earlier (Some x) None = Some x
@@ -99,7 +99,7 @@ abbrev pub lowered : List ℕ → ℕ → Option ℕ → List ℕ
 lowered bounds block None = bounds
 lowered bounds block (Some at) = slice_set bounds block (min (get_or bounds block 0) at)
 
--- the earliest deadline of a transaction but Inactivity's, and that of each
+-- the earliest deadline of a transaction except Inactivity's, and the same of each
 abbrev pub other_of : Deadlines → Option ℕ
 other_of d = earlier d.eof_ack (earlier d.nak d.finished_ack)
 

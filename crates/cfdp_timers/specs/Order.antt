@@ -1,4 +1,4 @@
--- Timers, and the order of those with one deadline.
+-- Timers, and the order of timers with one deadline.
 use Rattle.std.specs.Prelude.{ℕ}
 use Rattle.std.specs.declared.cmp.Ordering.{Ordering}
 use Rattle.std.specs.Ordering.{nat_cmp, on, then_cmp}

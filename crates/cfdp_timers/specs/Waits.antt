@@ -9,7 +9,7 @@ use Rattle.cfdp_timers.specs.declared.wait.Wait.TheVariants.{Clear, Keep, Anew}
 use Rattle.cfdp_timers.specs.declared.wait.Waits.{Waits}
 use Rattle.cfdp_timers.specs.Armed.{Armed, with_timer}
 
--- the time so many units after another, or the greatest there is
+-- the time so many units after another, or the greatest time if that is less
 abbrev pub deadline_after : ℕ → ℕ → ℕ
 deadline_after now duration = min (now + duration) (2 ^ 64 - 1)
 
@@ -27,12 +27,12 @@ is_kind FinishedAck FinishedAck = true
 is_kind Inactivity Inactivity = true
 is_kind _ _ = false
 
--- whether a timer is the one that a step arms anew, if it arms one
+-- true if a timer is the one that a step arms again, if it arms one
 abbrev pub is_anew : Option Kind → Kind → Bool
 is_anew (Some anew) kind = is_kind anew kind
 is_anew None kind = false
 
--- what is asked of a timer that is waited for or not, and is to be armed anew or not
+-- what is asked of a timer that is waited for or not, and that is armed again or not
 abbrev pub wait_by : (waits anew : Bool) → ℕ → Wait
 wait_by waits anew duration =
     if waits then (if anew then Anew duration else Keep duration) else Clear

@@ -15,7 +15,7 @@ pub(crate) struct Alarm {
     pub(crate) kind: Kind,
 }
 
-/// The timers of alarms.
+/// Returns the timers of alarms.
 pub(crate) fn timers_of(
     alloc: Global,
     alarms: &[Alarm],

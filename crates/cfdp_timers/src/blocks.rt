@@ -1,4 +1,4 @@
-// Deadlines by place, and the earliest of each block of them.
+// Deadlines by index, and the earliest of each block of them.
 ghost use Rattle.std.specs.Prelude.{◌≡◌, ◌+◌, ◌*◌, ◌/◌, ◌≤◌, ◌<◌, ◌++◌, [], ◌∷◌, None, ◌-◌, length};
 ghost use Rattle.std.specs.Prelude.{take, drop, get_or, slice_set, swap_remove, OnOk, OnErr};
 ghost use Rattle.cfdp_timers.specs.Entries as kept;
@@ -8,14 +8,14 @@ use crate::deadlines::earlier;
 use std::alloc::{AllocError, Global};
 use std::marker::Model;
 
-/// How many places a block has.
+/// How many indices a block has.
 pub(crate) const BLOCK: usize = 64;
 
-/// Deadlines by place; `None` where there is none.
+/// Deadlines by index; `None` if there is none.
 #[derive(Debug, Drop)]
 pub(crate) struct Blocks {
     each: Vec<Option<u64>>,
-    // The earliest of each block of 64 places.
+    // The earliest of each block of 64 indices.
     firsts: Vec<Option<u64>>,
 }
 
@@ -40,7 +40,7 @@ impl Blocks {
         }
     }
 
-    /// Adds a place without a deadline.
+    /// Adds an index without a deadline.
     pub(crate) fn push(&mut self) -> Result<(), AllocError>
         ensures ok { OnOk result (self.new ≡ self.old ++ None ∷ []) }
         ensures err { OnErr result (self.new ≡ self.old) }
@@ -50,8 +50,8 @@ impl Blocks {
         Ok(())
     }
 
-    /// Sets the deadline of a place. Only where the earliest of its block may have gone are the
-    /// others looked at.
+    /// Sets the deadline of an index. The others of its block are looked at only if its earliest
+    /// may have gone.
     pub(crate) fn set(&mut self, place: usize, deadline: Option<u64>)
         requires within { place < length self.old }
         ensures { self.new ≡ slice_set self.old place deadline }
@@ -61,7 +61,7 @@ impl Blocks {
         put(&self.each, &mut self.firsts, place, old);
     }
 
-    /// Removes a place. The last one takes it.
+    /// Removes an index. The last one takes it.
     pub(crate) fn swap_remove(&mut self, place: usize)
         requires within { place < length self.old }
         ensures { self.new ≡ swap_remove self.old place None }
@@ -73,7 +73,7 @@ impl Blocks {
         self.pop();
     }
 
-    // Removes the last place, which has no deadline.
+    // Removes the last index, which must have no deadline.
     fn pop(&mut self)
         requires some { 0 < length self.old }
         requires none { get_or self.old (length self.old - 1) None ≡ None }
@@ -82,7 +82,7 @@ impl Blocks {
         let _ = self.each.pop();
     }
 
-    /// The earliest of all.
+    /// Returns the earliest of all.
     pub(crate) fn earliest(&self) -> Option<u64>
         ensures { result ≡ kept.earliest_of self.now }
     {
@@ -90,7 +90,7 @@ impl Blocks {
     }
 }
 
-// Adds a block where all are full.
+// Adds a block if all are full.
 fn cover(each: &[Option<u64>], firsts: &mut Vec<Option<u64>>) -> Result<(), AllocError>
     requires are { AreFirsts 64 each.now firsts.old.items }
     ensures are { AreFirsts 64 each.now firsts.new.items }
@@ -102,7 +102,7 @@ fn cover(each: &[Option<u64>], firsts: &mut Vec<Option<u64>>) -> Result<(), Allo
     Ok(())
 }
 
-// Keeps the earliest of a block, one place of which had the deadline `old`.
+// Keeps the earliest of a block that had the deadline `old` at one index.
 fn put(each: &[Option<u64>], firsts: &mut [Option<u64>], place: usize, old: Option<u64>)
     requires are { AreFirsts 64 (slice_set each.now place old) firsts.old }
     requires within { place < length each.now }
@@ -113,8 +113,8 @@ fn put(each: &[Option<u64>], firsts: &mut [Option<u64>], place: usize, old: Opti
     firsts[block] = first_of(each, place, first, old);
 }
 
-// The earliest of the block of a place which had the deadline `old`, where `first` was the
-// earliest. Only where that may have been this place's are all looked at.
+// Returns the earliest of the block of an index which had the deadline `old`, if `first` was the
+// earliest. All are looked at only if this index may have had the earliest.
 fn first_of(each: &[Option<u64>], place: usize, first: Option<u64>, old: Option<u64>) -> Option<u64>
     requires within { place < length each.now }
     requires first { first ≡ kept.earliest_of (take 64 (drop (place / 64 * 64)
@@ -141,7 +141,7 @@ fn earliest_of(deadlines: &[Option<u64>]) -> Option<u64>
     earliest
 }
 
-// The places of a block.
+// Returns the deadlines of a block.
 fn block_of(each: &[Option<u64>], block: usize) -> &[Option<u64>]
     requires within { block * 64 ≤ length each.now }
     ensures { result.now ≡ take 64 (drop (block * 64) each.now) }

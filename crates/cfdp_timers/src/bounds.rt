@@ -1,4 +1,4 @@
-// A bound for each block of places: a time before which none of its timers is due.
+// A bound for each block of indices: a time before which none of its timers is due.
 ghost use Rattle.std.specs.Prelude.{◌≡◌, ℕ, ◌<◌, ◌≤◌, ◌++◌, ◌-◌, ◌^◌, [], ◌∷◌, true, length};
 ghost use Rattle.std.specs.Prelude.{get_or, slice_set, OnOk, OnErr};
 ghost use Rattle.cfdp_timers.specs.Entries.{lowered};
@@ -6,8 +6,8 @@ ghost use Rattle.cfdp_timers.specs.Entries.{lowered};
 use std::alloc::{AllocError, Global};
 use std::marker::Model;
 
-/// Bounds by block. A deadline that goes or is put off leaves its bound too early, so that no other
-/// deadline has to be looked at; `tighten` of `walk` makes up for it once that time has come.
+/// Bounds by block. If a deadline goes or is put off, its bound stays too early, so that no other
+/// deadline must be looked at; `tighten` of `walk` corrects it once that time has come.
 #[derive(Debug, Drop)]
 pub(crate) struct Bounds {
     each: Vec<u64>,
@@ -45,14 +45,14 @@ impl Bounds {
         Ok(())
     }
 
-    /// How many blocks there are.
+    /// Returns how many blocks there are.
     pub(crate) fn len(&self) -> usize
         ensures { result ≡ length self.now }
     {
         self.each.len()
     }
 
-    /// The bound of a block.
+    /// Returns the bound of a block.
     pub(crate) fn at(&self, block: usize) -> u64
         requires within { block < length self.now }
         ensures { result ≡ get_or self.now block 0 }
@@ -60,7 +60,7 @@ impl Bounds {
         self.each[block]
     }
 
-    /// Whether a time is before all bounds.
+    /// Returns `true` if a time is before all bounds.
     pub(crate) fn are_after(&self, now: u64) -> bool
         ensures { result ≡ true
             → (block : ℕ) → block < length self.now → now < get_or self.now block 0 }
@@ -77,7 +77,8 @@ impl Bounds {
         self.first = self.first.min(bound);
     }
 
-    /// A timer of a block is armed with this deadline, or cleared.
+    /// Makes the bound of a block early enough once one of its timers is armed with this deadline,
+    /// or cleared.
     pub(crate) fn lower(&mut self, block: usize, deadline: Option<u64>)
         requires within { block < length self.old }
         ensures { self.new ≡ lowered self.old block deadline }
@@ -89,7 +90,7 @@ impl Bounds {
         }
     }
 
-    /// Looks for the earliest bound anew.
+    /// Finds the earliest bound again.
     pub(crate) fn settle(&mut self)
         ensures { self.new ≡ self.old }
     {

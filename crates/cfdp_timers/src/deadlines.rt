@@ -12,7 +12,7 @@ use crate::alarm::Alarm;
 use cfdp_header::TransactionId;
 use std::alloc::AllocError;
 
-// The earlier of two deadlines.
+// Returns the earlier of two deadlines.
 pub(crate) fn earlier(a: Option<u64>, b: Option<u64>) -> Option<u64>
     ensures { result ≡ kept.earlier a b }
 {
@@ -23,7 +23,7 @@ pub(crate) fn earlier(a: Option<u64>, b: Option<u64>) -> Option<u64>
     }
 }
 
-// How many timers of one are due.
+// Returns how many timers of one are due: 0 or 1.
 fn due_count(deadline: Option<u64>, now: u64) -> usize
     ensures count { (id : TransactionId) (kind : Kind) →
         result ≡ length (kept.due now (alarm_if id kind deadline)) }
@@ -54,7 +54,7 @@ fn push_due(
     Ok(())
 }
 
-/// The deadlines of one transaction; `None` where the timer isn't armed.
+/// The deadlines of one transaction; `None` if the timer isn't armed.
 #[derive(Clone, Copy, Debug)]
 pub(crate) struct Deadlines {
     pub(crate) eof_ack: Option<u64>,
@@ -94,7 +94,7 @@ impl Deadlines {
         }
     }
 
-    // The earliest deadline.
+    // Returns the earliest deadline.
     pub(crate) fn next(&self) -> Option<u64>
         ensures { (id : TransactionId) → result ≡ kept.earliest (alarms_of id self.now) }
     {
@@ -102,14 +102,14 @@ impl Deadlines {
         earlier(self.eof_ack, others)
     }
 
-    // The earliest deadline but Inactivity's.
+    // Returns the earliest deadline except Inactivity's.
     pub(crate) fn other(&self) -> Option<u64>
         ensures { result ≡ other_of self.now }
     {
         earlier(self.eof_ack, earlier(self.nak, self.finished_ack))
     }
 
-    // How many timers are due.
+    // Returns how many timers are due.
     pub(crate) fn due_count(&self, now: u64) -> usize
         ensures count { (id : TransactionId) → result
             ≡ length (kept.due now (alarms_of id self.now)) }

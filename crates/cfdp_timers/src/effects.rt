@@ -12,13 +12,13 @@ use std::alloc::Global;
 pub struct Effects {
     /// The timers of all transactions.
     pub timers: Timers,
-    /// What was indicated, the latest last. A step takes no memory: room for three more is made
-    /// before it.
+    /// What was indicated, the latest last. A step takes no memory: there must be room for three
+    /// more before it.
     pub told: Vec<Indication>,
 }
 
 impl Effects {
-    /// No timers at time 0, and nothing indicated.
+    /// Returns no timers at time 0, and nothing indicated.
     pub fn new(alloc: Global) -> Effects
         ensures time { result.timers.time ≡ 0 }
         ensures roomy { result.timers.roomy ≡ set.empty }

@@ -1,5 +1,5 @@
-// The deadlines of each transaction; beside them, by place, the earliest but Inactivity's, and, by
-// block, the bounds.
+// The deadlines of each transaction; beside them, by index, the earliest except Inactivity's, and,
+// by block, the bounds.
 ghost use Rattle.std.specs.Prelude.{◌≡◌, ◌*◌, ◌/◌, ◌<◌, ◌≤◌, ◌++◌, [], ◌∷◌, true, None, IsSome};
 ghost use Rattle.std.specs.Prelude.{OnOk, OnErr, cond, length, get_or, slice_set};
 ghost use Rattle.std.specs.List.{IsDistinct};
@@ -46,7 +46,7 @@ pub(crate) fn add(
     Ok(())
 }
 
-// Adds a block where all are full.
+// Adds a block if all are full.
 fn cover(
     entries: &IndexMap<TransactionId, Deadlines>,
     bounds: &mut Bounds,
@@ -61,7 +61,7 @@ fn cover(
     Ok(())
 }
 
-// Room was made for it.
+// There is room for it.
 fn insert(entries: &mut IndexMap<TransactionId, Deadlines>, id: TransactionId)
     requires absent { get same_id entries.old id ≡ None }
     requires room { 0 < spare entries.old }
@@ -98,7 +98,7 @@ pub(crate) fn set_deadline(
     bounds.lower(place / BLOCK, deadline);
 }
 
-// Sets one deadline of the entry at a place. Answers all that it has then.
+// Sets one deadline of the entry at an index. Returns all that it has then.
 fn write(
     entries: &mut IndexMap<TransactionId, Deadlines>,
     place: usize,
@@ -120,7 +120,8 @@ fn write(
     }
 }
 
-// A deadline of Inactivity changes nothing here, so the others aren't looked at.
+// Sets a deadline if it isn't Inactivity's: Inactivity's changes nothing here, so the others
+// aren't looked at.
 fn set_other(others: &mut Blocks, place: usize, kind: Kind, deadlines: &Deadlines)
     requires within { place < length others.old }
     requires same { kind ≡ Inactivity → get_or others.old place None ≡ other_of deadlines.now }
@@ -132,7 +133,7 @@ fn set_other(others: &mut Blocks, place: usize, kind: Kind, deadlines: &Deadline
     }
 }
 
-/// Removes a transaction, if it has an entry. The last one takes its place.
+/// Removes a transaction, if it has an entry. The last one takes its index.
 pub(crate) fn take_out(
     entries: &mut IndexMap<TransactionId, Deadlines>,
     others: &mut Blocks,

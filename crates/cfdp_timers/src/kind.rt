@@ -1,4 +1,4 @@
-/// What a timer of a transaction waits for (CCSDS 727.0-B-5). Of timers with one deadline and one
+/// What a timer of a transaction waits for (CCSDS 727.0-B-5). If timers have one deadline and one
 /// transaction, the earlier kind here fires first.
 #[derive(Clone, Copy, Debug, PartialEq, Eq, PartialOrd, Ord)]
 pub enum Kind {

@@ -6,7 +6,7 @@
 //! let deadline = timers.deadline_after(10);
 //! timers.arm(id, Kind::Nak, deadline);
 //! for (id, kind) in timers.fire(now)? {
-//!     // The NAK of that transaction is to be sent again.
+//!     // The NAK of that transaction must be sent again.
 //! }
 //! ```
 //!

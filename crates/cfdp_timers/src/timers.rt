@@ -29,13 +29,13 @@ use std::marker::Model;
 // More than memory holds: an entry takes over 16 octets.
 const MOST_TRANSACTIONS: usize = 1 << 59;
 
-/// When timers of transactions are due: of each transaction that has room, one timer of each kind.
+/// When timers of transactions are due: each transaction that has room has one timer of each kind.
 ///
-/// Times are in units of the caller's, from 0 on.
+/// Times are in units of the caller's clock, from 0 on.
 #[derive(Debug, Drop)]
 pub struct Timers {
     entries: IndexMap<TransactionId, Deadlines>,
-    // By place, the earliest deadline but Inactivity's.
+    // By index, the earliest deadline except Inactivity's.
     others: Blocks,
     // By block, no deadline is before its bound.
     bounds: Bounds,
@@ -65,7 +65,7 @@ impl Model for Timers {
 }
 
 impl Timers {
-    /// No timers, at time 0.
+    /// Returns no timers, at time 0.
     pub fn new(alloc: Global) -> Self
         ensures time { result.time ≡ 0 }
         ensures roomy { result.roomy ≡ set.empty }
@@ -80,28 +80,28 @@ impl Timers {
         }
     }
 
-    /// The latest time that was told.
+    /// Returns the latest time that was given to `fire`.
     pub fn now(&self) -> u64
         ensures { result ≡ self.now.time }
     {
         self.time
     }
 
-    /// The time so many units after now, or the greatest there is.
+    /// Returns the time so many units after now, or the greatest time if that is less.
     pub fn deadline_after(&self, duration: u32) -> u64
         ensures { result ≡ deadline_after self.now.time duration }
     {
         self.time.saturating_add(u64::from(duration))
     }
 
-    /// Whether a transaction has room, so that its timers can be armed.
+    /// Returns `true` if a transaction has room, so that its timers can be armed.
     pub fn has_room(&self, id: TransactionId) -> bool
         ensures { result ≡ set.contains self.now.roomy id }
     {
         self.entries.contains_key(&id)
     }
 
-    /// The deadline of a timer, if it is armed.
+    /// Returns the deadline of a timer, if it is armed.
     pub fn deadline_of(&self, id: TransactionId, kind: Kind) -> Option<u64>
         ensures { result ≡ deadline_of self.now id kind }
     {
@@ -112,14 +112,14 @@ impl Timers {
     ///
     /// # Errors
     ///
-    /// Where there is no memory for one more transaction. All is then unchanged.
+    /// If there is no memory for one more transaction. All is then unchanged.
     pub fn room(&mut self, id: TransactionId) -> Result<(), AllocError>
         ensures ok { OnOk result (self.new
             ≡ record self.old { roomy = set.insert self.old.roomy id }) }
         ensures err { OnErr result (self.new ≡ self.old) }
-        // A transaction that has room takes no more memory.
+        // If a transaction has room, it takes no more memory.
         ensures again { set.contains self.old.roomy id ≡ true → IsOk result }
-        // What `arm` asks for: now it has room, and whoever had it keeps it.
+        // What `arm` requires: now it has room, and whoever had it keeps it.
         ensures has_room { OnOk result (set.contains self.new.roomy id ≡ true) }
         ensures keeps { (other : TransactionId) →
             set.contains self.old.roomy other ≡ true → set.contains self.new.roomy other ≡ true }
@@ -134,7 +134,8 @@ impl Timers {
         Ok(())
     }
 
-    /// Arms a timer, or gives one that is armed another deadline, earlier or later.
+    /// Arms a timer, or gives an armed one another deadline, earlier or later. The transaction must
+    /// have room.
     pub fn arm(&mut self, id: TransactionId, kind: Kind, deadline: u64)
         requires has_room { set.contains self.old.roomy id ≡ true }
         ensures armed { self.new
@@ -144,7 +145,7 @@ impl Timers {
         self.set_deadline(id, kind, Some(deadline));
     }
 
-    /// Clears a timer; one that isn't armed stays so.
+    /// Clears a timer; if it isn't armed, it stays so.
     pub fn clear(&mut self, id: TransactionId, kind: Kind)
         ensures cleared { self.new
             ≡ record self.old { armed = map.remove self.old.armed (id, kind) } }
@@ -153,8 +154,8 @@ impl Timers {
         self.set_deadline(id, kind, None);
     }
 
-    /// The earliest deadline of the armed timers; `None` where none is armed. It looks only at those
-    /// transactions whose blocks may have an earlier one than the other kinds' earliest.
+    /// Returns the earliest deadline of the armed timers; `None` if none is armed. It looks only at
+    /// transactions whose blocks may have an earlier deadline than the other kinds' earliest.
     pub fn next(&self) -> Option<u64>
         ensures { MatchOption result (self.now.armed
             ≡ map.empty) (λ deadline. IsLeast self.now.armed deadline) }
@@ -162,8 +163,8 @@ impl Timers {
         walk::earliest_of_all(&self.entries, &self.bounds, self.others.earliest())
     }
 
-    /// The earliest deadline of the armed timers but those of kind Inactivity; `None` where no other
-    /// is armed.
+    /// Returns the earliest deadline of the armed timers except the timers of kind Inactivity;
+    /// `None` if no other is armed.
     pub fn next_but_inactivity(&self) -> Option<u64>
         ensures { MatchOption result (OnlyInactivity self.now.armed)
             (λ deadline. IsLeastOther self.now.armed deadline) }
@@ -171,7 +172,7 @@ impl Timers {
         self.others.earliest()
     }
 
-    /// How many timers `fire` would give at that time.
+    /// Returns how many timers `fire` would give at that time.
     pub fn due_count(&self, now: u64) -> usize
         ensures count { result ≡ due_count self.now.armed (max self.now.time now) }
         // So a caller may count three things for each of them.
@@ -180,13 +181,13 @@ impl Timers {
         walk::due_count(&self.entries, &self.bounds, self.time.max(now))
     }
 
-    /// Tells the time, and gives and clears the timers whose deadline is then or before: by
-    /// deadline, then by transaction, then by kind. A time before the latest that was told counts
-    /// as the latest.
+    /// Sets the time, and returns and clears the timers whose deadline is then or before: by
+    /// deadline, then by transaction, then by kind. If the time is before the latest given, the
+    /// latest counts.
     ///
     /// # Errors
     ///
-    /// Where a timer is due, and there is no memory for the answer. All is then unchanged, the time
+    /// If a timer is due, and there is no memory for the answer. All is then unchanged, the time
     /// too.
     pub fn fire(&mut self, now: u64) -> Result<Vec<(TransactionId, Kind)>, AllocError>
         ensures time { OnOk result (self.new.time ≡ max self.old.time now) }
@@ -210,9 +211,9 @@ impl Timers {
         Ok(fired)
     }
 
-    /// Arms and clears the four timers of a transaction by what it waits for: clears those that it
-    /// doesn't wait for, arms those that it waits for anew or that aren't armed, and leaves the
-    /// others. Takes no memory.
+    /// Arms and clears the four timers of a transaction by what it waits for. It clears a timer
+    /// that isn't waited for, arms a timer that is waited for again or isn't armed, and leaves the
+    /// others. It takes no memory: the transaction must have room.
     #[tactic(auto, unfolding(crate::specs::Waits::waited))]
     pub fn set(&mut self, id: TransactionId, waits: &Waits)
         requires has_room { set.contains self.old.roomy id ≡ true }
@@ -228,7 +229,7 @@ impl Timers {
         self.set_one(id, Kind::Inactivity, waits.inactivity, old.inactivity);
     }
 
-    /// Clears the timers of a transaction, and takes its room back. Takes no memory.
+    /// Clears the timers of a transaction, and takes its room back. It takes no memory.
     pub fn let_go(&mut self, id: TransactionId)
         ensures time { self.new.time ≡ self.old.time }
         ensures roomy { self.new.roomy ≡ set.remove self.old.roomy id }
@@ -241,7 +242,7 @@ impl Timers {
         self.take_out(id);
     }
 
-    // Takes the room of a transaction back, none of whose timers is armed.
+    // Takes the room of a transaction back. None of its timers may be armed.
     fn take_out(&mut self, id: TransactionId)
         requires none { (kind : Kind) → deadline_of self.old id kind ≡ None }
         ensures { self.new ≡ record self.old { roomy = set.remove self.old.roomy id } }
@@ -249,7 +250,7 @@ impl Timers {
         entries::take_out(&mut self.entries, &mut self.others, &mut self.bounds, id);
     }
 
-    // The deadlines of a transaction; none where it has no room.
+    // Returns the deadlines of a transaction; none if it has no room.
     fn deadlines(&self, id: TransactionId) -> Deadlines
         ensures { (kind : Kind) → deadline_at result kind ≡ deadline_of self.now id kind }
     {
@@ -259,7 +260,7 @@ impl Timers {
         }
     }
 
-    // Sets one timer of a transaction that has room, where it had this deadline.
+    // Sets one timer of a transaction that has room, if it had this deadline.
     #[tactic(auto, using(crate::proofs::Waited::with_timer_kept))]
     fn set_one(&mut self, id: TransactionId, kind: Kind, wait: Wait, old: Option<u64>)
         requires room { set.contains self.old.roomy id ≡ true }
@@ -291,7 +292,7 @@ impl Timers {
         );
     }
 
-    // The timers that are due, as they fire.
+    // Returns the timers that are due, in the order in which they fire.
     fn due(&self, now: u64) -> Result<Vec<Alarm>, AllocError>
         ensures fired { IfOk result (λ due. AreDue self.now.armed now (map_list timer_of due.items)) }
         ensures count { IfOk result (λ due. length due.items ≡ due_count self.now.armed now) }
@@ -314,8 +315,7 @@ impl Timers {
         }
     }
 
-    // Makes the bounds later that the time has come to: what they stood for has fired, or was put
-    // off.
+    // Makes each bound later whose time has come: its timers have fired, or were put off.
     fn tighten(&mut self)
         ensures { self.new ≡ self.old }
     {

@@ -7,18 +7,18 @@ use crate::Kind;
 /// What a transaction asks of one of its timers.
 #[derive(Clone, Copy, Debug, PartialEq, Eq)]
 pub enum Wait {
-    /// It doesn't wait for it: the timer is cleared.
+    /// It isn't waited for: the timer is cleared.
     Clear,
-    /// It waits for it: an armed timer keeps its deadline, any other is armed, due so many units
+    /// It is waited for: an armed timer keeps its deadline; any other is armed, due so many units
     /// from now.
     Keep(u32),
-    /// It waits for it from now on: the timer is armed anew, due so many units from now.
+    /// It is waited for from now on: the timer is armed again, due so many units from now.
     Anew(u32),
 }
 
 impl Wait {
-    /// What is asked of a timer that a transaction waits for or not, and that it arms anew or not.
-    /// The duration is in units of the clock.
+    /// Returns what is asked of a timer that a transaction waits for or not, and that it arms again
+    /// or not. The duration is in units of the clock.
     pub fn of(waits: bool, anew: bool, duration: u32) -> Wait
         ensures { result ≡ wait_by waits anew duration }
     {
@@ -29,7 +29,7 @@ impl Wait {
         }
     }
 
-    // The deadline that a timer comes to have, at a time.
+    // Returns the deadline that a timer gets, at a time.
     pub(crate) fn deadline(self, now: u64, old: Option<u64>) -> Option<u64>
         ensures { result ≡ deadline_by now self old }
     {
@@ -43,7 +43,7 @@ impl Wait {
     }
 }
 
-/// Whether a timer is the one that a step arms anew, if it arms one.
+/// Returns `true` if a timer is the one that a step arms again, if it arms one.
 pub fn is_anew(anew: Option<Kind>, kind: Kind) -> bool
     ensures { result ≡ waiting.is_anew anew kind }
 {

@@ -13,7 +13,7 @@ use cfdp_header::TransactionId;
 use indexmap::IndexMap;
 use std::alloc::{AllocError, Global};
 
-/// How many timers are due.
+/// Returns how many timers are due.
 pub(crate) fn due_count(
     entries: &IndexMap<TransactionId, Deadlines>,
     bounds: &Bounds,
@@ -31,7 +31,7 @@ pub(crate) fn due_count(
     count
 }
 
-/// The timers that are due, transaction by transaction.
+/// Returns the timers that are due, transaction by transaction.
 pub(crate) fn due(
     entries: &IndexMap<TransactionId, Deadlines>,
     bounds: &Bounds,
@@ -50,7 +50,7 @@ pub(crate) fn due(
     Ok(due)
 }
 
-/// Makes the bounds that are due as late as the deadlines let them be.
+/// Makes the bounds that are due as late as the deadlines allow.
 pub(crate) fn tighten(entries: &IndexMap<TransactionId, Deadlines>, bounds: &mut Bounds, now: u64)
     requires bounds { AreBounds entries.now.entries bounds.old }
     ensures bounds { AreBounds entries.now.entries bounds.new }
@@ -65,7 +65,7 @@ pub(crate) fn tighten(entries: &IndexMap<TransactionId, Deadlines>, bounds: &mut
     bounds.settle();
 }
 
-// How many blocks have to be looked at, from the first on, for all timers that are due.
+// Returns how many blocks must be looked at, from the first on, for all timers that are due.
 fn blocks_due(entries: &IndexMap<TransactionId, Deadlines>, bounds: &Bounds, now: u64) -> usize
     requires bounds { AreBounds entries.now.entries bounds.now }
     ensures within { result ≤ length bounds.now }
@@ -78,7 +78,7 @@ fn blocks_due(entries: &IndexMap<TransactionId, Deadlines>, bounds: &Bounds, now
     entries.len().div_ceil(BLOCK)
 }
 
-// How many timers of a block are due.
+// Returns how many timers of a block are due.
 fn count_block(
     entries: &IndexMap<TransactionId, Deadlines>,
     bounds: &Bounds,
@@ -128,7 +128,7 @@ fn push_block(
     Ok(())
 }
 
-// Makes the bound of a block as late as its deadlines let it be, if it is due.
+// Makes the bound of a block as late as its deadlines allow, if it is due.
 fn tighten_block(
     entries: &IndexMap<TransactionId, Deadlines>,
     bounds: &mut Bounds,
@@ -148,7 +148,7 @@ fn tighten_block(
     bounds.set(block, bound);
 }
 
-// The earliest deadline of a block, or the last time there is.
+// Returns the earliest deadline of a block, or the last time there is if it has none.
 fn earliest_in(entries: &IndexMap<TransactionId, Deadlines>, block: usize) -> u64
     requires few { block < 2 ^ 57 }
     ensures { IsBound entries.now.entries block result }
@@ -160,8 +160,8 @@ fn earliest_in(entries: &IndexMap<TransactionId, Deadlines>, block: usize) -> u6
     earliest.unwrap_or(u64::MAX)
 }
 
-/// The earliest deadline of all, where `others` is that of all but Inactivity's. Blocks are skipped
-/// in which none can be earlier.
+/// Returns the earliest deadline of all, if `others` is the earliest except Inactivity's. Blocks
+/// are skipped if none of their deadlines can be earlier.
 pub(crate) fn earliest_of_all(
     entries: &IndexMap<TransactionId, Deadlines>,
     bounds: &Bounds,
@@ -179,7 +179,7 @@ pub(crate) fn earliest_of_all(
     first
 }
 
-// The earlier of a deadline and the earliest of a block.
+// Returns the earlier of a deadline and the earliest of a block.
 fn earlier_in(
     entries: &IndexMap<TransactionId, Deadlines>,
     bounds: &Bounds,
@@ -212,7 +212,7 @@ fn is_no_later(first: Option<u64>, bound: u64) -> bool
     }
 }
 
-// How many timers of the transaction at a place are due.
+// Returns how many timers of the transaction at an index are due.
 fn count_at(entries: &IndexMap<TransactionId, Deadlines>, place: usize, now: u64) -> usize
     ensures count { result
         + length (kept.due now (alarms (drop (place + 1) entries.now.entries)))
@@ -225,7 +225,7 @@ fn count_at(entries: &IndexMap<TransactionId, Deadlines>, place: usize, now: u64
     }
 }
 
-// Adds the timers of the transaction at a place that are due.
+// Adds the timers of the transaction at an index that are due.
 fn push_at(
     entries: &IndexMap<TransactionId, Deadlines>,
     place: usize,
@@ -244,7 +244,7 @@ fn push_at(
     }
 }
 
-/// The earliest deadline of the transaction at a place.
+/// Returns the earliest deadline of the transaction at an index.
 pub(crate) fn earliest_at(entries: &IndexMap<TransactionId, Deadlines>, place: usize) -> Option<u64>
     ensures { result ≡ next_of (deadlines_in entries.now.entries place) }
 {

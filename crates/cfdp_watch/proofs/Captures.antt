@@ -9,7 +9,7 @@ use Rattle.cfdp_watch.specs.Capture.{CapturesSoFar, capture_octets, header_octet
 use Rattle.cfdp_watch.specs.Continues.{Continues}
 use Rattle.cfdp_watch.specs.declared.sighting.Sighting.{Sighting}
 
--- behind the blocks of what was seen before stand those of these
+-- after the blocks of what was seen before stand those of these
 pub capture_goes_on : {E : Type 0} (r : Result (Unit {0}) E) (more : List Sighting) (old mid new : Option (List ℕ))
     → Appends old mid (flat_map record_octets more) → Keeps mid new → OnOk r (Continues CapturesSoFar CapturesSoFar more old new)
 capture_goes_on (Ok x) more old mid new wrote kept = λ seen start before.

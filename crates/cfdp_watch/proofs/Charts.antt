@@ -14,7 +14,7 @@ use Rattle.cfdp_watch.specs.declared.chart.ChartWriter.{ChartWriter}
 use Rattle.cfdp_watch.specs.declared.sighting.Sighting.{Sighting}
 use Rattle.cfdp_dump.proofs.TextLines.{AllZip-joined}
 
--- what stands before what a sighting tells
+-- what stands before what a sighting shows
 abbrev pub front_of : Sighting → List ℕ
 front_of s = arrow s.station s.deed ++ decimal s.step ++ codes "." ++ decimal s.event ++ codes " "
 
@@ -33,7 +33,7 @@ front_drawn s old mid drawn is written =
 drawn_line : (text : List ℕ) → flat_map drawn_octet (as_line text) ≡ as_line (flat_map drawn_octet text)
 drawn_line text = flat_map-append drawn_octet text (10 ∷ [])
 
--- with its front and what it tells the line is written
+-- with its front and what it shows the line is written
 pub arrow_written : {E : Type 0} (r : Result (Unit {0}) E) (shapes : FrameShapes) (s : Sighting) (old mid new : Option (List ℕ)) (line : List ℕ)
     → WritesLine (TellsDeed shapes s) (Some []) (Some line) → Appends old mid (front_of s) → OnOk r (Appends mid new (flat_map drawn_octet line))
     → OnOk r (WritesLine (ChartsSighting shapes s) old new)
@@ -59,7 +59,7 @@ chart_begun (Ok x) writer old mid new none head kept = record {
 }
 chart_begun (Err e) writer old mid new none head kept = tt
 
--- the first of two lists, one behind the other
+-- the first of two lists, one after the other
 take-joined : {A : Type 0} (n : ℕ) (xs ys : List A) → take n (xs ++ ys) ≡ take n xs ++ take (n - length xs) ys
 take-joined zero [] ys = refl
 take-joined zero (x ∷ xs) ys =
@@ -72,7 +72,7 @@ take-joined (suc n) (x ∷ xs) ys =
     let less : n - length xs ≡ suc n - suc (length xs) = omega arith in
     ap (λ rest. x ∷ rest) (take-joined n xs ys ∙ ap (λ k. take n xs ++ take k ys) less)
 
--- behind the lines of what was seen before stand those of the first of these
+-- after the lines of what was seen before stand those of the first of these
 pub chart_goes_on : {E : Type 0} (r : Result (Unit {0}) E) (was is : ChartWriter) (room : ℕ) (more first : List Sighting) (old mid new : Option (List ℕ))
     → is.shapes ≡ was.shapes → room ≡ most_lines - was.lines → is.lines ≡ min (was.lines + length more) (2 ^ 64 - 1) → first ≡ take room more
     → WritesLines (ChartsSighting was.shapes) first old mid → Keeps mid new → OnOk r (Continues (ChartsSoFar was) (ChartsSoFar is) more old new)

@@ -1,3 +1,4 @@
 pub mod Traces
 pub mod Captures
+pub mod StationCaptures
 pub mod Charts

@@ -1,4 +1,4 @@
--- The front of a trace's line, what stands behind a verb, and traces that go on.
+-- The front of a trace's line, what stands after a verb, and traces that go on.
 use Rattle.std.proofs.Common.{◌≡◌, ℕ, List, ◌++◌, Option, Result, Ok, Err, codes, decimal, append_assoc, subst, sym, ◌∙◌}
 use Rattle.std.specs.Io.KnownBytes.{Appends, Keeps}
 use Rattle.std.specs.Result.{OnOk}
@@ -22,7 +22,7 @@ front_written s old new station of written =
     subst (λ n. Appends old new (decimal s.step ++ codes "." ++ decimal s.event ++ codes " " ++ decimal n ++ codes " ")) of
     (subst (Appends old new) (sym (grouped (decimal s.step) (codes ".") (decimal s.event) (codes " ") (decimal station) (codes " "))) written)
 
--- behind the lines of what was seen before stand those of these
+-- after the lines of what was seen before stand those of these
 pub trace_goes_on : {E : Type 0} (r : Result (Unit {0}) E) (shapes : FrameShapes) (more : List Sighting) (old mid new : Option (List ℕ))
     → WritesLines (TellsSighting shapes) more old mid → Keeps mid new → OnOk r (Continues (TracesSoFar shapes) (TracesSoFar shapes) more old new)
 trace_goes_on (Ok x) shapes more old mid new wrote kept = λ seen start before.

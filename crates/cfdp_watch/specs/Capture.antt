@@ -1,7 +1,6 @@
 -- What is in a capture: the pcapng format (draft-ietf-opsawg-pcapng), as Wireshark reads it, all
--- numbers with the highest octet first. It is a row of blocks (3.1 there). Each has its kind in
--- front, its length in octets behind that and again at its end, and is padded to a multiple of four
--- octets.
+-- numbers with the highest octet first. It is a row of blocks (3.1 there). Each has its kind first,
+-- its length in octets after that and again at its end, and is padded to a multiple of four octets.
 use Rattle.std.specs.Prelude.{ℕ, ◌+◌, ◌-◌, ◌*◌, ◌^◌, ◌%◌, List, [], ◌++◌, codes, length, replicate, take, Option}
 use Rattle.std.specs.Int.{to_be_bytes, w16, w32, w64}
 use Rattle.std.specs.Io.KnownBytes.{Appends}
@@ -21,7 +20,7 @@ abbrev pub padding : ℕ → List ℕ
 padding len = take (padding_len len) (replicate 3 0)
 
 -- the block that begins a capture (4.1): the order of octets, version 1.0, and a length that isn't
--- told
+-- given
 abbrev pub section_octets : List ℕ
 section_octets = to_be_bytes w32 0x0A0D0D0A ++ to_be_bytes w32 28 ++ to_be_bytes w32 0x1A2B3C4D
     ++ to_be_bytes w16 1 ++ to_be_bytes w16 0 ++ to_be_bytes w64 (2 ^ 64 - 1) ++ to_be_bytes w32 28

@@ -23,8 +23,8 @@ abbrev pub drawn_octet : ℕ → List ℕ
 drawn_octet octet = if is_drawn octet then octet ∷ [] else codes "#" ++ (decimal octet ++ codes ";")
 
 -- What a sighting of this station is drawn as: dotted arrows are frames and full ones PDUs, with an
--- open head where they leave and a closed one where they arrive; a cross is a frame that is lost.
--- All else is a note at the station.
+-- open head as they leave and a closed one as they arrive; a cross is a frame that is lost. All
+-- else is a note at the station.
 abbrev pub arrow : Side → Deed → List ℕ
 arrow One (SendsFrame lane) = codes "S1--)S2: "
 arrow Two (SendsFrame lane) = codes "S2--)S1: "
@@ -43,7 +43,8 @@ arrow Two Drops = codes "Note over S2: "
 arrow One Tells = codes "Note over S1: "
 arrow Two Tells = codes "Note over S2: "
 
--- The line for one line of a trace: its arrow or note, and what the trace says but for the station.
+-- The line for one line of a trace: its arrow or note, and what the trace says except for the
+-- station.
 pub record ChartsSighting (shapes : FrameShapes) (s : Sighting) (text : List ℕ) : Type 0 where
   pub deed : List ℕ
   pub tells : TellsDeed shapes s deed
@@ -57,7 +58,7 @@ most_lines = 400
 abbrev pub head_text : List ℕ
 head_text = codes "sequenceDiagram\nparticipant S1 as station 1\nparticipant S2 as station 2\n"
 
--- a line that says how many are left out, where some are
+-- a line that says how many are left out, if some are
 abbrev pub rest_text : ℕ → List ℕ
 rest_text lines =
     if nat_le lines most_lines then []
@@ -68,9 +69,9 @@ rest_text lines =
 abbrev pub counted : List Sighting → ℕ
 counted seen = min (length seen) (2 ^ 64 - 1)
 
--- What was written from some start on is the chart of those seen so far, but for how many are left
--- out: its head, and one line for each of the first ones in their order. The writer has counted
--- all.
+-- What was written from some start on is the chart of those seen so far, except for how many are
+-- left out: its head, and one line for each of the first ones in their order. The writer has
+-- counted all.
 pub record ChartsSoFar (writer : ChartWriter) (seen : List Sighting)
     (start now : Option (List ℕ)) : Type 0 where
   pub count : writer.lines ≡ counted seen

@@ -5,7 +5,7 @@ use Rattle.cfdp_watch.specs.declared.sighting.Deed.{Deed}
 use Rattle.cfdp_watch.specs.declared.sighting.Log.{Log}
 use Rattle.cfdp_watch.specs.declared.sighting.Sighting.{Sighting}
 
--- One sighting more stands behind the others: what this station did with these octets. It is of the
+-- One sighting more stands after the others: what this station did with these octets. It is of the
 -- step and the event at which the log is, and has the next place in it.
 pub record NotesOne (station : Side) (deed : Deed) (octets : List ℕ) (old new : Log) : Type 0 where
   pub noted : Sighting
@@ -33,7 +33,7 @@ pub record IsCutShort (old new : Log) : Type 0 where
 abbrev pub Notes : Side → Deed → List ℕ → (old new : Log) → Type 0
 Notes station deed octets old new = NotesOne station deed octets old new ⊎ IsCutShort old new
 
--- What was seen is let go, and all else stays.
+-- What was seen is discarded, and all else stays.
 pub record Forgets (old new : Log) : Type 0 where
   pub items : new.sightings.items ≡ []
   pub kept : (new.step ≡ old.step) × (new.event ≡ old.event) × (new.place ≡ old.place)

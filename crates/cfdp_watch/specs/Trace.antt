@@ -27,8 +27,8 @@ deed_word Ticks = codes "ticks"
 deed_word Drops = codes "drops"
 deed_word Tells = codes "tells"
 
--- Behind that stands what a dump says of the frame, which is made so, or of the PDU. Of the time,
--- of a drop and of an indication the words were noted.
+-- After that stands what a dump says of the frame, which is made so, or of the PDU. Of the time, of
+-- a drop and of an indication the words were noted.
 abbrev pub TellsWords : Deed → FrameShape → List ℕ → List ℕ → Type 0
 TellsWords (SendsFrame lane) shape octets = TellsAsFrame Short shape octets
 TellsWords (SendsPdu lane) shape octets = TellsAsPdu Short octets
@@ -55,7 +55,7 @@ abbrev pub sighting_front : Sighting → List ℕ
 sighting_front s = decimal s.step ++ codes "." ++ decimal s.event ++ codes " "
     ++ decimal (entity_of s.station) ++ codes " "
 
--- The line of a sighting: behind that, what the station did.
+-- The line of a sighting: after that, what the station did.
 pub record TellsSighting (shapes : FrameShapes) (s : Sighting) (text : List ℕ) : Type 0 where
   pub deed : List ℕ
   pub tells : TellsDeed shapes s deed

@@ -25,7 +25,7 @@ const HEADER: [u8; 92] = [
 ];
 
 /// The kind of a block that has a packet.
-const PACKET: u32 = 6;
+pub const PACKET: u32 = 6;
 
 /// The octets of such a block around the packet.
 const AROUND: u32 = 32;
@@ -35,7 +35,7 @@ const AROUND: u32 = 32;
 ///
 /// # Errors
 ///
-/// That of the writer.
+/// The error of the writer, if it fails.
 pub fn begin_capture<V: Write + Drop>(out: &mut BufWriter<V>) -> io::Result<()>
     ensures begun { OnOk result (CapturesSoFar [] (writer_contents V.contents out.old)
         (writer_contents V.contents out.new)) }
@@ -45,13 +45,13 @@ pub fn begin_capture<V: Write + Drop>(out: &mut BufWriter<V>) -> io::Result<()>
     out.flush()
 }
 
-/// Writes the PDUs that were sent, in order, behind those of a capture that was begun. They have
-/// left the buffer then. The time of each is the number of its event in seconds, and its place in
-/// it in microseconds.
+/// Writes the PDUs that were sent, in order, after those of a capture, which must have been begun.
+/// They have left the buffer then. The time of each is the number of its event in seconds, and its
+/// place in it in microseconds.
 ///
 /// # Errors
 ///
-/// That of the writer, and `InvalidInput` for a PDU of more than 65,535 octets.
+/// The error of the writer, and `InvalidInput` if a PDU has more than 65,535 octets.
 pub fn write_capture<V: Write + Drop>(
     out: &mut BufWriter<V>,
     sightings: &[Sighting],
@@ -96,7 +96,7 @@ fn write_record<W: Write>(out: &mut W, sighting: &Sighting) -> io::Result<()>
 }
 
 /// Writes the block of a PDU that left in this lane at this time, which is in microseconds. Its
-/// length stands twice, as captured and as sent, and that of the block at both its ends.
+/// length stands twice, as captured and as sent, and the length of the block at both its ends.
 fn write_packet<W: Write>(out: &mut W, lane: Lane, time: u64, pdu: &[u8]) -> io::Result<()>
     ensures { OnOk result (Appends (W.contents out.old) (W.contents out.new)
         (packet_octets lane time pdu.now)) }
@@ -118,22 +118,22 @@ fn write_packet<W: Write>(out: &mut W, lane: Lane, time: u64, pdu: &[u8]) -> io:
     write_number(out, block_len)
 }
 
-/// How many octets of padding follow so many octets, up to a multiple of four.
-fn padding_len(len: u32) -> u32
+/// Returns how many octets of padding follow so many octets, up to a multiple of four.
+pub fn padding_len(len: u32) -> u32
     ensures within { result < 4 }
     ensures same { result ≡ Rattle.cfdp_watch.specs.Capture.padding_len len }
 {
     (4 - len % 4) % 4
 }
 
-/// The time in microseconds at a place of an event.
+/// Returns the time in microseconds at a place of an event.
 fn microseconds(event: u32, place: u32) -> u64
     ensures { result ≡ event * 1000000 + place }
 {
     u64::from(event) * 1_000_000 + u64::from(place)
 }
 
-/// The number of a lane's interface.
+/// Returns the number of a lane's interface.
 fn interface(lane: Lane) -> u32
     ensures { result ≡ interface_of lane }
 {
@@ -144,7 +144,7 @@ fn interface(lane: Lane) -> u32
 }
 
 /// Writes a number as four octets, the highest first.
-fn write_number<W: Write>(out: &mut W, number: u32) -> io::Result<()>
+pub fn write_number<W: Write>(out: &mut W, number: u32) -> io::Result<()>
     ensures { OnOk result (Appends (W.contents out.old) (W.contents out.new)
         (to_be_bytes w32 number)) }
 {

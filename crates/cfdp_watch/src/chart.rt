@@ -31,18 +31,18 @@ pub struct ChartWriter {
 }
 
 impl ChartWriter {
-    /// Before anything was seen, of frames that are made so.
+    /// Makes a chart before anything was seen, for frames that are made so.
     pub fn new(shapes: FrameShapes) -> ChartWriter
         ensures { (result.shapes ≡ shapes) × (result.lines ≡ 0) }
     {
         ChartWriter { shapes, lines: 0 }
     }
 
-    /// Begins a chart, whose head has left the buffer then.
+    /// Begins a chart, which must be done before its first line. Its head has left the buffer then.
     ///
     /// # Errors
     ///
-    /// That of the writer.
+    /// The error of the writer, if it fails.
     pub fn begin<V: Write + Drop>(&mut self, out: &mut BufWriter<V>) -> io::Result<()>
         ensures begun { OnOk result (ChartsSoFar self.new [] (writer_contents V.contents out.old)
             (writer_contents V.contents out.new)) }
@@ -56,12 +56,12 @@ impl ChartWriter {
         out.flush()
     }
 
-    /// Writes the lines of these behind those of what was seen before. They have left the buffer
+    /// Writes the lines of these after those of what was seen before. They have left the buffer
     /// then.
     ///
     /// # Errors
     ///
-    /// That of the writer, or `OutOfMemory`.
+    /// The error of the writer, or `OutOfMemory`.
     pub fn write<V: Write + Drop>(
         &mut self,
         alloc: Global,
@@ -85,7 +85,7 @@ impl ChartWriter {
     ///
     /// # Errors
     ///
-    /// That of the writer.
+    /// The error of the writer, if it fails.
     pub fn end<V: Write + Drop>(&self, out: &mut BufWriter<V>) -> io::Result<()>
         ensures whole { OnOk result (EndsChart self.now (writer_contents V.contents out.old)
             (writer_contents V.contents out.new)) }
@@ -96,7 +96,7 @@ impl ChartWriter {
     }
 }
 
-/// The first of these, so many at the most.
+/// Returns the first of these, so many at the most.
 fn first_of(most: usize, sightings: &[Sighting]) -> &[Sighting]
     ensures { result.now ≡ take most sightings.now }
 {
@@ -154,7 +154,7 @@ fn write_arrow<W: Write>(
     write!(out, "{}", Drawn(deed.as_slice()))
 }
 
-/// The arrow or the note that a station's deed is drawn as.
+/// Returns the arrow or the note that a station's deed is drawn as.
 fn arrow(station: Side, deed: Deed) -> &'static str
     ensures { result.now ≡ charts.arrow station deed }
 {
@@ -208,7 +208,7 @@ impl fmt::Display for DrawnOctet {
     }
 }
 
-/// Whether an octet stands in a chart as it is.
+/// Returns `true` if an octet stands in a chart as it is.
 fn is_drawn(octet: u8) -> bool
     ensures { result ≡ charts.is_drawn octet }
 {

@@ -7,13 +7,13 @@ use std::io::Write;
 /// The code of a cancel that a user asked for.
 pub const CANCELLED: u8 = 15;
 
-/// Which conditions stations told their users.
+/// Which conditions stations indicated to their users.
 #[derive(Clone, Copy)]
 pub struct Conditions {
     are_told: [bool; 16],
 }
 
-/// Of which stations the users cancelled transactions.
+/// The stations whose users cancelled transactions.
 #[derive(Clone, Copy)]
 pub struct Cancels {
     pub one: bool,
@@ -21,26 +21,26 @@ pub struct Cancels {
 }
 
 impl Conditions {
-    /// None so far.
+    /// Makes a set with none so far.
     pub fn new() -> Conditions {
         Conditions {
             are_told: [false; 16],
         }
     }
 
-    /// Adds the one that an indication tells, where it tells one.
+    /// Adds the one that an indication has, if it has one.
     pub fn note(&mut self, indication: &Indication) {
         if let Some(condition) = told_condition(indication) {
             self.are_told[usize::from(condition.code())] = true;
         }
     }
 
-    /// Writes a line for each of them but 0, in the order of their codes: what it says, and of a
+    /// Writes a line for each of them except 0, in the order of their codes: what it says, and of a
     /// cancel also whose it was.
     ///
     /// # Errors
     ///
-    /// That of the writer.
+    /// The error of the writer, if it fails.
     pub fn write<W: Write>(&self, cancels: Cancels, out: &mut W) -> io::Result<()> {
         for code in 1..16u8 {
             if self.are_told[usize::from(code)] {
@@ -55,7 +55,7 @@ impl Conditions {
     }
 }
 
-/// Writes the stations whose users cancelled transactions, where it is known.
+/// Writes the stations whose users cancelled transactions, if it is known.
 fn write_cancels<W: Write>(cancels: Cancels, out: &mut W) -> io::Result<()> {
     let mut mark = ": ";
     for (side, has_cancelled) in [(Side::One, cancels.one), (Side::Two, cancels.two)] {
@@ -67,7 +67,7 @@ fn write_cancels<W: Write>(cancels: Cancels, out: &mut W) -> io::Result<()> {
     Ok(())
 }
 
-/// The condition that an indication tells, where it tells one.
+/// Returns the condition that an indication has, if it has one.
 fn told_condition(indication: &Indication) -> Option<Condition> {
     match indication {
         Indication::Finished { condition, .. } => Some(*condition),
@@ -83,7 +83,7 @@ fn told_condition(indication: &Indication) -> Option<Condition> {
     }
 }
 
-/// What a condition code says.
+/// Returns what a condition code says.
 fn condition_words(code: u8) -> &'static str {
     match code {
         0 => "no error",

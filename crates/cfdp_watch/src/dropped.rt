@@ -37,7 +37,7 @@ pub struct Dropped {
 }
 
 impl Dropped {
-    /// A station that has dropped nothing yet.
+    /// Makes the counts of a station that has dropped nothing yet.
     pub fn new(station: Side) -> Dropped {
         Dropped {
             station,
@@ -76,7 +76,7 @@ impl Dropped {
     ///
     /// # Errors
     ///
-    /// That of the writer.
+    /// The error of the writer, if it fails.
     pub fn write<W: Write>(&self, out: &mut W) -> io::Result<()> {
         self.write_link(out)?;
         self.write_pdus(out)

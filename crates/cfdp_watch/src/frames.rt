@@ -19,9 +19,9 @@ pub struct Watch {
     from: Side,
     // The virtual channel of frames that carry file data.
     data_virtual_channel: u8,
-    // Those of both lanes.
+    // The frames of both lanes.
     sent: SentFrames,
-    // Whether a PDU told that the station's user cancelled its transaction.
+    // Whether a PDU said that the station's user cancelled its transaction.
     has_cancel: bool,
     // What finds the PDUs in the frames that left, and in those that arrived.
     sending: Up,
@@ -29,11 +29,11 @@ pub struct Watch {
 }
 
 impl Watch {
-    /// The frames that this station sends over this link, before the first.
+    /// Watches the frames that this station sends over this link, before the first one.
     ///
     /// # Errors
     ///
-    /// `AllocError` where there is no memory.
+    /// `AllocError` if there is no memory.
     pub fn new(alloc: Global, from: Side, link: Valid<LinkConfig>) -> Result<Watch, AllocError> {
         Ok(Watch {
             alloc,
@@ -46,12 +46,13 @@ impl Watch {
         })
     }
 
-    /// How many frames were seen to leave, and to be lost.
+    /// Returns how many frames were seen to leave, and to be lost.
     pub fn sent(&self) -> SentFrames {
         self.sent
     }
 
-    /// Whether a PDU that was seen told that the station's user cancelled its transaction.
+    /// Returns `true` if a PDU that was seen said that the station's user cancelled its
+    /// transaction.
     pub fn has_cancel(&self) -> bool {
         self.has_cancel
     }
@@ -103,7 +104,7 @@ impl Watch {
     }
 }
 
-/// Notes the PDUs that a frame completes. Answers whether one of them tells that the user of the
+/// Notes the PDUs that a frame completes. Returns whether one of them says that the user of the
 /// station that sent it cancelled its transaction.
 fn note_pdus(
     alloc: Global,
@@ -128,8 +129,8 @@ fn note_pdus(
     has_cancel
 }
 
-/// Whether octets are a PDU that tells that the user of the station that sent it cancelled its
-/// transaction.
+/// Returns `true` if octets are a PDU that says that the user of the station that sent it cancelled
+/// its transaction.
 fn tells_cancel(octets: &[u8]) -> bool {
     match decode(octets) {
         Ok((header, pdu)) => is_cancel(&header, &pdu),
@@ -137,7 +138,7 @@ fn tells_cancel(octets: &[u8]) -> bool {
     }
 }
 
-/// Whether it is an EOF or a Finished with that condition, which names no other entity.
+/// Returns `true` if it is an EOF or a Finished with that condition, which names no other entity.
 fn is_cancel(header: &Header, pdu: &Pdu<'_>) -> bool {
     match pdu {
         Pdu::Eof {
@@ -154,7 +155,7 @@ fn is_cancel(header: &Header, pdu: &Pdu<'_>) -> bool {
     }
 }
 
-/// Whether a fault location is this entity, if there is one.
+/// Returns `true` if there is a fault location, and it is this entity.
 fn is_of(tlvs: &Tlvs<'_>, entity: u64) -> bool {
     match tlvs.fault_location() {
         Some(location) => location == entity,

@@ -15,7 +15,7 @@ const MOST_KEPT: usize = 20_000;
 const MOST_OCTETS: usize = 4 * 1_048_576;
 
 /// What was seen of a run from its beginning on, up to 20,000 things and 4 MiB of octets, and how
-/// far the transactions of both stations are, where nothing more was seen.
+/// far the transactions of both stations are, if nothing more was seen.
 #[derive(Drop)]
 pub struct Kept {
     alloc: Global,
@@ -29,7 +29,7 @@ pub struct Kept {
 }
 
 impl Kept {
-    /// Before anything is seen, of frames that are made so.
+    /// Begins before anything is seen, for frames that are made so.
     pub(crate) fn new(alloc: Global, shapes: FrameShapes) -> Kept {
         Kept {
             alloc,
@@ -41,28 +41,28 @@ impl Kept {
         }
     }
 
-    /// What the frames are made of that each station sends.
+    /// Returns what the frames are made of that each station sends.
     pub fn shapes(&self) -> FrameShapes {
         self.shapes
     }
 
-    /// What was seen, in order.
+    /// Returns what was seen, in order.
     pub fn sightings(&self) -> &[Sighting] {
         self.sightings.as_slice()
     }
 
-    /// How far the transactions are that have a record at a station, those of station 1 first; none
-    /// where more was seen than is kept.
+    /// Returns how far the transactions are that have a record at a station, those of station 1
+    /// first; none if more was seen than is kept.
     pub fn standings(&self) -> &[Standing] {
         self.standings.as_slice()
     }
 
-    /// Whether more was seen than is kept.
+    /// Returns `true` if more was seen than is kept.
     pub fn is_cut(&self) -> bool {
         self.is_cut
     }
 
-    /// Keeps what a log has, and how both stations are behind that.
+    /// Keeps what a log has, and how both stations are after that.
     pub(crate) fn keep<O: Outbox, I: Inbox>(
         &mut self,
         log: &Log,

@@ -10,6 +10,7 @@ mod dropped;
 mod frames;
 mod kept;
 mod onlooker;
+mod pace;
 mod progress;
 mod recorder;
 mod sent;
@@ -17,6 +18,7 @@ mod show;
 mod shown;
 mod sighting;
 mod standing;
+mod station_capture;
 mod trace;
 
 pub use kept::Kept;

@@ -4,7 +4,7 @@ use crate::condition::{Cancels, Conditions};
 use crate::dropped::Dropped;
 use crate::frames::Watch;
 use crate::kept::Kept;
-use crate::recorder::{Recorder, Screen, Showing};
+use crate::recorder::{CaptureKind, Recorder, Screen, Showing};
 use crate::sent::{Sent, SentFrames};
 use crate::shown::Shown;
 use crate::sighting::{Deed, Log};
@@ -30,25 +30,49 @@ pub enum Onlooker<'a> {
 }
 
 impl<'a> Onlooker<'a> {
-    /// Before the first event of two stations with these settings. Somebody looks on if something
-    /// is to be shown.
+    /// Begins before the first event of two stations with these settings. Somebody looks on if
+    /// something must be shown.
     ///
     /// # Errors
     ///
-    /// `AllocError` where there is no memory.
+    /// `AllocError` if there is no memory.
     pub fn new(
         screen: Screen<'a>,
         config: Valid<WorldConfig>,
         shown: &'a Shown,
     ) -> Result<Onlooker<'a>, AllocError> {
+        Onlooker::of_kind(screen, config, shown, CaptureKind::Events)
+    }
+
+    /// Begins before the first event of one of two stations with these settings. Somebody looks on
+    /// at that station if something must be shown.
+    ///
+    /// # Errors
+    ///
+    /// `AllocError` if there is no memory.
+    pub fn at_station(
+        screen: Screen<'a>,
+        config: Valid<WorldConfig>,
+        shown: &'a Shown,
+    ) -> Result<Onlooker<'a>, AllocError> {
+        Onlooker::of_kind(screen, config, shown, CaptureKind::Clock)
+    }
+
+    /// Begins before the first event, for a capture of this kind.
+    fn of_kind(
+        screen: Screen<'a>,
+        config: Valid<WorldConfig>,
+        shown: &'a Shown,
+        kind: CaptureKind,
+    ) -> Result<Onlooker<'a>, AllocError> {
         if shown.is_watched() {
-            Ok(Onlooker::Somebody(Seen::new(screen, config, shown)?))
+            Ok(Onlooker::Somebody(Seen::new(screen, config, shown, kind)?))
         } else {
             Ok(Onlooker::Nobody)
         }
     }
 
-    /// Hears that no more passes, and tells what is known then; `None` where nobody looked on.
+    /// Ends it, since no more passes, and returns what is known then; `None` if nobody looked on.
     pub fn into_summary(self) -> Option<Summary> {
         match self {
             Onlooker::Nobody => None,
@@ -59,7 +83,7 @@ impl<'a> Onlooker<'a> {
 
 /// In a script, whose steps are lines, what passes in an event is shown to it part by part.
 impl Onlooker<'_> {
-    /// Hears that the step of this number begins: what it sees from here on is of it.
+    /// Begins the step of this number: what it sees from here on is of it.
     pub fn comes_to(&mut self, step: usize) {
         match self {
             Onlooker::Nobody => {}
@@ -67,7 +91,7 @@ impl Onlooker<'_> {
         }
     }
 
-    /// Hears that the next event begins.
+    /// Begins the next event.
     pub fn begins_event(&mut self) {
         match self {
             Onlooker::Nobody => {}
@@ -75,7 +99,7 @@ impl Onlooker<'_> {
         }
     }
 
-    /// Sees that a station is told the time.
+    /// Sees that a station is given the time.
     pub fn ticks(&mut self, at: Side, now: u64) {
         match self {
             Onlooker::Nobody => {}
@@ -107,8 +131,8 @@ impl Onlooker<'_> {
         }
     }
 
-    /// Sees both stations at the end of the event: what they dropped in it, and what they told
-    /// their users.
+    /// Sees both stations at the end of the event: what they dropped in it, and what they indicated
+    /// to their users.
     pub fn ends_event<O: Outbox, I: Inbox>(&mut self, stations: (&Station<O, I>, &Station<O, I>)) {
         match self {
             Onlooker::Nobody => {}
@@ -119,7 +143,7 @@ impl Onlooker<'_> {
 
 /// At turns over wires the steps are the turns.
 impl Onlooker<'_> {
-    /// Hears that the turn of this number begins: what it sees from here on is of it.
+    /// Begins the turn of this number: what it sees from here on is of it.
     pub fn begins(&mut self, turn: u64) {
         match self {
             Onlooker::Nobody => {}
@@ -127,7 +151,7 @@ impl Onlooker<'_> {
         }
     }
 
-    /// Sees what passed at a station, and the station behind that.
+    /// Sees what passed at a station, and the station after that.
     pub fn sees<O: Outbox, I: Inbox>(
         &mut self,
         side: Side,
@@ -144,23 +168,23 @@ impl Onlooker<'_> {
 /// What is known of a run that is over by one who looked on.
 #[derive(Drop)]
 pub struct Summary {
-    /// Which conditions the stations told their users.
+    /// Which conditions the stations indicated to their users.
     pub conditions: Conditions,
-    /// Of which stations the users cancelled transactions, as their PDUs tell it.
+    /// The stations whose users cancelled transactions, as their PDUs say.
     pub cancels: Cancels,
     /// What either station sent and dropped.
     pub one: StationSummary,
     pub two: StationSummary,
-    /// What became of what was to be shown as it was seen.
+    /// What became of what a run should show as it was seen.
     pub showing: Showing,
-    /// What passed in a script, where that was to be kept.
+    /// What passed in a script, if that was asked for.
     pub kept: Option<Kept>,
     /// What the commands of a script answered.
     pub answered: Vec<Answered>,
 }
 
 impl Summary {
-    /// The same, of a script whose commands answered so.
+    /// Returns the same, of a script whose commands answered so.
     pub fn answering(self, answered: Vec<Answered>) -> Summary {
         Summary { answered, ..self }
     }
@@ -179,7 +203,7 @@ impl StationSummary {
     ///
     /// # Errors
     ///
-    /// That of the writer.
+    /// The error of the writer, if it fails.
     pub fn write<W: Write>(&self, out: &mut W) -> io::Result<()> {
         self.sent.write(self.frames, out)?;
         self.dropped.write(out)
@@ -189,12 +213,12 @@ impl StationSummary {
 /// What was seen so far of a run. What stations did is kept until the end of its event alone.
 #[derive(Drop)]
 pub struct Seen<'a> {
-    // What the stations did in this event, and where it is written.
+    // What the stations did in this event, and what it is written to.
     log: Log,
     recorder: Recorder<'a>,
-    // What they did in all events of a script, where that is kept.
+    // What they did in all events of a script, if that is kept.
     kept: Option<Kept>,
-    // Which conditions they told their users.
+    // Which conditions they indicated to their users.
     conditions: Conditions,
     // Either station.
     one: SeenStation,
@@ -202,15 +226,16 @@ pub struct Seen<'a> {
 }
 
 impl<'a> Seen<'a> {
-    /// Before the first event of two stations with these settings.
+    /// Begins before the first event of two stations with these settings.
     ///
     /// # Errors
     ///
-    /// `AllocError` where there is no memory.
+    /// `AllocError` if there is no memory.
     fn new(
         screen: Screen<'a>,
         config: Valid<WorldConfig>,
         shown: &'a Shown,
+        kind: CaptureKind,
     ) -> Result<Seen<'a>, AllocError> {
         let alloc = screen.rt.alloc();
         let config = config.get();
@@ -227,11 +252,11 @@ impl<'a> Seen<'a> {
             conditions: Conditions::new(),
             one: SeenStation::new(Side::One, one),
             two: SeenStation::new(Side::Two, two),
-            recorder: Recorder::new(screen, shown, shapes),
+            recorder: Recorder::new(screen, shown, shapes, kind),
         })
     }
 
-    /// What is known now that no more passes.
+    /// Returns what is known now that no more passes.
     fn into_summary(self) -> Summary {
         let Seen {
             log,
@@ -283,8 +308,8 @@ impl<'a> Seen<'a> {
         }
     }
 
-    /// Notes what was dropped in an event of a script, and what was told to users. All that was
-    /// noted of the event is kept and written.
+    /// Notes what was dropped in an event of a script, and what was indicated to users. All that
+    /// was noted of the event is kept and written.
     fn end_event<O: Outbox, I: Inbox>(&mut self, stations: (&Station<O, I>, &Station<O, I>)) {
         let (log, conditions) = (&mut self.log, &mut self.conditions);
         self.one.look(stations.0, conditions, log);
@@ -295,8 +320,8 @@ impl<'a> Seen<'a> {
         self.recorder.record(log);
     }
 
-    /// Notes what passed at a station in a turn: the time that was told, a frame and the PDUs in
-    /// it, what was dropped, and what was told to its user.
+    /// Notes what passed at a station in a turn: the time that it was given, a frame and the PDUs
+    /// in it, what was dropped, and what was indicated to its user.
     fn look_at<O: Outbox, I: Inbox>(
         &mut self,
         side: Side,
@@ -356,7 +381,7 @@ struct SeenStation {
 }
 
 impl SeenStation {
-    /// Before its first event.
+    /// Begins before its first event.
     fn new(side: Side, frames: Watch) -> SeenStation {
         SeenStation {
             side,
@@ -367,7 +392,7 @@ impl SeenStation {
         }
     }
 
-    /// What is known of it now that no more passes.
+    /// Returns what is known of it now that no more passes.
     fn into_summary(self) -> StationSummary {
         StationSummary {
             sent: self.sent,
@@ -376,7 +401,7 @@ impl SeenStation {
         }
     }
 
-    /// Notes what it has dropped since the last look, and what it told its user.
+    /// Notes what it has dropped since the last look, and what it indicated to its user.
     fn look<O: Outbox, I: Inbox>(
         &mut self,
         station: &Station<O, I>,

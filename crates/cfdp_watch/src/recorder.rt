@@ -4,6 +4,7 @@ use crate::chart::ChartWriter;
 use crate::progress::Progress;
 use crate::shown::Shown;
 use crate::sighting::{Log, Sighting};
+use crate::station_capture::{begin_station_capture, write_station_capture};
 use crate::trace::write_trace;
 use cfdp_dump::FrameShapes;
 use cfdp_report::cause_text;
@@ -11,13 +12,14 @@ use std::alloc::AllocError;
 use std::fs::File;
 use std::io;
 use std::io::{BufWriter, ErrorKind, Stderr};
+use std::time::{SystemTime, UNIX_EPOCH};
 
 /// Standard error, and the line on it that says how far a transfer is, if there is one.
 #[derive(Clone, Copy)]
 pub struct Screen<'a> {
     /// The process, whose standard error it is.
     pub rt: &'a HostRuntime,
-    /// The line; none where nobody wants one.
+    /// The line; none if nobody asked for one.
     pub progress: Option<&'a Progress<'a>>,
 }
 
@@ -30,7 +32,16 @@ impl Screen<'_> {
     }
 }
 
-/// What became of what was to be shown as it was seen.
+/// What a capture shows, and at which times.
+#[derive(Clone, Copy)]
+pub enum CaptureKind {
+    /// What two stations sent, at the numbers of events in place of times.
+    Events,
+    /// What one station sent and received, at the time of the clock.
+    Clock,
+}
+
+/// What became of what a run should show as it was seen.
 #[derive(Clone, Copy)]
 pub enum Showing {
     /// It is all shown.
@@ -42,26 +53,34 @@ pub enum Showing {
 }
 
 /// One who writes what is seen as it is seen: as a trace on standard error, as a capture and as a
-/// chart, whichever is asked for. Of what can't be written that is told once, and the rest goes on.
+/// chart, whichever is asked for. If something can't be written, that is reported once, and the
+/// rest goes on.
 #[derive(Drop)]
 pub struct Recorder<'a> {
     screen: Screen<'a>,
     shapes: FrameShapes,
     trace: Option<BufWriter<Stderr>>,
     capture: Option<SeenFile<'a>>,
+    capture_kind: CaptureKind,
     chart: Option<SeenFile<'a>>,
     chart_writer: ChartWriter,
     showing: Showing,
 }
 
 impl<'a> Recorder<'a> {
-    /// Before anything is seen, of frames that are made so. The files are begun.
-    pub fn new(screen: Screen<'a>, shown: &'a Shown, shapes: FrameShapes) -> Recorder<'a> {
+    /// Begins before anything is seen, for frames that are made so. The files are begun.
+    pub fn new(
+        screen: Screen<'a>,
+        shown: &'a Shown,
+        shapes: FrameShapes,
+        capture_kind: CaptureKind,
+    ) -> Recorder<'a> {
         let mut recorder = Recorder {
             screen,
             shapes,
             trace: None,
             capture: None,
+            capture_kind,
             chart: None,
             chart_writer: ChartWriter::new(shapes),
             showing: Showing::Whole,
@@ -89,7 +108,10 @@ impl<'a> Recorder<'a> {
     fn begin_capture(&mut self, name: &'a str) {
         let mut file = SeenFile::create(self.screen, name);
         if let Some(out) = &mut file.out {
-            let wrote = begin_capture(out);
+            let wrote = match self.capture_kind {
+                CaptureKind::Events => begin_capture(out),
+                CaptureKind::Clock => begin_station_capture(out),
+            };
             file.notes(wrote);
         }
         self.capture = Some(file);
@@ -104,7 +126,7 @@ impl<'a> Recorder<'a> {
         self.chart = Some(file);
     }
 
-    /// Writes what a log has, and lets it go there. It has left the program then.
+    /// Writes what a log has, and removes it there. It has left the program then.
     pub fn record(&mut self, log: &mut Log) {
         match self.showing {
             Showing::Short => {}
@@ -134,7 +156,7 @@ impl<'a> Recorder<'a> {
         }
     }
 
-    /// Nothing more is traced. Nothing is told of that: it would be told on standard error.
+    /// Stops the trace. Nothing is reported of that: it would be on standard error.
     fn lose_trace(&mut self) {
         if let Some(out) = self.trace.take() {
             let _ = out.into_parts();
@@ -143,10 +165,14 @@ impl<'a> Recorder<'a> {
     }
 
     fn write_capture(&mut self, sightings: &[Sighting]) {
+        let (rt, kind) = (self.screen.rt, self.capture_kind);
         if let Some(file) = &mut self.capture
             && let Some(out) = &mut file.out
         {
-            let wrote = write_capture(out, sightings);
+            let wrote = match kind {
+                CaptureKind::Events => write_capture(out, sightings),
+                CaptureKind::Clock => write_station_capture(out, microseconds(rt), sightings),
+            };
             file.notes(wrote);
         }
     }
@@ -161,7 +187,8 @@ impl<'a> Recorder<'a> {
         }
     }
 
-    /// There is no memory for some of what was seen: that is told, and no more is shown.
+    /// Breaks off, since there is no memory for some of what was seen: that is reported, and no
+    /// more is shown.
     fn breaks_off(&mut self) {
         self.showing = Showing::Short;
         self.trace = None;
@@ -173,7 +200,7 @@ impl<'a> Recorder<'a> {
         );
     }
 
-    /// Hears that no more is seen, and answers what became of what was to be shown. The chart is
+    /// Ends, since no more is seen, and returns what became of what it should show. The chart is
     /// written to its end.
     pub fn ends(&mut self) -> Showing {
         if let Some(file) = &mut self.chart
@@ -201,7 +228,7 @@ struct SeenFile<'a> {
 }
 
 impl<'a> SeenFile<'a> {
-    /// The file of this name, with nothing in it: what it held is lost.
+    /// Returns the file of this name, with nothing in it: what it held is lost.
     fn create(screen: Screen<'a>, name: &'a str) -> SeenFile<'a> {
         let mut file = SeenFile {
             screen,
@@ -222,8 +249,8 @@ impl<'a> SeenFile<'a> {
         }
     }
 
-    /// Tells that it can't be written, and why. Nothing more is. What a failed write left in the
-    /// buffer is let go: a `BufWriter` would write it once more.
+    /// Reports that it can't be written, and why. Nothing more is written. What a failed write left
+    /// in the buffer is discarded: a `BufWriter` would write it once more.
     fn fails(&mut self, kind: ErrorKind) {
         if let Some(out) = self.out.take() {
             let _ = out.into_parts();
@@ -237,7 +264,7 @@ impl<'a> SeenFile<'a> {
     }
 }
 
-/// Whether a file is asked for that couldn't be written.
+/// Returns `true` if a file is asked for that couldn't be written.
 fn has_failed(file: &Option<SeenFile<'_>>) -> bool {
     match file {
         Some(file) => file.out.is_none(),
@@ -247,4 +274,15 @@ fn has_failed(file: &Option<SeenFile<'_>>) -> bool {
 
 fn created(rt: &HostRuntime, name: &str) -> io::Result<BufWriter<File>> {
     BufWriter::new(rt.alloc(), File::create(rt, name)?)
+}
+
+/// Returns the microseconds since 1970; 0 if the clock can't be read.
+fn microseconds(rt: &HostRuntime) -> u64 {
+    match SystemTime::now(rt) {
+        Ok(now) => match now.duration_since(UNIX_EPOCH) {
+            Ok(since) => u64::try_from(since.as_micros()).unwrap_or(0),
+            Err(_) => 0,
+        },
+        Err(_) => 0,
+    }
 }

@@ -21,7 +21,7 @@ pub struct Sent {
 }
 
 impl Sent {
-    /// A station that was not looked at yet.
+    /// Makes the counts of a station that was not looked at yet.
     pub fn new(station: Side) -> Sent {
         Sent {
             station,
@@ -38,7 +38,7 @@ impl Sent {
     ///
     /// # Errors
     ///
-    /// That of the writer.
+    /// The error of the writer, if it fails.
     pub fn write<W: Write>(&self, frames: SentFrames, out: &mut W) -> io::Result<()> {
         let Some(pdus) = self.pdus else {
             return Ok(());

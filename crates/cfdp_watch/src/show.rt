@@ -9,7 +9,7 @@ use cfdp_report::{Answer, Answered, Exit};
 use std::io;
 use std::io::{ErrorKind, Write};
 
-/// The exit status where what is asked for can't be shown.
+/// The exit status if what is asked for can't be shown.
 const DEVICE: u8 = 3;
 
 /// How a run ended, and what was seen of it.
@@ -17,12 +17,12 @@ const DEVICE: u8 = 3;
 pub struct Ran {
     /// How it ended.
     pub exit: Exit,
-    /// What is known of it by one who looked on; `None` where nobody did, or nothing was done.
+    /// What is known of it by one who looked on; `None` if nobody did, or nothing was done.
     pub seen: Option<Summary>,
 }
 
 impl Ran {
-    /// A run that ended so before anything was done.
+    /// Returns a run that ended so before anything was done.
     pub fn unseen(exit: Exit) -> Ran
         ensures { result.exit ≡ exit }
     {
@@ -30,8 +30,8 @@ impl Ran {
     }
 }
 
-/// Shows what is told at a run's end of what was seen, if anything was and if that is asked for.
-/// Answers the exit status: that of the run's end, or 3 where something can't be shown.
+/// Shows what is reported at a run's end of what was seen, if anything was and if that is asked
+/// for. Returns the exit status: that of the run's end, or 3 if something can't be shown.
 pub fn shown_status(rt: &HostRuntime, shown: &Shown, ran: &Ran) -> u8
     ensures shown { (result ≡ exit_status ran.now.exit) ⊎ (result ≡ 3) }
     ensures unseen { ran.now.seen ≡ None → result ≡ exit_status ran.now.exit }
@@ -43,7 +43,7 @@ pub fn shown_status(rt: &HostRuntime, shown: &Shown, ran: &Ran) -> u8
     }
 }
 
-/// Shows what is told at the end, where all was seen. Answers the exit status: 0, or 3 where memory
+/// Shows what is reported at the end, if all was seen. Returns the exit status: 0, or 3 if memory
 /// or writing failed.
 fn show(rt: &HostRuntime, shown: &Shown, seen: &Summary) -> u8
     ensures { (result ≡ 0) ⊎ (result ≡ 3) }
@@ -55,7 +55,7 @@ fn show(rt: &HostRuntime, shown: &Shown, seen: &Summary) -> u8
     }
 }
 
-/// Explains what was seen, if that is asked for. Answers the exit status likewise.
+/// Explains what was seen, if that is asked for. Returns the exit status likewise.
 fn explain(rt: &HostRuntime, shown: &Shown, seen: &Summary) -> u8
     ensures { (result ≡ 0) ⊎ (result ≡ 3) }
 {
@@ -76,7 +76,7 @@ fn explain(rt: &HostRuntime, shown: &Shown, seen: &Summary) -> u8
 }
 
 /// Writes which commands had nothing more to do before their end, what the conditions that were
-/// told say, and what the stations sent, lost and dropped.
+/// indicated say, and what the stations sent, lost and dropped.
 fn write_explanation(rt: &HostRuntime, seen: &Summary) -> io::Result<()> {
     let mut text = Vec::new(rt.alloc());
     for done in seen.answered.iter() {

@@ -25,11 +25,11 @@ pub enum Deed {
     HearsPdu,
     /// The frame left it, in this lane, and is lost.
     LosesFrame(Lane),
-    /// It was told the time.
+    /// It was given the time.
     Ticks,
     /// It dropped something of what it took.
     Drops,
-    /// It told its user something.
+    /// It indicated something to its user.
     Tells,
 }
 
@@ -49,11 +49,11 @@ pub struct Sighting {
 }
 
 impl Sighting {
-    /// The same once more.
+    /// Makes a copy of it.
     ///
     /// # Errors
     ///
-    /// `AllocError` where there is no memory for its octets.
+    /// `AllocError` if there is no memory for its octets.
     pub fn copied(&self, alloc: Global) -> Result<Sighting, AllocError> {
         Ok(Sighting {
             step: self.step,
@@ -66,7 +66,7 @@ impl Sighting {
     }
 }
 
-/// What was seen and isn't let go yet, in order.
+/// What was seen and isn't discarded yet, in order.
 #[derive(Drop)]
 pub struct Log {
     alloc: Global,
@@ -79,7 +79,7 @@ pub struct Log {
 }
 
 impl Log {
-    /// Before the first step and the first event.
+    /// Makes a log before the first step and the first event.
     pub fn new(alloc: Global) -> Log
         ensures { (result.event ≡ 0) × (result.sightings.items ≡ []) }
     {
@@ -93,7 +93,7 @@ impl Log {
         }
     }
 
-    /// What gives it memory.
+    /// Returns what gives it memory.
     pub fn alloc(&self) -> Global {
         self.alloc
     }
@@ -117,7 +117,7 @@ impl Log {
         self.place = 0;
     }
 
-    /// Notes what a station did. Where there is no memory for it, the log is short from then on.
+    /// Notes what a station did. If there is no memory for it, the log is short from then on.
     pub fn note(&mut self, station: Side, deed: Deed, octets: &[u8])
         ensures { Notes station deed octets.now self.old self.new }
     {
@@ -127,7 +127,7 @@ impl Log {
         }
     }
 
-    /// Notes what a station told its user.
+    /// Notes what a station indicated to its user.
     pub fn note_told(&mut self, station: Side, indication: &Indication)
         ensures { Notes station deeds.Tells (told_text indication.now) self.old self.new }
     {
@@ -149,7 +149,7 @@ impl Log {
     ///
     /// # Errors
     ///
-    /// `AllocError` where there is no memory for it.
+    /// `AllocError` if there is no memory for it.
     fn append(&mut self, station: Side, deed: Deed, octets: &[u8]) -> Result<(), AllocError>
         ensures noted { OnOk result (NotesOne station deed octets.now self.old self.new) }
         ensures none { OnErr result (NotesNone self.old self.new) }
@@ -167,16 +167,16 @@ impl Log {
         Ok(())
     }
 
-    /// Notes that something was not seen for want of memory.
+    /// Notes that something was not seen for lack of memory.
     pub fn note_short(&mut self) {
         self.is_short = true;
     }
 
-    /// All that was seen since it was let go last.
+    /// Returns all that was seen since the log was last emptied.
     ///
     /// # Errors
     ///
-    /// `AllocError` where there was no memory for some of what was ever seen.
+    /// `AllocError` if there was no memory for some of what was ever seen.
     pub fn sightings(&self) -> Result<&[Sighting], AllocError>
         ensures all { IfOk result (λ all. all.now ≡ self.now.sightings.items) }
         ensures short { IsErr result ↔ (self.now.is_short ≡ true) }
@@ -187,7 +187,7 @@ impl Log {
             Ok(self.sightings.as_slice())
         }
     }
-    /// Lets go what was seen so far. Steps, events and places go on.
+    /// Discards what was seen so far. Steps, events and places go on.
     pub fn forget(&mut self)
         ensures { Forgets self.old self.new }
     {

@@ -13,18 +13,18 @@ pub struct Standing {
     pub phase: Phase,
     /// Up to which offset octets of its file were sent, or came.
     pub progress: Option<u64>,
-    /// When its timers expire, in units of the station's clock; `None` where one isn't armed.
+    /// When its timers expire, in units of the station's clock; `None` if one isn't armed.
     pub eof_ack: Option<u64>,
     pub nak: Option<u64>,
     pub finished_ack: Option<u64>,
     pub inactivity: Option<u64>,
 }
 
-/// How far all transactions are that have a record, those of station 1 first.
+/// Returns how far all transactions are that have a record, those of station 1 first.
 ///
 /// # Errors
 ///
-/// `AllocError` where there is no memory for it.
+/// `AllocError` if there is no memory for it.
 pub fn standings<O: Outbox, I: Inbox>(
     alloc: Global,
     stations: (&Station<O, I>, &Station<O, I>),
@@ -47,7 +47,7 @@ fn add_standings<O: Outbox, I: Inbox>(
     Ok(())
 }
 
-/// How far one of them is.
+/// Returns how far one of them is.
 fn standing_of<O: Outbox, I: Inbox>(
     side: Side,
     station: &Station<O, I>,

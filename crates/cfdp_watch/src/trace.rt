@@ -14,7 +14,7 @@ use std::io;
 use std::io::{BufWriter, Write};
 
 impl Deed {
-    /// The word for it, with the lane of a frame.
+    /// Returns the word for it, with the lane of a frame.
     fn word(self) -> &'static str
         ensures { result.now ≡ deed_word self }
     {
@@ -33,7 +33,7 @@ impl Deed {
         }
     }
 
-    /// The station that sent the frame with which this station did it.
+    /// Returns the station that sent the frame with which this station did it.
     fn sender(self, station: Side) -> Side
         ensures { result ≡ sender self station }
     {
@@ -44,13 +44,13 @@ impl Deed {
     }
 }
 
-/// Writes a line for each thing that a station did, in order, behind those of what was seen before:
+/// Writes a line for each thing that a station did, in order, after those of what was seen before:
 /// the line of the script and the number of the event, with a point between, the station, and what
 /// it did. They have left the buffer then. `shapes` says what the frames of each are made of.
 ///
 /// # Errors
 ///
-/// That of the writer.
+/// The error of the writer, if it fails.
 pub fn write_trace<V: Write + Drop>(
     out: &mut BufWriter<V>,
     shapes: FrameShapes,
@@ -93,7 +93,7 @@ fn write_sighting<W: Write>(out: &mut W, shapes: FrameShapes, sighting: &Sightin
 ///
 /// # Errors
 ///
-/// That of the writer.
+/// The error of the writer, if it fails.
 pub fn write_deed<W: Write>(out: &mut W, shapes: FrameShapes, sighting: &Sighting) -> io::Result<()>
     ensures { OnOk result (WritesLine (TellsDeed shapes sighting.now)
         (W.contents out.old) (W.contents out.new)) }
@@ -103,7 +103,7 @@ pub fn write_deed<W: Write>(out: &mut W, shapes: FrameShapes, sighting: &Sightin
     write_words(out, shapes.sent_by(from), sighting)
 }
 
-/// Writes what stands behind the verb. A frame is made so.
+/// Writes what stands after the verb. A frame is made so.
 fn write_words<W: Write>(out: &mut W, shape: FrameShape, sighting: &Sighting) -> io::Result<()>
     ensures { OnOk result (WritesLine
         (TellsWords sighting.now.deed shape sighting.now.octets.items)

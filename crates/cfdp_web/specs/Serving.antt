@@ -13,12 +13,12 @@ most_visitors = 16
 abbrev pub most_octets : ℕ
 most_octets = 65536
 
--- Some request may ask this, by its sender and by what it says (`May` of the console): a command is
--- that of one of the console's deeds.
+-- Some request may ask this, by its sender and by what it says (`May` of the console): a command
+-- must be one of the console's.
 abbrev pub MayBeAsked : Guard → Ask → Type 0
 MayBeAsked guard ask = (request : Request (List ℕ)) × May guard request ask
 
--- the status of the answer to a command, by what became of it: 2xx where it was done alone (RFC
+-- the status of the answer to a command, by what became of it: 2xx if it was done alone (RFC
 -- 9110, 15.3.1 and 15.5.10)
 abbrev pub status_of : {A B : Type 0} → Result A B → ℕ
 status_of (Ok done) = 200

@@ -14,21 +14,21 @@ const MOST_OCTETS: usize = 65_536;
 /// The most octets that are read over a connection in one turn.
 const MOST_READ: usize = 4096;
 
-/// For so many milliseconds what comes behind the answer is thrown away, at most.
+/// The most milliseconds in which what comes after the answer is discarded.
 const LEAVING: u64 = 1_000;
 
 /// What a connection waits for.
 #[derive(Clone, Copy, PartialEq, Eq)]
 pub struct Wants {
-    /// That octets come.
+    /// Whether it waits for octets.
     pub octets: bool,
-    /// That the stream has room.
+    /// Whether it waits for room in the stream.
     pub room: bool,
 }
 
-/// A connection of the console. It is left once nothing more is asked over it: it is told that
-/// nothing more comes, and what it sends until it is closed at its other end is thrown away, for a
-/// second at most; where something lay in a socket that is closed, the answer would be lost.
+/// A connection of the console. It is left once nothing more is asked over it: the other end is
+/// notified that nothing more comes, and what it sends until it is closed there is discarded, for a
+/// second at most; if something lay in a socket that is closed, the answer would be lost.
 #[derive(Drop)]
 pub struct Visitor<S: WebStream> {
     number: u64,
@@ -43,7 +43,7 @@ pub struct Visitor<S: WebStream> {
 }
 
 impl<S: WebStream> Visitor<S> {
-    /// The one of this number.
+    /// Returns the connection of this number.
     pub(crate) fn new(number: u64, stream: S, caller: Caller) -> Visitor<S> {
         Visitor {
             number,
@@ -55,17 +55,17 @@ impl<S: WebStream> Visitor<S> {
         }
     }
 
-    /// The number by which it is known.
+    /// Returns the number by which it is known.
     pub fn number(&self) -> u64 {
         self.number
     }
 
-    /// What carries its octets.
+    /// Returns the stream that carries its octets.
     pub fn stream(&self) -> &S {
         &self.stream
     }
 
-    /// What it waits for.
+    /// Returns what it waits for.
     pub fn wants(&self) -> Wants {
         Wants {
             octets: self.left_at.is_some() || self.caller.wants_octets(),
@@ -73,18 +73,18 @@ impl<S: WebStream> Visitor<S> {
         }
     }
 
-    /// Whether something is to be done with it whatever comes.
+    /// Returns `true` if something must be done with it whatever comes.
     pub fn is_due(&self) -> bool {
         self.is_over || self.left_at.is_none() && (self.caller.is_gone() || self.caller.is_anew())
     }
 
-    /// Whether it is over: its stream is to be closed.
+    /// Returns `true` if it is over: its stream must be closed.
     pub fn is_over(&self) -> bool {
         self.is_over
     }
 
-    /// Does what can be done now: sends a piece, takes a piece, or leaves it. What it asks, once
-    /// its request is whole and it may ask that by the guard: it is to be answered.
+    /// Does what can be done now: sends a piece, takes a piece, or leaves it. Returns what it asks,
+    /// if its request is whole and it may ask that by the guard: that must be answered.
     pub fn attend(&mut self, guard: &Guard, now: u64) -> Option<Ask>
         ensures { IfSome result (MayBeAsked guard.now) }
     {
@@ -107,7 +107,7 @@ impl<S: WebStream> Visitor<S> {
         }
     }
 
-    /// Answers what it asked; it is left without an answer where there is no memory for one.
+    /// Answers what it asked; it is left without an answer if there is no memory for one.
     pub fn answers(&mut self, answer: Result<Answer, AllocError>, now: u64) {
         self.caller.answers(answer, now);
     }
@@ -143,7 +143,7 @@ impl<S: WebStream> Visitor<S> {
         }
     }
 
-    /// Takes octets that came. Where no more come and nothing was asked, it is left.
+    /// Takes octets that came. If no more come and nothing was asked, it is left.
     fn takes(&mut self, octets: &[u8], guard: &Guard, now: u64) -> Option<Ask>
         ensures heard { self.new.heard ≡ self.old.heard }
         ensures may { IfSome result (MayBeAsked guard.now) }
@@ -155,7 +155,7 @@ impl<S: WebStream> Visitor<S> {
         asked
     }
 
-    /// Tells it that nothing more comes; then throws away what comes, for a second at most.
+    /// Notifies it that nothing more comes; then discards what comes, for a second at most.
     fn leaves(&mut self, now: u64) {
         match self.left_at {
             None => {
@@ -167,7 +167,7 @@ impl<S: WebStream> Visitor<S> {
         }
     }
 
-    /// Throws away what came, until its other end is closed.
+    /// Discards what came, until its other end is closed.
     fn throws_away(&mut self) {
         let mut buffer = [0u8; MOST_READ];
         match self.stream.read(&mut buffer) {
@@ -177,7 +177,7 @@ impl<S: WebStream> Visitor<S> {
         }
     }
 
-    /// Nothing was sent or read, for this cause.
+    /// Notes why nothing was sent or read: it is over, unless it must only wait.
     fn fails(&mut self, kind: ErrorKind) {
         if kind != ErrorKind::WouldBlock && kind != ErrorKind::Interrupted {
             self.caller.breaks_off();

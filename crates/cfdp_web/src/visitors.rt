@@ -21,7 +21,7 @@ pub struct Visitors<S: WebStream> {
 }
 
 impl<S: WebStream> Visitors<S> {
-    /// Before the first one.
+    /// Returns no connections.
     pub fn new(alloc: Global) -> Visitors<S> {
         Visitors {
             all: Vec::new(alloc),
@@ -29,7 +29,7 @@ impl<S: WebStream> Visitors<S> {
         }
     }
 
-    /// Whether one more may come.
+    /// Returns `true` if one more may come.
     pub fn has_room(&self) -> bool
         ensures { IsTrue result ↔ (vec_len self.now.all < most_visitors) }
     {
@@ -45,12 +45,12 @@ impl<S: WebStream> Visitors<S> {
         }
     }
 
-    /// Those that are there, the first one first.
+    /// Returns those that are there, the first one first.
     pub fn all(&self) -> &[Visitor<S>] {
         self.all.as_slice()
     }
 
-    /// Has one more connection; where there are 16, or is no memory, it is closed.
+    /// Adds a connection; if there are 16, or there is no memory, it is closed.
     pub fn takes_in(&mut self, stream: S, caller: Caller) {
         if self.has_room() {
             self.numbered = self.numbered.saturating_add(1);
@@ -60,8 +60,8 @@ impl<S: WebStream> Visitors<S> {
         }
     }
 
-    /// Attends to each connection once, up to the first one that asks something: its number, and
-    /// what it asks, which some request may ask by the guard. It is to be answered.
+    /// Attends to each connection once, up to the first one that asks something. Returns its
+    /// number, and what it asks, which some request may ask by the guard. That must be answered.
     pub fn next_ask(&mut self, guard: &Guard, now: u64) -> Option<(u64, Ask)>
         ensures { IfSome result (λ asked. MayBeAsked guard.now asked.1) }
     {
@@ -74,7 +74,7 @@ impl<S: WebStream> Visitors<S> {
         None
     }
 
-    /// Answers the connection of this number. One that has gone is said nothing.
+    /// Answers the connection of this number. If it has gone, nothing is sent.
     pub fn answers(&mut self, number: u64, answer: Result<Answer, AllocError>, now: u64) {
         if let Some(place) = self.all.iter().position(|it| it.number() == number) {
             let mut visitor = self.all.remove(place);

@@ -110,7 +110,7 @@ least3 = omega arith
 most3 : 3 < 2 ^ 2
 most3 = omega arith
 
--- a digit of nothing in front changes nothing
+-- a digit of nothing at the front changes nothing
 wider : (c n : ℕ) → n < 2 ^ c → parity (suc c) n ≡ parity c n
 unfolding remainder
 wider zero n h =
@@ -126,7 +126,7 @@ divisor_even zero h = refl
 divisor_even (suc zero) h = refl
 divisor_even (suc (suc t)) h = absurd (omega arith)
 
--- the parity of what is left is that of what was divided
+-- the parity of what is left is the same as of what was divided
 parity_left : (c n : ℕ) → parity 16 (rem c n) ≡ parity c n
 unfolding remainder
 parity_left zero n = refl

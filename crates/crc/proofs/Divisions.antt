@@ -132,7 +132,7 @@ module _ (d g : ℕ) (least : 2 ^ d ≤ g) (most : g < 2 ^ (d + 1)) where
       let twice : 2 * bit_xor r s ≡ bit_xor (2 * r) (2 * s) = double_xor r s in
       ap (λ m. reduced d g (2 * m)) (moved_xor k a b ha hb) ∙ ap (reduced d g) twice ∙ reduced_xor (2 * r) (2 * s) hr hs
 
-  -- where it doesn't reach the divisor's degree
+  -- if it doesn't reach the divisor's degree
   pub moved_small : (k n : ℕ) → n * 2 ^ k < 2 ^ d → moved d g k n ≡ n * 2 ^ k
   unfolding moved
   moved_small zero n h = omega arith

@@ -36,7 +36,7 @@ start_below Proximity1 = omega arith
 start_below Castagnoli = omega arith
 start_below Ieee = omega arith
 
--- which octets were counted once pieces came: those that an odd number of them has, besides
+-- which octets were counted once pieces came: the octets that an odd number of them has, besides
 after : (ℕ → Bool) → List Piece → (ℕ → Bool)
 after c [] = c
 after c (p ∷ pieces) = after (λ i. odd (covers i p) (c i)) pieces
@@ -78,7 +78,7 @@ piece_octets file p bytes is i inside =
     rw there (bytes (p.offset + i) (omega arith))
 
 module _ (kind : Crc32) where
-  -- a piece from the end on, or behind it
+  -- a piece from the end on, or after it
   piece_behind : (size left end o : ℕ) (octets : List ℕ) → left < 2 ^ 32 → end ≤ o → o + length octets ≤ size
       → moved_octets kind (size - (o + length octets)) (left_of kind left 0 (o - end) 0 octets)
       ≡ bit_xor (moved_octets kind (size - end) left) (moved_octets kind (size - (o + length octets)) (left_behind kind 0 octets))

@@ -1,4 +1,4 @@
--- What is left of octets: with one octet more, of some behind others, and moved by zeros.
+-- What is left of octets: with one more octet, of some after others, and moved by zeros.
 use Rattle.std.proofs.Common.{◌≡◌, ℕ, ◌+◌, ◌*◌, ◌^◌, ◌<◌, ◌≤◌, List, [], ◌++◌, length, map, get_or, take, refl, sym, ap, ◌∙◌, arith}
 use Rattle.std.specs.Int.Bits.{bit_xor}
 use Rattle.std.proofs.lemmas.List.{get_or-map, length-map, map-append, take-map}
@@ -36,7 +36,7 @@ pub below32 : (kind : Crc32) (s : ℕ) (o : List ℕ) → left_behind kind s o <
 unfolding left_behind
 below32 kind s o = check_below 24 (divisor32 kind) (least32 kind) (most32 kind) s (map (octet_read kind) o)
 
--- with one octet more
+-- with one more octet
 pub more32 : (kind : Crc32) (s : ℕ) (o : List ℕ) (n b : ℕ) → n < length o → b ≡ octet_read kind (get_or o n 0) → get_or o n 0 < 256
     → moved 32 (divisor32 kind) 8 (bit_xor (left_behind kind s (take n o)) (b * 2 ^ 24)) ≡ left_behind kind s (take (n + 1) o)
 unfolding left_behind

@@ -1,4 +1,4 @@
--- What is left, with its octets or its bits the other way round.
+-- What is left, with its octets or its bits in reverse order.
 use Rattle.std.proofs.Common.{◌≡◌, ℕ, zero, suc, ◌+◌, ◌*◌, ◌/◌, ◌%◌, ◌^◌, ◌<◌, ◌≤◌, refl, sym, ap, ap₂, ◌∙◌, arith, add-one}
 use Rattle.std.specs.Int.{w32, reverse_bits_onto, swap_bytes}
 use Rattle.std.specs.Int.Bits.{bit_xor}
@@ -78,7 +78,7 @@ onto_xor (suc k) a b u v =
     ∙ sym (ap₂ bit_xor (turn u (a % 2)) (turn v (b % 2)) ∙ xor_digit u v (a % 2) (b % 2) (omega arith) (omega arith)) in
     ap₂ (reverse_bits_onto k) (xor_shr a b 1) next ∙ onto_xor k (a / 2) (b / 2) (u * 2 + a % 2) (v * 2 + b % 2)
 
--- twice the other way round
+-- reversed twice
 onto_back : (k n : ℕ) → n < 2 ^ k → reverse_bits_onto k (reverse_bits_onto k n 0) 0 ≡ n
 unfolding reverse_bits_onto
 onto_back zero n h = omega arith

@@ -1,4 +1,4 @@
--- A check with one octet more, and what a table of octets leaves.
+-- A check with one more octet, and what a table of octets leaves.
 use Rattle.std.proofs.Common.{◌≡◌, ℕ, ◌+◌, ◌*◌, ◌/◌, ◌%◌, ◌^◌, ◌<◌, ◌≤◌, List, [], length, get_or, take, refl, sym, ap, ap₂, ◌∙◌, arith, zero-add}
 use Rattle.std.specs.Int.Bits.{bit_xor, xor_zero_r}
 use Rattle.std.proofs.Math.Nat.{mul-lt-mul_of_pos_right, add-mul, mul_assoc, zero-mul, mul-one}
@@ -25,7 +25,7 @@ module _ (e g : ℕ) (least : 2 ^ (e + 8) ≤ g) (most : g < 2 ^ (e + 8 + 1)) wh
   octet_fits : (b : ℕ) → b < 256 → b * 2 ^ e < 2 ^ (e + 8)
   octet_fits b small = omega (arith, wide, mul-lt-mul_of_pos_right {m = b} {n = 256} {k = 2 ^ e} small (pow_pos e))
 
-  -- with one octet more
+  -- with one more octet
   divided_more : (s : ℕ) (o : List ℕ) (n b : ℕ) → get_or o n 0 ≡ b → b < 256 → divided s o (n + 1) ≡ bit_xor (divided s o n) (b * 2 ^ e) * 2 ^ 8
   divided_more s o n b is small =
       let f : ℕ = field o 0 (8 * n) in
@@ -93,7 +93,7 @@ module _ (e g : ℕ) (least : 2 ^ (e + 8) ≤ g) (most : g < 2 ^ (e + 8 + 1)) wh
       ∙ moved_xor (e + 8) g least most 8 hi lo (omega arith) (omega (arith, wide))
       ∙ ap (bit_xor (moved (e + 8) g 8 hi)) (moved_small (e + 8) g least most 8 lo small)
 
-  -- where an octet is added to the highest octet of a check
+  -- if an octet is added to the highest octet of a check
   pub octet_step : (c b p : ℕ) → c < 2 ^ (e + 8) → b < 256 → p ≡ bit_xor (c / 2 ^ e) b
       → moved (e + 8) g 8 (bit_xor c (b * 2 ^ e)) ≡ bit_xor (moved (e + 8) g 8 (p * 2 ^ e)) (c % 2 ^ e * 2 ^ 8)
   octet_step c b p hc hb is =

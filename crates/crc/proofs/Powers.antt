@@ -61,7 +61,7 @@ module _ (d g : ℕ) (least : 2 ^ d ≤ g) (most : g < 2 ^ (d + 1)) where
             ap (λ n. n * moved d g k 1) e ∙ one ∙ sym (ap (moved d g k) e)
       ]
 
--- no coefficient more
+-- no more coefficient
 pub no_coefficient : (a x n : ℕ) → (x % 2 ≡ 1 → ⊥) → a ≡ bit_xor a (x % 2 * n)
 no_coefficient a x n h =
     let even : x % 2 ≡ 0 = omega arith in
@@ -91,7 +91,7 @@ module _ (g : ℕ) (least : 2 ^ 32 ≤ g) (most : g < 2 ^ 33) where
   unfolding product
   product_none n m = refl
 
-  -- one coefficient more, of m from its bit p on
+  -- one more coefficient, of m from its bit p on
   pub product_more : (so_far n m p c : ℕ) → c + p ≡ 31 → so_far ≡ product 32 g c n (m / 2 ^ (p + 1))
       → bit_xor (reduced 32 g (2 * so_far)) (m / 2 ^ p % 2 * n) ≡ product 32 g (c + 1) n (m / 2 ^ p)
   unfolding product
@@ -117,7 +117,7 @@ module _ (g : ℕ) (least : 2 ^ 32 ≤ g) (most : g < 2 ^ 33) where
         is = is ∙ product_more now n m q c (omega arith) before ∙ ap (λ k. product 32 g k n (m / 2 ^ q)) more;
       }
 
-  -- What is left to do, where power is x^m.
+  -- What is left to do, if power is x^m.
   pub record IsMoved (count before left power now : ℕ) : Type 0 where
     pub m : ℕ
     pub power_is : power ≡ moved 32 g m 1

@@ -92,7 +92,7 @@ unfolding low
 low_twice [] = refl
 low_twice (n ∷ o) = ap₂ (λ m l. m ∷ l) (omega arith) (low_twice o)
 
--- ---- octets behind others
+-- ---- octets after others
 pub left_on : (kind : Crc32) (s : ℕ) (a b : List ℕ) → s < 2 ^ 32 → left_behind kind (left_behind kind s a) b ≡ left_behind kind s (a ++ b)
 unfolding low
 left_on kind s a b fits =

@@ -1,4 +1,4 @@
--- What the octets of a file leave, each moved by the octets behind it.
+-- What the octets of a file leave, each moved by the octets after it.
 use Rattle.std.proofs.Common.{◌≡◌, ℕ, suc, ◌+◌, ◌-◌, ◌^◌, ◌<◌, ◌≤◌, Bool, true, false, not, cond, leb, ltb, List, [], ◌∷◌, ◌++◌, length, take, drop, refl, sym, ap, ap₂, ◌∙◌, arith}
 use Rattle.std.specs.Int.Bits.{bit_xor, xor_zero_r, xor_self}
 use Rattle.std.proofs.lemmas.Nat.{xor_lt}
@@ -29,7 +29,7 @@ module _ (kind : Crc32) (n : ℕ) where
   unfolding term
   term_below o b = moved_fits kind (n - (o + 1)) (left_behind kind 0 (b ∷ [])) (below32 kind 0 (b ∷ []))
 
-  -- those of the octets from offset o on that are counted
+  -- the octets from offset o on that are counted
   pub spread : (ℕ → Bool) → ℕ → List ℕ → ℕ
   spread c o [] = 0
   spread c o (b ∷ bytes) = bit_xor (cond (c o) (term o b) 0) (spread c (o + 1) bytes)
@@ -114,7 +114,7 @@ module _ (kind : Crc32) (n : ℕ) where
       let t : ltb i (p.offset + length p.bytes) ≡ false = le-ltb i (p.offset + length p.bytes) h in
       rw (s, t) refl
 
-  -- of the file those octets that are a piece's
+  -- of the file the octets that are a piece's
   pub spread_piece : (file : List ℕ) (p : Piece) → IsOf file p → spread (λ i. covers i p) 0 file ≡ spread (λ _. true) p.offset p.bytes
   spread_piece file p is =
       let o : ℕ = p.offset in

@@ -1,4 +1,4 @@
--- The tables of sixteen bits, computed anew row by row, and steps by them.
+-- The tables of sixteen bits, computed again row by row, and steps by them.
 use Rattle.std.proofs.Common.{◌≡◌, ℕ, zero, suc, ◌+◌, ◌*◌, ◌/◌, ◌%◌, ◌^◌, ◌<◌, ◌≤◌, List, [], ◌∷◌, length, map, get_or, take, replicate, refl, sym, ap, ap₂, ◌∙◌, arith}
 use Rattle.std.specs.Int.Bits.{bit_xor}
 use Rattle.std.proofs.lemmas.Nat.{xor_lt}
@@ -51,7 +51,7 @@ tables16 (suc k) n hk hn =
     ∙ sym (moved_add 16 divisor16 (omega arith) (omega arith) 8 (8 * (k + 1)) (n * 2 ^ 8))
     ∙ ap (λ i. M i (n * 2 ^ 8)) (let e : 8 + 8 * (k + 1) ≡ 8 * (suc k + 1) = omega arith in e)
 
--- one octet more, by the table
+-- one more octet, by the table
 pub step16 : (c b p : ℕ) → c < 2 ^ 16 → b < 256 → p ≡ bit_xor (c / 256) b → bit_xor (in_table TABLES 0 p) (c * 256 % 65536) ≡ moved 16 divisor16 8 (bit_xor c (b * 2 ^ 8))
 step16 c b p hc hb is =
     let high : c / 256 < 256 = omega arith in
@@ -72,8 +72,8 @@ unfolding crc16_behind
 below16 s o = check_below 8 divisor16 (omega arith) (omega arith) s o
 
 -- ---- eight octets at once
--- the check with one octet more, moved on by so many bits: the check before, moved on by eight bits
--- more, and what the octet leaves
+-- the check with one more octet, moved on by so many bits: the check before, moved on by eight more
+-- bits, and what the octet leaves
 push : (k m c b : ℕ) → m ≡ k + 8 → c < 2 ^ 16 → b < 256 → M k (M 8 (bit_xor c (b * 2 ^ 8))) ≡ bit_xor (M m c) (M m (b * 2 ^ 8))
 push k m c b more hc hb =
     sym (moved_add 16 divisor16 (omega arith) (omega arith) k 8 (bit_xor c (b * 2 ^ 8)))
@@ -97,7 +97,7 @@ joined_octet k x b p hx hb is =
     ∙ ap (M k) (sym (xor_shift x b 8))
     ∙ moved_xor 16 divisor16 (omega arith) (omega arith) k (x * 2 ^ 8) (b * 2 ^ 8) (omega arith) (omega arith)
 
--- the check with one octet more, moved on
+-- the check with one more octet, moved on
 goes : (k m s t b : ℕ) → m ≡ k + 8 → s < 2 ^ 16 → b < 256 → M 8 (bit_xor s (b * 2 ^ 8)) ≡ t → M k t ≡ bit_xor (M m s) (M m (b * 2 ^ 8))
 goes k m s t b more hs hb is = ap (M k) (sym is) ∙ push k m s b more hs hb
 

@@ -1,5 +1,5 @@
--- The tables of thirty-two bits, computed anew row by row, and steps by them. All that is left stands
--- mirrored here.
+-- The tables of thirty-two bits, computed again row by row, and steps by them. All that is left
+-- stands mirrored here.
 use Rattle.std.proofs.Common.{◌≡◌, ℕ, zero, suc, ◌+◌, ◌*◌, ◌/◌, ◌%◌, ◌^◌, ◌<◌, ◌≤◌, List, [], ◌∷◌, length, map, get_or, take, replicate, refl, sym, subst, ap, ap₂, ◌∙◌, arith}
 use Rattle.std.specs.Int.{reverse_bits_onto}
 use Rattle.std.specs.Int.Bits.{bit_xor, xor_zero_r, xor_self}
@@ -125,7 +125,7 @@ ieee_tables kind e = subst (λ k. AreTables k IEEE) (sym e) (tables_are Ieee IEE
 abbrev L : Crc32 → ℕ → List ℕ → ℕ
 L kind before o = mirrored32 kind (left_behind kind before o)
 
--- with one octet more
+-- with one more octet
 pub one_more : (kind : Crc32) (before : ℕ) (o : List ℕ) (n m : ℕ) → m ≡ n + 1 → n < length o → get_or o n 0 < 256
     → W kind 1 (bit_xor (L kind before (take n o)) (get_or o n 0)) ≡ L kind before (take m o)
 unfolding moved_octets
@@ -147,7 +147,7 @@ by_table kind t y o p are hy ho is =
     ap₂ bit_xor (are 0 p (omega arith) small) (sym (by_none kind (y / 2 ^ 8) (omega arith)))
     ∙ sym (peeled kind 0 1 y o p refl hy ho is)
 
--- One octet more, where octets of what was left before wait for theirs: y holds these.
+-- One more octet, if octets of what was left before wait for theirs: y holds these.
 takes : (kind : Crc32) (t : List (List ℕ)) (i j k z y c d o p : ℕ) → AreTables kind t → i < 8 → j ≡ i → k ≡ i + 1 → y < 2 ^ 32 → o < 256
     → W kind 1 (bit_xor c o) ≡ d → p ≡ bit_xor (y % 2 ^ 8) o
     → W kind k c ≡ bit_xor z (W kind k y)
@@ -165,7 +165,7 @@ takes kind t i j k z y c d o p are few same more hy ho is at before =
     ∙ ap (bit_xor z) (sym (sum kind k y o) ∙ peeled kind j k y o p next hy ho at ∙ ap (λ n. bit_xor n (W kind j (y / 2 ^ 8))) (sym row))
     ∙ sym (xor_assoc z (in_table t i p) (W kind j (y / 2 ^ 8)))
 
--- One octet more, where none waits.
+-- One more octet, if none waits.
 adds : (kind : Crc32) (t : List (List ℕ)) (i k z c d o : ℕ) → AreTables kind t → i < 8 → k ≡ i + 1 → o < 256
     → W kind 1 (bit_xor c o) ≡ d → W kind k c ≡ z → W kind i d ≡ bit_xor z (in_table t i o)
 adds kind t i k z c d o are few more ho is before =

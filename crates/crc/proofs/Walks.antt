@@ -3,7 +3,7 @@ use Rattle.std.proofs.Common.{◌≡◌, ℕ, zero, suc, ◌+◌, ◌-◌, ◌*�
 use Rattle.crc.specs.Division.{reduced, moved}
 use Rattle.crc.specs.Checks.{divisor16}
 
--- a step, which ends at 0 where it would come to 1
+-- a step, which ends at 0 if it would come to 1
 abbrev kept : ℕ → ℕ
 kept n = if n == 1 then 0 else n
 
@@ -75,7 +75,7 @@ walk_ends a (suc b) r e =
     let n : a + suc b ≡ suc (a + b) = omega arith in
     ap (λ m. walk m r) n ∙ kept_zero (walk (a + b) r) (walk_ends a b r e)
 
--- where none of the powers up to this one is 1
+-- if none of the powers up to this one is 1
 goes_on : (d : ℕ) → d < 16384 → walk d 1 ≡ 0 → ⊥
 goes_on d h e =
     let n : d + (16384 - d) ≡ 16384 = omega arith in

@@ -20,7 +20,7 @@ xor_shift a b k =
     let none : (n : ℕ) → n * 2 ^ k ≡ n * 2 ^ k + 0 = λ n. omega arith in
     ap₂ bit_xor (none a) (none b) ∙ xor_block k a b 0 0 (pow_pos k) (pow_pos k) ∙ sym (none (bit_xor a b))
 
--- one digit more
+-- one more digit
 pub xor_digit : (a b x y : ℕ) → x < 2 → y < 2 → bit_xor (2 * a + x) (2 * b + y) ≡ 2 * bit_xor a b + bit_xor x y
 xor_digit a b x y hx hy =
     let turn : (n : ℕ) → 2 * n ≡ n * 2 ^ 1 = λ n. omega arith in

@@ -3,9 +3,8 @@ use Rattle.std.specs.Prelude.{ℕ, ◌+◌, ◌-◌, ◌*◌, ◌^◌, ◌==◌,
 use Rattle.cfd_bits.specs.Field.{field}
 use Rattle.crc.specs.Division.{remainder}
 
--- What is left of x^d M(x) + x^k L(x), divided by the polynomial of degree d: M has as its
--- coefficients the k bits of the octets, the first bit that of the highest power, and L is what the
--- check begins with.
+-- The remainder of x^d M(x) + x^k L(x), divided by the polynomial of degree d. The coefficients of
+-- M are the k bits of the octets, the highest power first; the check begins with L.
 unfoldable pub check_from : ℕ → ℕ → ℕ → List ℕ → ℕ
 check_from d divisor start octets =
     let k = 8 * length octets in
@@ -15,8 +14,8 @@ check_from d divisor start octets =
 abbrev pub divisor16 : ℕ
 divisor16 = 2 ^ 16 + 2 ^ 12 + 2 ^ 5 + 1
 
--- The frame error control of 732.0-B-4 and the CRC of a PDU of 727.0-B-5, begun with another value.
--- That of some octets is what that of the octets behind them begins with.
+-- The frame error control of 732.0-B-4 and the CRC of a PDU of 727.0-B-5, begun with another value:
+-- if octets follow others, their check begins with the check of the others.
 unfoldable pub crc16_behind : ℕ → List ℕ → ℕ
 crc16_behind start octets = check_from 16 divisor16 start octets
 
@@ -24,7 +23,7 @@ crc16_behind start octets = check_from 16 divisor16 start octets
 abbrev pub crc16_of : List ℕ → ℕ
 crc16_of octets = crc16_behind (2 ^ 16 - 1) octets
 
--- whether the last two octets are the check of all before them
+-- true if the last two octets are the check of all before them
 abbrev pub ends_in_check : List ℕ → Bool
 ends_in_check octets =
     field (drop (length octets - 2) octets) 0 16 == crc16_of (take (length octets - 2) octets)

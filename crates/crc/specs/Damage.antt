@@ -1,15 +1,16 @@
--- Which bits of some octets were turned on their way. They are a polynomial over two elements: the
--- last bit is the coefficient of x^0.
+-- Which bits of some octets were turned on their way, as a polynomial over two elements: the last
+-- bit is the coefficient of x^0.
 use Rattle.std.specs.Prelude.{◌≡◌, ℕ, ◌+◌, ◌*◌, ◌^◌, ◌<◌, ◌⊎◌, List, length, bit_xor}
 use Rattle.cfd_bits.specs.Field.{field}
 
--- the bits that differ between what was sent and what came, which is as long
+-- the bits that differ between the octets that were sent and the octets that came, which are as
+-- many
 abbrev pub turned : (sent came : List ℕ) → ℕ
 turned sent came =
     bit_xor (field sent 0 (8 * length sent)) (field came 0 (8 * length sent))
 
--- Of so many bits all that are turned lie within 16 in a row; the first and the last of these, and
--- any between, are turned. There are `behind` bits behind them.
+-- Of so many bits all that are turned lie within 16 in a row. The first and the last of these are
+-- turned, and any between may be. There are `behind` bits after them.
 pub record IsBurst (count turned : ℕ) : Type 0 where
   pub bits : ℕ
   pub before : ℕ
@@ -20,7 +21,7 @@ pub record IsBurst (count turned : ℕ) : Type 0 where
   pub within : bits < 2 ^ before
   pub are : turned ≡ bits * 2 ^ behind
 
--- Two bits are turned, or three, each given by how many are behind it.
+-- Two bits are turned, or three, each given by how many bits are after it.
 pub record AreTwo (count turned : ℕ) : Type 0 where
   pub first : ℕ
   pub last : ℕ

@@ -7,7 +7,7 @@ use Rattle.crc.specs.declared.thirty_two.Crc32.TheVariants.{Proximity1, Castagno
 use Rattle.crc.specs.Division.{moved}
 use Rattle.crc.specs.Checks.{check_from}
 
--- what is divided by: of 211.2-B, of CRC-32C, and of IEEE 802.3
+-- the divisor: of 211.2-B, of CRC-32C, and of IEEE 802.3
 abbrev pub divisor32 : Crc32 → ℕ
 divisor32 Proximity1 = 2 ^ 32 + 2 ^ 23 + 2 ^ 21 + 2 ^ 11 + 2 ^ 2 + 1
 divisor32 Castagnoli =
@@ -29,13 +29,13 @@ octet_read Proximity1 octet = octet
 octet_read Castagnoli octet = reverse_bits w8 octet
 octet_read Ieee octet = reverse_bits w8 octet
 
--- how what is left is written: as it is, or its bits the other way round and each of them turned
+-- how the remainder is written: as it is, or with its bits in reverse order and each of them turned
 abbrev pub written32 : Crc32 → ℕ → ℕ
 written32 Proximity1 left = left
 written32 Castagnoli left = 2 ^ 32 - 1 - reverse_bits w32 left
 written32 Ieee left = 2 ^ 32 - 1 - reverse_bits w32 left
 
--- what is left of octets, begun with another value
+-- the remainder of octets, begun with another value
 unfoldable pub left_behind : Crc32 → ℕ → List ℕ → ℕ
 left_behind kind start octets =
     check_from 32 (divisor32 kind) start (map (octet_read kind) octets)
@@ -44,6 +44,6 @@ left_behind kind start octets =
 abbrev pub crc32_of : Crc32 → List ℕ → ℕ
 crc32_of kind file = written32 kind (left_behind kind (start32 kind) file)
 
--- what so many octets of zeros leave behind
+-- the remainder with so many octets of zeros after it
 unfoldable pub moved_octets : Crc32 → ℕ → ℕ → ℕ
 moved_octets kind count left = moved 32 (divisor32 kind) (8 * count) left

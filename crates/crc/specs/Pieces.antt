@@ -1,5 +1,5 @@
--- The check of a file of which pieces come in any order. Kept is what is left of the octets up to
--- the end of those that came, with zeros where none came yet.
+-- The check of a file whose pieces come in any order. Kept is the remainder of the octets up to the
+-- end of the octets that came, with zeros where none came yet.
 use Rattle.std.specs.Prelude.{◌≡◌, ℕ, ◌+◌, ◌-◌, ◌<◌, ◌≤◌, Bool, List, length, take, drop, min, max, fold, bit_xor, count_by, nat_le, nat_lt, ◌&&◌}
 use Rattle.std.specs.List.{AllByRecursion}
 use Rattle.crc.specs.declared.thirty_two.Crc32.{Crc32}
@@ -19,8 +19,8 @@ nothing_kept kind = record { kind = kind; end = 0; left = start32 kind }
 abbrev pub before_end : ℕ → Piece → ℕ
 before_end end p = min (length p.bytes) (end - p.offset)
 
--- Once a piece came, each octet of it for the first time: those before the end are added, moved by
--- the octets behind them; those behind it go on, behind zeros if there is a gap.
+-- Once a piece came, each octet of it for the first time: the octets before the end are added,
+-- moved by the octets after them; the others go on, after zeros if there is a gap.
 abbrev pub kept_with : FileCheck → Piece → FileCheck
 kept_with k p =
     let n = before_end k.end p in
@@ -38,7 +38,7 @@ kept_with k p =
 abbrev pub kept_of : Crc32 → List Piece → FileCheck
 kept_of kind pieces = fold kept_with (nothing_kept kind) pieces
 
--- whether the offset is one of the piece's
+-- true if the offset is one of the piece's
 abbrev pub covers : ℕ → Piece → Bool
 covers n p = nat_le p.offset n && nat_lt n (p.offset + length p.bytes)
 

@@ -3,8 +3,8 @@ ghost use Rattle.std.specs.Prelude.{◌≡◌, ℕ, ◌≤◌, true, false, List
 ghost use Rattle.crc.specs.Checks.{ends_in_check};
 ghost use Rattle.crc.specs.Damage.{IsDamaged};
 
-/// Up to 2,048 octets that end in their check, of which one, two or three bits were turned, or any
-/// within 16 in a row, no longer end in it.
+/// If one, two or three bits of up to 2,048 octets that end in their check are turned, or any bits
+/// within 16 in a row, the octets no longer end in their check.
 pub fn damage_is_seen()
     ensures { (sent came : List ℕ) → 2 ≤ length sent → length sent ≤ 2048
         → ends_in_check sent ≡ true → IsDamaged sent came → ends_in_check came ≡ false }

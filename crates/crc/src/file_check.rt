@@ -1,13 +1,13 @@
-//! The check of a file of which pieces come in any order.
+//! The check of a file whose pieces come in any order.
 ghost use Rattle.std.specs.Prelude.{◌≡◌, ◌+◌, ◌-◌, ◌^◌, ◌<◌, length, min};
 ghost use Rattle.crc.specs.FileChecks.{written32};
 ghost use Rattle.crc.specs.Pieces.{kept_with, nothing_kept};
 
 use crate::Crc32;
 
-/// The check of a file of which pieces come in any order, each octet once. Kept is what is left of
-/// the octets up to the end of those that came, with zeros where none came yet; so a piece costs
-/// its octets and, where it doesn't follow the last one, some forty products.
+/// The check of a file whose pieces come in any order, each octet once. It keeps the remainder of
+/// the octets up to the end of the octets that came, with zeros where none came yet. So a piece
+/// costs its octets and, if it doesn't follow the last one, some forty products.
 #[derive(Clone, Copy, Debug, PartialEq, Eq)]
 pub struct FileCheck {
     kind: Crc32,
@@ -16,7 +16,7 @@ pub struct FileCheck {
 }
 
 impl FileCheck {
-    /// No octet came.
+    /// Returns the check of a file without octets so far.
     pub fn new(kind: Crc32) -> FileCheck
         ensures { result ≡ nothing_kept kind }
     {
@@ -27,7 +27,7 @@ impl FileCheck {
         }
     }
 
-    /// Adds a piece of the file: octets, the first of them at this offset.
+    /// Adds a piece of the file: octets, the first of them at this offset. No octet may come twice.
     pub fn add(&mut self, offset: u64, bytes: &[u8])
         requires { offset + length bytes.now < 2 ^ 64 }
         ensures { self.new ≡ kept_with self.old (record { offset = offset; bytes = bytes.now }) }
@@ -43,14 +43,14 @@ impl FileCheck {
         self.end = self.end.max(offset + bytes.len() as u64);
     }
 
-    /// The check, once each octet of the file came.
+    /// Returns the check of the file. Each octet of the file must have come.
     pub fn value(&self) -> u32
         ensures { result ≡ written32 self.now.kind self.now.left }
     {
         self.kind.written(self.left)
     }
 
-    // How many of so many octets at this offset lie before the end.
+    // Returns how many of so many octets at this offset lie before the end.
     fn before_end(&self, offset: u64, count: usize) -> usize
         ensures { result ≡ min count (self.now.end - offset) }
     {

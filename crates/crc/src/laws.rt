@@ -8,13 +8,13 @@ ghost use Rattle.crc.specs.Pieces.{kept_of, kept_with, nothing_kept, Cuts, Piece
 ghost use Rattle.crc.specs.declared.thirty_two.Crc32.{Crc32};
 ghost use Rattle.crc.specs.declared.thirty_two.Crc32.TheVariants.{Castagnoli, Ieee};
 
-/// What a division leaves is the remainder of it, and nothing else is.
+/// The remainder of a division is the only number that fits its definition.
 pub fn what_is_left_is_the_remainder()
     ensures { (degree divisor count n r : ℕ) → 2 ^ degree ≤ divisor → divisor < 2 ^ (degree + 1)
         → n < 2 ^ count → IsLeft degree divisor n r ↔ (r ≡ remainder degree divisor count n) }
 {}
 
-/// The check of octets begins with that of the octets before them.
+/// The check of octets begins with the check of the octets before them.
 pub fn a_check_goes_on()
     ensures { (start : ℕ) (front back : List ℕ) → start < 2 ^ 16
         → ((i : ℕ) → slice_index back i < 256)
@@ -33,8 +33,8 @@ pub fn cut_file_has_its_check()
         → written32 kind (kept_of kind pieces).left ≡ crc32_of kind file }
 {}
 
-/// Octets that follow those that came leave what both do in one piece, where none came that is
-/// nothing, and a whole file in one piece leaves its check.
+/// Octets that follow the octets that came leave what both leave in one piece. If none came,
+/// nothing is left, and a whole file in one piece leaves its check.
 pub fn a_file_check_goes_on()
     ensures none { (kind : Crc32) → kept_with (nothing_kept kind) (record { offset = 0; bytes = [] })
         ≡ nothing_kept kind }

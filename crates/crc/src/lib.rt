@@ -1,4 +1,4 @@
-//! Cyclic redundancy checks: what is left of octets that are divided, as polynomials over two
+//! Cyclic redundancy checks: the remainder of octets that are divided, as polynomials over two
 //! elements, by a polynomial that the standard gives.
 //!
 //! ```rust

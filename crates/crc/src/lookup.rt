@@ -1,7 +1,7 @@
-//! What an octet leaves that stands before thirty-two bits of nothing, for each check of a file; in
-//! the first of eight tables by itself, in the others before one to seven octets of zeros more.
+//! The remainder of an octet before thirty-two bits of nothing, for each check of a file: in the
+//! first of eight tables by itself, in the others before one to seven more octets of zeros.
 
-/// By the polynomial of Proximity-1, with its octets the other way round.
+/// By the polynomial of Proximity-1, with its octets in reverse order.
 pub static PROXIMITY: [[u32; 256]; 8] = [
     [
         0x00000000, 0x0508A000, 0x0A104001, 0x0F18E001, 0x14208002, 0x11282002, 0x1E30C003,
@@ -317,7 +317,7 @@ pub static PROXIMITY: [[u32; 256]; 8] = [
     ],
 ];
 
-/// By the polynomial of Castagnoli, with its bits the other way round.
+/// By the polynomial of Castagnoli, with its bits in reverse order.
 pub static CASTAGNOLI: [[u32; 256]; 8] = [
     [
         0x00000000, 0xF26B8303, 0xE13B70F7, 0x1350F3F4, 0xC79A971F, 0x35F1141C, 0x26A1E7E8,
@@ -633,7 +633,7 @@ pub static CASTAGNOLI: [[u32; 256]; 8] = [
     ],
 ];
 
-/// By the polynomial of IEEE 802.3, with its bits the other way round.
+/// By the polynomial of IEEE 802.3, with its bits in reverse order.
 pub static IEEE: [[u32; 256]; 8] = [
     [
         0x00000000, 0x77073096, 0xEE0E612C, 0x990951BA, 0x076DC419, 0x706AF48F, 0xE963A535,

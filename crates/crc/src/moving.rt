@@ -1,4 +1,4 @@
-//! What is left of a check, moved by zeros behind it.
+//! The remainder of a check, moved by zeros after it.
 ghost use Rattle.std.specs.Prelude.{◌≡◌, ◌+◌, ◌*◌, ◌/◌, ◌%◌, ◌^◌, ◌<◌, bit_xor};
 ghost use Rattle.crc.specs.Division.{reduced};
 ghost use Rattle.crc.specs.Products.{product};
@@ -7,8 +7,8 @@ ghost use Rattle.crc.specs.FileChecks.{divisor32, moved_octets};
 use crate::Crc32;
 
 impl Crc32 {
-    /// What so many octets of zeros leave behind octets of which this is left, by some forty
-    /// products at the most for the octets of any file.
+    /// Returns what so many octets of zeros leave after octets that left this. It takes at most
+    /// some forty products for the octets of any file.
     pub(crate) fn moved(self, octets: u64, left: u32) -> u32
         ensures { result ≡ moved_octets self octets left }
     {
@@ -25,7 +25,7 @@ impl Crc32 {
         moved
     }
 
-    /// The product of two polynomials, less the divisor wherever that goes into it.
+    /// Returns the product of two polynomials, modulo the divisor.
     fn times(self, first: u32, second: u32) -> u32
         ensures { result ≡ product 32 (divisor32 self) 32 first second }
     {
@@ -38,7 +38,7 @@ impl Crc32 {
         product
     }
 
-    /// A product with one coefficient more of the second factor.
+    /// Returns a product with one more coefficient of the second factor.
     #[inline(always)]
     fn with_coefficient(self, so_far: u32, first: u32, second: u32, place: u32) -> u32
         requires { place < 32 }
@@ -53,7 +53,7 @@ impl Crc32 {
         }
     }
 
-    /// A polynomial times x, less the divisor where that goes into it.
+    /// Returns a polynomial times x, less the divisor if the divisor goes into it.
     #[inline(always)]
     fn doubled(self, left: u32) -> u32
         ensures { result ≡ reduced 32 (divisor32 self) (2 * left) }

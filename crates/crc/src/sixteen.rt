@@ -5,16 +5,16 @@ ghost use Rattle.crc.specs.Division.{moved};
 
 use crate::sixteen_tables::TABLES;
 
-/// The check of the octets, as frames and PDUs carry it: by x^16 + x^12 + x^5 + 1, begun with ones
-/// (CCSDS 732.0-B-4, 4.1.6.2).
+/// Returns the check of the octets, as frames and PDUs carry it: by x^16 + x^12 + x^5 + 1, begun
+/// with ones (CCSDS 732.0-B-4, 4.1.6.2).
 pub fn crc16(octets: &[u8]) -> u16
     ensures { result ≡ crc16_of octets.now }
 {
     crc16_more(u16::MAX, octets)
 }
 
-/// The check of the octets where it is begun with another value. So a check is taken in parts: that
-/// of the octets before is what the check of these begins with.
+/// Returns the check of the octets if it is begun with another value. So a check can be taken in
+/// parts: the check of the octets before must be passed as `before`.
 pub fn crc16_more(before: u16, octets: &[u8]) -> u16
     ensures { result ≡ crc16_behind before octets.now }
 {
@@ -26,7 +26,7 @@ pub fn crc16_more(before: u16, octets: &[u8]) -> u16
     check
 }
 
-/// The same of the first octets, so many eights.
+/// Returns `crc16_more` of the first octets, so many eights of them.
 fn eights(before: u16, octets: &[u8], whole: usize) -> u16
     requires within { whole ≤ length octets.now }
     requires eights { whole % 8 ≡ 0 }
@@ -50,7 +50,7 @@ fn eights(before: u16, octets: &[u8], whole: usize) -> u16
     check
 }
 
-/// The check with one octet more.
+/// Returns the check with one more octet.
 #[inline(always)]
 fn with_octet(check: u16, octet: u8) -> u16
     ensures { result ≡ moved 16 divisor16 8 (bit_xor check (octet * 2 ^ 8)) }

@@ -1,6 +1,7 @@
-//! What an octet leaves that stands before sixteen bits of nothing, for the check of sixteen bits.
+//! The remainder of an octet before sixteen bits of nothing, for the check of sixteen bits.
 
-/// In the first by itself, in the others before one to seven octets of zeros more.
+/// In the first table the octet stands by itself, in the others before one to seven more octets of
+/// zeros.
 pub static TABLES: [[u16; 256]; 8] = [
     [
         0x0000, 0x1021, 0x2042, 0x3063, 0x4084, 0x50A5, 0x60C6, 0x70E7, 0x8108, 0x9129, 0xA14A,

@@ -8,23 +8,23 @@ use crate::lookup::{CASTAGNOLI, IEEE, PROXIMITY};
 /// A check of thirty-two bits that a file may have, each a checksum type of SANA's registry.
 #[derive(Clone, Copy, Debug, PartialEq, Eq)]
 pub enum Crc32 {
-    /// That of Proximity-1 (CCSDS 211.2-B): checksum type 1.
+    /// The check of Proximity-1 (CCSDS 211.2-B): checksum type 1.
     Proximity1,
     /// CRC-32C, by the polynomial of Castagnoli: checksum type 2.
     Castagnoli,
-    /// That of IEEE 802.3, as Ethernet and zip have it: checksum type 3.
+    /// The check of IEEE 802.3, as Ethernet and zip have it: checksum type 3.
     Ieee,
 }
 
 impl Crc32 {
-    /// The check of the octets.
+    /// Returns the check of the octets.
     pub fn of(self, octets: &[u8]) -> u32
         ensures { result ≡ crc32_of self octets.now }
     {
         self.written(self.more(self.start(), octets))
     }
 
-    /// What is left of no octets.
+    /// Returns the remainder of no octets.
     pub(crate) fn start(self) -> u32
         ensures { result ≡ start32 self }
     {
@@ -34,7 +34,7 @@ impl Crc32 {
         }
     }
 
-    /// What is left of octets, behind others of which this is left.
+    /// Returns the remainder of octets after others that left `before`.
     pub(crate) fn more(self, before: u32, octets: &[u8]) -> u32
         ensures { result ≡ left_behind self before octets.now }
     {
@@ -47,7 +47,7 @@ impl Crc32 {
         self.mirrored(mirror)
     }
 
-    // The mirror of what is left of the first octets, so many eights.
+    // Returns the mirrored remainder of the first octets, so many eights of them.
     fn eights(self, before: u32, octets: &[u8], whole: usize) -> u32
         requires within { whole ≤ length octets.now }
         requires eights { whole % 8 ≡ 0 }
@@ -74,8 +74,8 @@ impl Crc32 {
         mirror
     }
 
-    // What is left, with its octets or its bits the other way round: so its lowest octet is that to
-    // which the next octet is added, as it stands in a file.
+    // Returns the remainder with its octets or its bits in reverse order. The next octet is then
+    // added to its lowest octet, as it stands in a file.
     fn mirrored(self, left: u32) -> u32
         ensures { result ≡ mirrored32 self left }
     {
@@ -85,7 +85,8 @@ impl Crc32 {
         }
     }
 
-    // What each octet leaves, mirrored, with none to seven octets of zeros more behind it.
+    // Returns the mirrored remainder of each octet, with none to seven more octets of zeros after
+    // it.
     fn tables(self) -> &'static [[u32; 256]; 8]
         ensures { AreTables self result.now }
     {
@@ -96,7 +97,7 @@ impl Crc32 {
         }
     }
 
-    /// How what is left is written.
+    /// Returns the check as it is written, of a remainder.
     pub(crate) fn written(self, left: u32) -> u32
         ensures { result ≡ written32 self left }
     {
@@ -106,7 +107,7 @@ impl Crc32 {
         }
     }
 
-    /// The divisor without its highest power, which is x^32.
+    /// Returns the divisor without its highest power, which is x^32.
     pub(crate) fn divisor(self) -> u32
         ensures { 2 ^ 32 + result ≡ divisor32 self }
     {
@@ -118,7 +119,7 @@ impl Crc32 {
     }
 }
 
-/// The mirror of what is left with one octet more.
+/// Returns the mirrored remainder with one more octet.
 #[inline(always)]
 fn with_octet(tables: &[[u32; 256]; 8], mirror: u32, octet: u8) -> u32
     ensures { result ≡ bit_xor (in_table tables.now 0 (bit_xor (mirror % 2 ^ 8) octet))

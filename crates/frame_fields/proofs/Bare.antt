@@ -1,4 +1,4 @@
--- Where a link has none of the fields, its frames are bare.
+-- If a link has none of the fields, its frames are bare.
 use Rattle.std.proofs.Common.{◌≡◌, ℕ, ◌-◌, ◌≤◌, None, List, ◌++◌, length, take, drop, refl, ap, ◌∙◌, arith, append_assoc, append-nil, length-drop}
 use Rattle.std.proofs.lemmas.Bool.{le-leb}
 use Rattle.std.proofs.lemmas.List.{take_all, take-append-drop}

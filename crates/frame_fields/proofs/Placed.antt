@@ -5,7 +5,7 @@ use Rattle.std.proofs.Math.Seq.{take-append-add}
 use Rattle.frame_fields.specs.declared.config.FrameFields.{FrameFields}
 use Rattle.frame_fields.specs.Fields.{extra, bare_in, behind_insert, mpdu_len, mpdu_in}
 
--- what stands in front of the fields behind it, once its insert zone is written
+-- what stands before the fields after it, once its insert zone is written
 pub placed : (fields : FrameFields) (old mid : List ℕ) (end : ℕ) → 6 + extra fields ≤ length old → end ≡ length old - (extra fields - fields.insert_zone) →
     take (6 + fields.insert_zone) mid ≡ take 6 old ++ replicate fields.insert_zone 0 → drop (6 + fields.insert_zone) mid ≡ drop (6 + fields.insert_zone) old →
     (o : List ℕ) → take end mid ++ o ≡ take 6 (bare_in fields old) ++ replicate fields.insert_zone 0 ++ drop 6 (bare_in fields old) ++ o

@@ -40,7 +40,7 @@ length-control fields control = by fields.control_field where
   by true = length-octets 4 control
   by false = refl
 
--- the check at the end is that of all before it
+-- the check at the end is the check of all before it
 intact_end : (text : List ℕ) → is_intact (text ++ octets 2 (crc16_of text)) ≡ true
 intact_end text =
     let frame : List ℕ = text ++ octets 2 (crc16_of text) in

@@ -1,5 +1,5 @@
 -- The frames of a link with the fields that they may have beside the header and the M_PDU (CCSDS
--- 732.0-B-4, 4.1.3, 4.1.5, 4.1.6). A bare frame has neither of these.
+-- 732.0-B-4, 4.1.3, 4.1.5, 4.1.6). A bare frame has none of these.
 use Rattle.std.specs.Prelude.{ℕ, ◌+◌, ◌-◌, ◌≤◌, nat_le, Bool, false, not, ◌&&◌, if◌then◌else◌, Option, Some, None, List, [], ◌++◌, length, take, drop, replicate}
 use Rattle.cfd_bits.specs.Field.{field, octets}
 use Rattle.crc.specs.Checks.{crc16_of, ends_in_check}
@@ -9,14 +9,14 @@ use Rattle.frame_fields.specs.declared.config.FieldsField.TheVariants.{InsertZon
 use Rattle.frame_fields.specs.declared.opening.FieldsFault.{FieldsFault}
 use Rattle.frame_fields.specs.declared.opening.FieldsFault.TheVariants.{Short, Damaged}
 
--- Fields that can be: an insert zone has up to 64 octets.
+-- Fields that can be: an insert zone must have at most 64 octets.
 pub record AreFields (fields : FrameFields) : Type 0 where
   pub insert_zone : fields.insert_zone ≤ 64
 
 abbrev pub FitsFields : FieldsField → FrameFields → Type 0
 FitsFields InsertZone fields = fields.insert_zone ≤ 64
 
--- frames with none of them
+-- frames with no such fields
 abbrev pub no_fields : FrameFields
 no_fields = record { insert_zone = 0; control_field = false; error_control = false }
 
@@ -40,13 +40,14 @@ control_octets fields control = if fields.control_field then octets 4 control el
 abbrev pub guarded : FrameFields → List ℕ → List ℕ
 guarded fields text = if fields.error_control then text ++ octets 2 (crc16_of text) else text
 
--- the frame: the header of the bare one, the insert zone (4.1.3), the M_PDU, and the fields behind
+-- the frame: the header of the bare one, the insert zone (4.1.3), the M_PDU, and the fields after
+-- it
 abbrev pub sealed : FrameFields → List ℕ → ℕ → List ℕ
 sealed fields bare control = guarded fields
     (take 6 bare ++ replicate fields.insert_zone 0 ++ drop 6 bare ++ control_octets fields control)
 
 -- ---- what is taken
--- whether the last two octets are the check of all before them
+-- true if the last two octets are the check of all before them
 abbrev pub is_intact : List ℕ → Bool
 is_intact frame = ends_in_check frame
 
@@ -60,22 +61,22 @@ fields_fault fields frame =
 abbrev pub insert_in : FrameFields → List ℕ → List ℕ
 insert_in fields frame = take fields.insert_zone (drop 6 frame)
 
--- what stands behind the insert zone
+-- what stands after the insert zone
 abbrev pub behind_insert : FrameFields → List ℕ → List ℕ
 behind_insert fields frame = drop fields.insert_zone (drop 6 frame)
 
--- the octets of the M_PDU: those that the header and the fields leave
+-- the octets of the M_PDU: all that the header and the fields leave
 abbrev pub mpdu_len : FrameFields → List ℕ → ℕ
 mpdu_len fields frame = length frame - 6 - extra fields
 
 abbrev pub mpdu_in : FrameFields → List ℕ → List ℕ
 mpdu_in fields frame = take (mpdu_len fields frame) (behind_insert fields frame)
 
--- the header and the M_PDU as a bare frame has them, one behind the other
+-- the header and the M_PDU as a bare frame has them, one after the other
 abbrev pub bare_in : FrameFields → List ℕ → List ℕ
 bare_in fields frame = take 6 frame ++ mpdu_in fields frame
 
--- the operational control field, at the front of what stands behind the M_PDU
+-- the operational control field, at the front of what stands after the M_PDU
 abbrev pub control_of : FrameFields → List ℕ → Option ℕ
 control_of fields behind = if fields.control_field then Some (field behind 0 32) else None
 

@@ -17,16 +17,16 @@ pub(crate) const CHECK_LEN: usize = 2;
 /// Which fields the frames of one direction of a link have beside their header and their M_PDU.
 #[derive(Clone, Copy, Debug, PartialEq, Eq)]
 pub struct FrameFields {
-    /// Octets of the insert zone behind the header, 0 to 64; 0 where there is none. They are sent
-    /// as zeros, and passed over.
+    /// Octets of the insert zone after the header, 0 to 64; 0 if there is none. They are sent as
+    /// zeros, and passed over when they are read.
     pub insert_zone: u8,
-    /// Whether an operational control field of 4 octets stands behind the M_PDU.
+    /// Whether an operational control field of 4 octets stands after the M_PDU.
     pub control_field: bool,
     /// Whether a frame error control field, the last 2 octets, has the check of all before it.
     pub error_control: bool,
 }
 
-/// A field of a [`FrameFields`] that isn't as it has to be.
+/// An invalid field of a [`FrameFields`].
 #[derive(Clone, Copy, Debug, PartialEq, Eq, Error)]
 pub enum FieldsField {
     /// The octets of the insert zone.
@@ -51,14 +51,14 @@ impl Config for FrameFields {
 }
 
 impl FrameFields {
-    /// Frames with none of them, which are bare.
+    /// Frames with no such fields, which are bare.
     pub const NONE: FrameFields = FrameFields {
         insert_zone: 0,
         control_field: false,
         error_control: false,
     };
 
-    /// By how many octets a frame is longer than a bare one, 0 to 261.
+    /// Returns by how many octets a frame is longer than a bare one, 0 to 261.
     pub fn extra(self) -> usize
         ensures are { result ≡ extra self }
         ensures most { result ≤ 261 }

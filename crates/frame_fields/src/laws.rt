@@ -7,8 +7,8 @@ ghost use Rattle.frame_fields.specs.declared.opening.FieldsFault.TheVariants.{Da
 ghost use Rattle.frame_fields.specs.Fields.{control_in, fields_fault, insert_in, mpdu_in};
 ghost use Rattle.frame_fields.specs.Fields.{no_fields, sealed};
 
-/// What is sealed is opened again: nothing is wrong with it, and its parts are those of the bare
-/// frame, with zeros as the insert zone, and the operational control field that was sent.
+/// What is sealed is opened again: it has no fault, and its parts are the parts of the bare frame,
+/// with zeros as the insert zone, and the operational control field that was sent.
 pub fn what_is_sealed_is_opened()
     ensures { (fields : FrameFields) (bare : List ℕ) (control : ℕ) → 6 ≤ length bare →
         control < 2 ^ 32 → let frame = sealed fields bare control in
@@ -18,16 +18,16 @@ pub fn what_is_sealed_is_opened()
         × (control_in fields frame ≡ (if fields.control_field then Some control else None)) }
 {}
 
-/// Where a link has none of these fields, what is sealed is the bare frame, octet by octet, and a
-/// whole header is all that is asked of one.
+/// If a link has none of these fields, what is sealed is the bare frame, octet by octet, and any
+/// octets with a whole header can be opened.
 pub fn without_fields_a_frame_is_bare()
     ensures sent { (bare : List ℕ) (control : ℕ) → sealed no_fields bare control ≡ bare }
     ensures taken { (frame : List ℕ) → 6 ≤ length frame →
         (fields_fault no_fields frame ≡ None) × (mpdu_in no_fields frame ≡ drop 6 frame) }
 {}
 
-/// A frame with error control of up to 2,048 octets of which one, two or three bits were turned, or
-/// any within 16 in a row, is refused as damaged.
+/// A frame with error control of up to 2,048 octets is refused as damaged if one, two or three of
+/// its bits were turned, or any bits within 16 in a row.
 pub fn damage_is_seen()
     ensures { (fields : FrameFields) (sent came : List ℕ) → fields.error_control ≡ true →
         fields_fault fields sent ≡ None → length sent ≤ 2048 → IsDamaged sent came →

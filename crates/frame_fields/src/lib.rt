@@ -3,14 +3,14 @@
 //! 4.1.5, 4.1.6).
 //!
 //! A bare frame is one without them: its header and its M_PDU, as the crates above make and take
-//! it. [`seal`] makes the link's frame of it, where its octets stand in that already, and [`open`]
-//! finds it in a frame that came:
+//! it. [`seal`] makes the link's frame of a bare one whose octets must already lie at their places
+//! in it. [`open`] finds the bare frame in a frame that came:
 //!
 //! ```text
 //! seal(fields, control, &mut frame);
 //!
 //! match open(fields, &frame) {
-//!     Ok(opened) => {} // the bare frame is `opened.header`, and `opened.mpdu` behind it
+//!     Ok(opened) => {} // the bare frame is `opened.header`, and `opened.mpdu` after it
 //!     Err(fault) => {} // the frame was damaged on the way, or is too short
 //! }
 //! ```

@@ -1,4 +1,4 @@
-//! The frames of a link to bare ones.
+//! From the frames of a link to bare ones.
 ghost use Rattle.std.specs.Prelude.{◌≡◌, ◌+◌, ◌-◌, ◌≤◌, length, take, drop, IfOk};
 ghost use Rattle.std.specs.Result.{result_err};
 ghost use Rattle.cfd_bits.specs.Field.{field};
@@ -13,11 +13,11 @@ use cfd_bits::read_uint;
 use crc::crc16;
 use thiserror::Error;
 
-/// Why octets are no frame of a link with these fields: the first cause that holds, in the order in
-/// which they stand here.
+/// Why octets are no frame of a link with these fields: the first cause that holds, in the order of
+/// the variants.
 #[derive(Clone, Copy, Debug, PartialEq, Eq, Error)]
 pub enum FieldsFault {
-    /// The octets are fewer than those of a header and of the fields.
+    /// The octets are fewer than a header and the fields have.
     #[error("the frame is shorter than its header and fields")]
     Short,
     /// The check of the frame differs from its frame error control field: some of it is not as it
@@ -26,25 +26,25 @@ pub enum FieldsFault {
     Damaged,
 }
 
-/// The parts of a frame. The bare frame is the header with the M_PDU behind it.
+/// The parts of a frame. The bare frame is the header with the M_PDU after it.
 #[derive(Clone, Copy, Debug)]
 pub struct Opened<'a> {
     /// The header.
     pub header: &'a [u8],
     /// The insert zone.
     pub insert: &'a [u8],
-    /// The M_PDU: what stands between the insert zone and the fields behind.
+    /// The M_PDU: what stands between the insert zone and the fields after it.
     pub mpdu: &'a [u8],
     /// The operational control field, if the link has one.
     pub control: Option<u32>,
 }
 
-/// Finds the parts of a frame that came. Its error control field is looked at first.
+/// Finds the parts of a frame that came. Its error control field is checked first.
 ///
 /// # Errors
 ///
-/// The first of these that holds, in this order: `Short`, `Damaged`. [`FieldsFault`] says what each
-/// means.
+/// The first of these that holds: `Short` if the octets are too few, `Damaged` if the check
+/// differs.
 pub fn open<'a>(fields: FrameFields, frame: &'a [u8]) -> Result<Opened<'a>, FieldsFault>
     ensures header { IfOk result (λ x. x.header.now ≡ take 6 frame.now) }
     ensures insert { IfOk result (λ x. x.insert.now ≡ insert_in fields frame.now) }
@@ -70,7 +70,7 @@ pub fn open<'a>(fields: FrameFields, frame: &'a [u8]) -> Result<Opened<'a>, Fiel
     })
 }
 
-/// The operational control field of a frame that was opened, if the link has one.
+/// Returns the operational control field of a frame that was opened, if the link has one.
 pub fn control_field(fields: FrameFields, frame: &[u8]) -> Option<u32>
     requires { 6 + extra fields ≤ length frame.now }
     ensures { result ≡ control_in fields frame.now }
@@ -82,7 +82,7 @@ pub fn control_field(fields: FrameFields, frame: &[u8]) -> Option<u32>
     control_at(fields, behind)
 }
 
-/// Whether the last two octets are the check of all before them.
+/// Returns `true` if the last two octets are the check of all before them.
 fn is_intact(frame: &[u8]) -> bool
     requires { 2 ≤ length frame.now }
     ensures { result ≡ parts.is_intact frame.now }
@@ -91,7 +91,8 @@ fn is_intact(frame: &[u8]) -> bool
     read_uint(check, CHECK_LEN) == u64::from(crc16(covered))
 }
 
-/// The operational control field at the front of the octets behind an M_PDU, if there is one.
+/// Returns the operational control field at the front of the octets after an M_PDU, if there is
+/// one.
 fn control_at(fields: FrameFields, behind: &[u8]) -> Option<u32>
     requires { control_len fields ≤ length behind.now }
     ensures { result ≡ control_of fields behind.now }

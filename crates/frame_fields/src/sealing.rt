@@ -1,4 +1,4 @@
-//! Bare frames to the frames of a link.
+//! From bare frames to the frames of a link.
 ghost use Rattle.std.specs.Prelude.{◌≡◌, ◌+◌, ◌^◌, ◌<◌, ◌≤◌, ◌++◌, length, take, replicate};
 ghost use Rattle.frame_fields.specs.Fields.{check_len, control_len, control_octets, extra, guarded};
 ghost use Rattle.frame_fields.specs.Fields.{bare_in, sealed};
@@ -8,16 +8,15 @@ use cfd_bits::{put_bytes, put_uint};
 use crc::crc16;
 use valid_config::Valid;
 
-/// Octets of a frame's primary header, behind which the insert zone stands (CCSDS 732.0-B-4,
-/// 4.1.2).
+/// Octets of a frame's primary header. The insert zone stands after it (CCSDS 732.0-B-4, 4.1.2).
 pub const HEADER_LEN: usize = 6;
 
 /// The octets of the longest insert zone, as they are sent.
 const ZEROS: [u8; 64] = [0; 64];
 
-/// Makes the frame of the link from a bare one whose octets stand where they do in it already: the
-/// header in front, and the M_PDU behind the insert zone. It gets this operational control field,
-/// if the link has one, and all else that stands around these.
+/// Makes the frame of the link from a bare one whose octets must already lie at their places in it:
+/// the header first, and the M_PDU after the insert zone. The frame gets this operational control
+/// field, if the link has one, and all else that stands around these.
 pub fn seal(fields: Valid<FrameFields>, control: u32, out: &mut [u8])
     requires room { 6 + extra fields ≤ length out.old }
     ensures { out.new ≡ sealed fields (bare_in fields out.old) control }
@@ -29,7 +28,7 @@ pub fn seal(fields: Valid<FrameFields>, control: u32, out: &mut [u8])
     put_check(fields, out, at);
 }
 
-/// So many zeros.
+/// Returns so many zeros, 64 at most.
 fn zeros(count: u8) -> &'static [u8]
     requires { count ≤ 64 }
     ensures { result.now ≡ replicate count 0 }
@@ -37,8 +36,8 @@ fn zeros(count: u8) -> &'static [u8]
     &ZEROS[..usize::from(count)]
 }
 
-/// Writes the operational control field from octet `at` on, if there is one, and says where it
-/// ends.
+/// Writes the operational control field from octet `at` on, if there is one, and returns the offset
+/// of its end.
 fn put_control(fields: FrameFields, control: u32, out: &mut [u8], at: usize) -> usize
     requires { at + control_len fields ≤ length out.old }
     ensures end { result ≡ at + control_len fields }
@@ -52,7 +51,7 @@ fn put_control(fields: FrameFields, control: u32, out: &mut [u8], at: usize) -> 
     }
 }
 
-/// Writes the check of the octets before octet `at`, to the end, if there is one.
+/// Writes the check of the octets before octet `at`, from there to the end, if the link has one.
 fn put_check(fields: FrameFields, out: &mut [u8], at: usize)
     requires { at + check_len fields ≡ length out.old }
     ensures { out.new ≡ guarded fields (take at out.old) }

@@ -35,14 +35,14 @@ used_number s key last octets right used = ap₂ known_by right (le-leb (number_
 pub no_fault : (s : Security) (key : List ℕ) (last : ℕ) (octets : List ℕ) → is_authentic s key octets ≡ true → last < number_in octets → key_fault s (Some key) last octets ≡ None
 no_fault s key last octets right fresh = ap₂ known_by right (lt-leb (number_in octets) last fresh)
 
--- ---- a header, and what stands behind it
+-- ---- a header, and what stands after it
 module _ (o : OpenerState) (h b : List ℕ) (m : ℕ) (six : length h ≡ 6) (is : m ≡ o.security.mac_len) (room : 10 + m ≤ length b) where
   pub fault_apart : (spi : ℕ) → spi ≡ field (take (length b - m) b) 0 16 → bare_fault o (h ++ b) ≡ key_fault o.security (key_of o spi) o.last (h ++ b)
   fault_apart spi at =
       long_fault o (h ++ b) spi (omega (arith, length-append h b))
       (spi_apart h b (length b - m) six (omega arith) ∙ sym at)
 
-  -- the MAC was made of the octets in front of it, and compared with it
+  -- the MAC was made of the octets before it, and compared with it
   pub compared : (key whole : List ℕ) (r : Bool) → whole ≡ hmac key (masked o.security.fields.insert_zone (h ++ take (length b - m) b)) →
       IsTrue r ↔ (take m whole ≡ drop (length b - m) b) → is_authentic o.security key (h ++ b) ≡ r
   compared key whole r made (there, back) =

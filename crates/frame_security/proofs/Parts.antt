@@ -1,4 +1,4 @@
--- A secured frame whose header, of 6 octets, and what stands behind it are apart.
+-- A secured frame whose header, of 6 octets, and what stands after it are apart.
 use Rattle.std.proofs.Common.{◌≡◌, ℕ, ◌+◌, ◌-◌, ◌*◌, ◌≤◌, List, ◌++◌, length, take, drop, replicate, sym, ap, ap₂, ◌∙◌, arith, length-append, append_assoc}
 use Rattle.std.proofs.lemmas.List.{take_at, drop_at, drop-drop}
 use Rattle.std.proofs.Math.Seq.{take-append-add}
@@ -47,7 +47,7 @@ frame_apart h b m six room =
 pub masked_apart : (zone : ℕ) (h t : List ℕ) → length h ≡ 6 → masked zone (h ++ t) ≡ h ++ replicate zone 0 ++ t
 masked_apart zone h t six = ap₂ (λ (x y : List ℕ). x ++ replicate zone 0 ++ y) (take_at h t 6 six) (drop_at h t 6 six)
 
--- a secured frame that is written behind its header
+-- a secured frame that is written after its header
 pub written : (s : Security) (key : List ℕ) (spi number : ℕ) (bare body behind mac : List ℕ) → body ≡ octets 2 spi ++ octets 8 number ++ drop 6 bare →
     mac ≡ hmac key (masked s.fields.insert_zone (take 6 bare ++ body)) → behind ≡ body ++ take s.mac_len mac → take 6 bare ++ behind ≡ secured s key spi number bare
 written s key spi number bare body behind mac is made whole =

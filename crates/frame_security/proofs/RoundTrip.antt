@@ -51,7 +51,7 @@ module _ (s : Security) (key : List ℕ) (spi number : ℕ) (bare : List ℕ) (s
       let at : 64 ≡ 8 * length front = omega (arith, length-append (take 6 bare) (octets 2 spi), length-octets 2 spi, length-take-le 6 bare six) in
       ap (λ o. field o 64 64) parts ∙ field_between front rest 8 number 64 64 fits at refl
 
-  -- ---- where the MAC has so many octets
+  -- ---- if the MAC has so many octets
   module _ (most : s.mac_len ≤ 32) where
     length_mac : length (mac_of s key text) ≡ s.mac_len
     length_mac =

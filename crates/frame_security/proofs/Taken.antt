@@ -40,12 +40,13 @@ module _ {A : Type 0} (of : A → Sealed) where
   rise_from low high [] le h = tt
   rise_from low high (x ∷ more) le (up, can, h) = (omega (arith, le, up), can, h)
 
-  -- those behind one of them
+  -- the frames after one of them
   pub rise_behind : (from : ℕ) (lost : List A) (y : A) (rest : List A) → Rise from (lost ++ y ∷ rest) → Rise ((of y).number + 1) rest
   rise_behind from [] y rest (up, can, h) = h
   rise_behind from (x ∷ lost) y rest (up, can, h) = rise_behind ((of x).number + 1) lost y rest h
 
-  -- One of them: those before it, and those behind it, among which are all of greater numbers.
+  -- One of them: the frames before it, and the frames after it, among which are all of greater
+  -- numbers.
   pub record Found (xs : List A) (y : A) : Type 0 where
     pub can : CanBe (of y)
     pub lost : List A
@@ -154,13 +155,13 @@ accepted o frame e =
 
 -- ---- the lives of an opener
 module _ (all : List Sealed) (first : ℕ) (rising_all : Rise itself first all) where
-  -- Behind the frame of this number the rest is left to be taken: all that have a greater one.
+  -- After the frame of this number the rest is left: all frames that have a greater one.
   record Left (last : ℕ) (rest : List Sealed) : Type 0 where
     from : ℕ
     rises : Rise itself from rest
     has : (z : Sealed) → Contains all z → last < z.number → Contains rest z
 
-  -- These frames are some of the rest, and what is behind the last of them is left.
+  -- These frames are some of the rest, and what is after the last of them is left.
   abbrev Takes : (rest : List Sealed) → (taken : List (List ℕ)) → (behind : List Sealed) → Type 0
   Takes rest taken behind = (tail : List (List ℕ)) → AreSomeOf (bares behind) tail → AreSomeOf (bares rest) (taken ++ tail)
 

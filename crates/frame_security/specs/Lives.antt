@@ -74,8 +74,8 @@ abbrev pub all_given : List Opening → List (List ℕ)
 all_given [] = []
 all_given (life ∷ lives) = given life.opener life.came ++ all_given lives
 
--- **No number is accepted twice**: each life begins with a last number that is at least that of the
--- frame that was accepted last, the first life with at least this one. Each has a valid
+-- **No number is accepted twice**: each life begins with a last number that is at least the number
+-- of the frame that was accepted last, the first life with at least this one. Each has a valid
 -- configuration.
 abbrev pub OpenersGoOn : (last : ℕ) → List Opening → Type 0
 OpenersGoOn last [] = ⊤
@@ -90,8 +90,8 @@ IsAuthenticAt o frame = let octets = bare_in o.security.fields frame in
     (key : List ℕ) × (key_of o (spi_in octets) ≡ Some key)
     × IsTrue (is_authentic o.security key octets)
 
--- The authenticated octets and the MAC are those of a frame that was sealed. The insert zone, the
--- operational control field and the error control field may differ.
+-- The authenticated octets and the MAC are the same in a frame that was sealed. The insert zone,
+-- the operational control field and the error control field may differ.
 abbrev pub WasSealed : Security → List Sealed → (frame : List ℕ) → Type 0
 WasSealed s sealed frame = (x : Sealed) × Contains sealed x
     × (bare_in s.fields frame ≡ secured s x.key x.spi x.number x.bare)

@@ -48,12 +48,12 @@ abbrev pub key_of : OpenerState → ℕ → Option (List ℕ)
 key_of o spi = if o.latest.spi == spi then Some o.latest.key else key_at o.former spi
 
 -- ---- refusals
--- whether the MAC that was received is the MAC of all octets before it
+-- true if the MAC that was received is the MAC of all octets before it
 abbrev pub is_authentic : Security → (key octets : List ℕ) → Bool
 is_authentic s key octets = bytes_eq (mac_of s key (text_in s octets)) (mac_in s octets)
 
 -- what is wrong with octets under the key of their SPI, if there is one; the sequence number must
--- be greater than that of the last frame
+-- be greater than the last frame's
 abbrev pub key_fault : Security → Option (List ℕ) → (last : ℕ) → (octets : List ℕ) → Option Refusal
 key_fault s None last octets = Some UnknownSpi
 key_fault s (Some key) last octets =

@@ -35,7 +35,7 @@ pub struct Security {
     pub mac_len: u8,
 }
 
-/// A field of a [`Security`] that is invalid.
+/// An invalid field of a [`Security`].
 #[derive(Clone, Copy, Debug, PartialEq, Eq, Error)]
 pub enum SecurityField {
     /// The length of the insert zone.

@@ -45,8 +45,8 @@ pub struct LinkKeys {
 }
 
 impl LinkKeys {
-    /// Returns a sealer with these keys and the next sequence number, of which [`Sealer::new`] says
-    /// what it must be.
+    /// Returns a sealer with these keys and the next sequence number, which must be as
+    /// [`Sealer::new`] says.
     pub fn sealer(&self, security: Valid<Security>, next: u64) -> Sealer
         ensures { result ≡ record {
           security = security;
@@ -58,8 +58,8 @@ impl LinkKeys {
         Sealer::new(security, self.send.spi, &self.send.key, next)
     }
 
-    /// Returns an opener with these keys and the last sequence number, of which [`Opener::new`]
-    /// says what it must be.
+    /// Returns an opener with these keys and the last sequence number, which must be as
+    /// [`Opener::new`] says.
     pub fn opener(&self, security: Valid<Security>, last: u64) -> Opener
         ensures { result ≡ opener_with self.now
             (opening.begun security self.now.receive.spi self.now.receive.key last) }

@@ -8,7 +8,7 @@ ghost use Rattle.frame_security.specs.Lives.{AreSomeOf, NoneForged, Opening, Ope
 ghost use Rattle.frame_security.specs.Lives.{SealersGoOn, after_all, all_frames, all_given, all_sealed, given};
 
 /// What is sealed is opened again, if the opener has the key of the SPI and its last sequence
-/// number is less than that of the frame: the bare frame comes out, whatever its octets and the
+/// number is less than the frame's: the bare frame comes out, whatever its octets and the
 /// operational control field are.
 pub fn what_is_sealed_is_opened()
     ensures { (s : SealerState) (o : OpenerState) (bare : List ℕ) (control : ℕ) →

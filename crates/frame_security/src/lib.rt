@@ -1,6 +1,6 @@
 //! Frames that only the holder of a key can have sent: the security header and trailer of CCSDS
 //! 355.0-B-2 (Space Data Link Security) in AOS frames, with a sequence number of 8 octets and a MAC
-//! of HMAC-SHA-256 (CCSDS 352.0-B). Use it where others can send datagrams to a station.
+//! of HMAC-SHA-256 (CCSDS 352.0-B). Use it if others can send datagrams to a station.
 //!
 //! It is a layer between the bare frames of a station and the frames of the link, so the station
 //! needs no change. A frame of the link is

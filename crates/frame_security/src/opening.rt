@@ -37,13 +37,13 @@ pub enum Refusal {
     /// The MAC isn't right under the key of the SPI (MAC verification failure).
     #[error("the frame's MAC is wrong")]
     NotAuthentic,
-    /// The sequence number isn't greater than that of the frame that was accepted last (anti-replay
-    /// sequence number failure).
+    /// The sequence number isn't greater than the number of the frame that was accepted last
+    /// (anti-replay sequence number failure).
     #[error("the frame's sequence number isn't greater than the last one")]
     Replayed,
 }
 
-/// How many frames were refused for each cause. A count that has reached 2^64 - 1 stays there.
+/// How many frames were refused for each cause. If a count has reached 2^64 - 1, it stays there.
 ///
 /// # Examples
 ///
@@ -200,8 +200,8 @@ impl Opener {
         self.former = None;
     }
 
-    /// Has these keys from now on, and no others: the latest and the former one of the peer. The
-    /// last sequence number and the counts stay.
+    /// Replaces all its keys by these: the latest and the former one of the peer. The last sequence
+    /// number and the counts stay.
     pub fn change_keys(&mut self, keys: &LinkKeys)
         ensures { self.new ≡ opener_with keys.now self.old }
     {
@@ -327,7 +327,7 @@ impl Opener {
         Ok((number, mpdu))
     }
 
-    /// Returns the key of an SPI.
+    /// Returns the key of an SPI, if it has one.
     fn key_of(&self, spi: u16) -> Option<&Key>
         ensures { option_copied result ≡ key_of self.now spi }
     {

@@ -1,4 +1,4 @@
--- Octets of which none differs so far; and octets put in front of zeros.
+-- Octets of which none differs so far; and octets put before zeros.
 use Rattle.std.proofs.Common.{◌≡◌, ◌↔◌, ℕ, ◌+◌, ◌-◌, ◌<◌, List, ◌++◌, length, take, drop, replicate, get_or, sym, ap, ap₂, ◌∙◌, arith, take-append-drop}
 use Rattle.std.specs.Int.Bits.{bit_xor, xor_self, xor_zero_r, xor_zero_l}
 use Rattle.std.specs.Int.RustNames.{bit_or}
@@ -6,7 +6,7 @@ use Rattle.std.proofs.lemmas.Nat.{le_or_l, le_or_r}
 use Rattle.std.proofs.lemmas.List.{take-take, get_or-take, take_more_same, drop-replicate}
 use lib.Bits.{xor_assoc}
 
--- two octets are the same where their exclusive or is 0
+-- two octets are the same if their exclusive or is 0
 pub same_where_none : (a b : ℕ) → bit_xor a b ≡ 0 → a ≡ b
 same_where_none a b e =
     sym (xor_zero_r a) ∙ ap (bit_xor a) (sym (xor_self b)) ∙ sym (xor_assoc a b b) ∙ ap (λ n. bit_xor n b) e ∙ xor_zero_l b
@@ -30,7 +30,7 @@ none_more xs ys i d lt len (there, back) =
           ap₂ bit_or (back before) (none_where_same (get_or xs i 0) (get_or ys i 0) here),
     )
 
--- octets in front of zeros
+-- octets before zeros
 pub padded : (block text : List ℕ) (n : ℕ) → n ≡ length text → take n block ≡ text → drop n block ≡ drop n (replicate 64 0) → block ≡ text ++ replicate (64 - length text) 0
 padded block text n len front behind =
     sym (take-append-drop n block) ∙ ap₂ (λ (a b : List ℕ). a ++ b) front (behind ∙ drop-replicate n 64 0 ∙ ap (λ k. replicate (64 - k) 0) len)

@@ -53,7 +53,7 @@ body-taken kind.HeardMetadata bytes x fits e =
 body-taken kind.HeardEof bytes x fits e =
     arm kind.HeardEof (λ p. HeardEof p.0.0 (record { checksum = p.0.1; size = p.1 })) (both-form (both-form id-form form32) form64) (λ p. (refl, refl, λ f. (f.0.0, f.0.1, f.1))) bytes x fits e
 body-taken kind.Held bytes x fits e = arm kind.Held (λ p. Held p.0.0 p.0.1 p.1) (both-form (both-form id-form flag-form) ranges-form) (λ p. (refl, refl, λ f. (f.0.0, f.1))) bytes x fits e
-body-taken kind.Publishing bytes x fits e = arm kind.Publishing Publishing id-form (λ id. (refl, refl, λ f. f)) bytes x fits e
+body-taken kind.Publishing bytes x fits e = arm kind.Publishing (λ p. Publishing p.0.0 p.0.1 p.1) (both-form (both-form id-form name-form) form64) (λ p. (refl, refl, λ f. (f.0.0, f.0.1, f.1))) bytes x fits e
 body-taken kind.Finishing bytes x fits e = arm kind.Finishing (λ p. Finishing p.0 p.1) (both-form id-form outcome-form) (λ p. (refl, refl, λ f. f)) bytes x fits e
 body-taken kind.Closed bytes x fits e = arm kind.Closed (λ p. Closed p.0 p.1) (both-form id-form optional-form) (λ p. (refl, refl, λ f. f)) bytes x fits e
 body-taken kind.Suspended bytes x fits e = arm kind.Suspended (λ p. Suspended p.0 p.1) (both-form id-form flag-form) (λ p. (refl, refl, λ f. f.0)) bytes x fits e
@@ -73,7 +73,7 @@ body-again (HeardMetadata id i) rest f =
     arm-again (λ p. HeardMetadata p.0.0 (record { checksum_kind = p.0.1; destination = p.1 })) (both-form (both-form id-form checksum-form) name-form) ((id, i.checksum_kind), i.destination) rest ((f.0, f.1), f.2)
 body-again (HeardEof id d) rest f = arm-again (λ p. HeardEof p.0.0 (record { checksum = p.0.1; size = p.1 })) (both-form (both-form id-form form32) form64) ((id, d.checksum), d.size) rest ((f.0, f.1), f.2)
 body-again (Held id large ranges) rest f = arm-again (λ p. Held p.0.0 p.0.1 p.1) (both-form (both-form id-form flag-form) ranges-form) ((id, large), ranges) rest ((f.0, tt), f.1)
-body-again (Publishing id) rest f = arm-again Publishing id-form id rest f
+body-again (Publishing id name size) rest f = arm-again (λ p. Publishing p.0.0 p.0.1 p.1) (both-form (both-form id-form name-form) form64) ((id, name), size) rest ((f.0, f.1), f.2)
 body-again (Finishing id o) rest f = arm-again (λ p. Finishing p.0 p.1) (both-form id-form outcome-form) (id, o) rest f
 body-again (Closed id o) rest f = arm-again (λ p. Closed p.0 p.1) (both-form id-form optional-form) (id, o) rest f
 body-again (Suspended id is) rest f = arm-again (λ p. Suspended p.0 p.1) (both-form id-form flag-form) (id, is) rest (f, tt)

@@ -167,7 +167,8 @@ body_at kind.HeardEof bytes = made
     (both (both id_at (number_at w32)) (number_at w64)) bytes
 body_at kind.Held bytes =
     made (λ p. Held p.0.0 p.0.1 p.1) (both (both id_at (choice_at flags)) ranges_at) bytes
-body_at kind.Publishing bytes = made Publishing id_at bytes
+body_at kind.Publishing bytes =
+    made (λ p. Publishing p.0.0 p.0.1 p.1) (both (both id_at name_at) (number_at w64)) bytes
 body_at kind.Finishing bytes = made (λ p. Finishing p.0 p.1) (both id_at outcome_at) bytes
 body_at kind.Closed bytes = made (λ p. Closed p.0 p.1) (both id_at optional_at) bytes
 body_at kind.Suspended bytes = made (λ p. Suspended p.0 p.1) (both id_at (choice_at flags)) bytes

@@ -70,7 +70,7 @@ kind_of (Opened a large) = kind.Opened
 kind_of (HeardMetadata id info) = kind.HeardMetadata
 kind_of (HeardEof id ending) = kind.HeardEof
 kind_of (Held id large ranges) = kind.Held
-kind_of (Publishing id) = kind.Publishing
+kind_of (Publishing id name size) = kind.Publishing
 kind_of (Finishing id o) = kind.Finishing
 kind_of (Closed id o) = kind.Closed
 kind_of (Suspended id is) = kind.Suspended
@@ -110,7 +110,7 @@ body_octets (HeardMetadata id info) =
 body_octets (HeardEof id ending) =
     id_octets id ++ to_be_bytes w32 ending.checksum ++ to_be_bytes w64 ending.size
 body_octets (Held id large ranges) = id_octets id ++ flag_octets large ++ ranges_octets ranges
-body_octets (Publishing id) = id_octets id
+body_octets (Publishing id name size) = id_octets id ++ name_octets name ++ to_be_bytes w64 size
 body_octets (Finishing id o) = id_octets id ++ outcome_octets o
 body_octets (Closed id o) = id_octets id ++ optional_octets o
 body_octets (Suspended id is) = id_octets id ++ flag_octets is
@@ -167,7 +167,7 @@ FitsRecord (HeardMetadata id info) =
     FitsId id × (info.checksum_kind < 16) × FitsName info.destination
 FitsRecord (HeardEof id ending) = FitsId id × (ending.checksum < 2 ^ 32) × (ending.size < 2 ^ 64)
 FitsRecord (Held id large ranges) = FitsId id × FitsRanges ranges
-FitsRecord (Publishing id) = FitsId id
+FitsRecord (Publishing id name size) = FitsId id × FitsName name × (size < 2 ^ 64)
 FitsRecord (Finishing id o) = FitsId id × FitsOutcome o
 FitsRecord (Closed id o) = FitsId id × IfSome o FitsOutcome
 FitsRecord (Suspended id is) = FitsId id

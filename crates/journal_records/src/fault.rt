@@ -11,8 +11,8 @@ pub enum Fault {
     /// A field passes the end.
     #[error("a record is cut off")]
     Short,
-    /// An octet has none of the values that it may have there, such as that of an unknown kind of
-    /// record.
+    /// An octet has none of the values that it may have there, such as the code of an unknown kind
+    /// of record.
     #[error("a record has an unknown value")]
     Unknown,
     /// Octets follow the last record.

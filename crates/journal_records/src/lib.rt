@@ -8,8 +8,6 @@
 //! for record in &journal.records {}
 //! ```
 //!
-//! No crate uses it yet: the program doesn't resume.
-//!
 //! Tested by `tests/transcripts/records.txt`.
 #![tactic(auto)]
 

@@ -133,11 +133,13 @@ fn held_at(alloc: Global, bytes: &[u8]) -> Result<(JournalRecord, &[u8]), ReadEr
 }
 
 #[tactic(auto, unfolding(crate::specs::Reading::body_at))]
-fn publishing_at(bytes: &[u8]) -> Result<(JournalRecord, &[u8]), ReadError>
+fn publishing_at(alloc: Global, bytes: &[u8]) -> Result<(JournalRecord, &[u8]), ReadError>
     ensures { Gives (λ x. (x.0, x.1.now)) result (body_at kind.Publishing bytes.now) }
 {
     let (id, rest) = id_at(bytes)?;
-    Ok((JournalRecord::Publishing(id), rest))
+    let (name, rest) = name_at(alloc, rest)?;
+    let (size, rest) = u64_at(rest)?;
+    Ok((JournalRecord::Publishing(id, name, size), rest))
 }
 
 #[tactic(auto, unfolding(crate::specs::Reading::body_at))]
@@ -219,7 +221,7 @@ fn body_at(
         RecordKind::HeardMetadata => heard_metadata_at(alloc, bytes),
         RecordKind::HeardEof => heard_eof_at(bytes),
         RecordKind::Held => held_at(alloc, bytes),
-        RecordKind::Publishing => publishing_at(bytes),
+        RecordKind::Publishing => publishing_at(alloc, bytes),
         RecordKind::Finishing => finishing_at(bytes),
         RecordKind::Closed => closed_at(bytes),
         RecordKind::Suspended => suspended_at(bytes),

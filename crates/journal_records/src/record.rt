@@ -1,5 +1,5 @@
 use crate::ranges::Ranges;
-use cfdp_directives::{Addressing, Condition, Outcome};
+use cfdp_directives::{Addressing, Condition, Octets, Outcome};
 use cfdp_header::TransactionId;
 use cfdp_receiver::{Ending, FileInfo};
 use cfdp_sender::Transfer;
@@ -17,8 +17,8 @@ pub struct Owner {
 
 /// What a station notes in its journal, so that its transactions can go on after a restart.
 ///
-/// The records of one transaction add to each other, in their order: the last one of a kind counts,
-/// and of [`Held`](JournalRecord::Held) all of them together.
+/// The records of one transaction add to each other, in their order: the last one of a kind counts;
+/// the ranges of [`Held`](JournalRecord::Held) count all together.
 #[derive(Debug, Drop)]
 pub enum JournalRecord {
     /// Whose journal it is: its first record.
@@ -37,14 +37,15 @@ pub enum JournalRecord {
     HeardMetadata(TransactionId, FileInfo),
     /// The receiver received an EOF without an error.
     HeardEof(TransactionId, Ending),
-    /// The receiver holds these offsets too. The flag is that of `Opened`, as it is now.
+    /// The receiver holds these offsets too. The flag is the same as in `Opened`, as it is now.
     Held(TransactionId, bool, Ranges),
-    /// The receiver has the whole file, and publishes it next, under the name and with the size
-    /// that its Metadata and its EOF say.
-    Publishing(TransactionId),
+    /// The receiver has the whole file, and publishes it next, under this name and with so many
+    /// octets.
+    Publishing(TransactionId, Octets, u64),
     /// The receiver ended so, and its Finished isn't acknowledged yet.
     Finishing(TransactionId, Outcome),
-    /// The transaction is over at this station. A receiver that indicated how it ended keeps that.
+    /// The transaction is over at this station. If a receiver indicated how it ended, it keeps
+    /// that.
     Closed(TransactionId, Option<Outcome>),
     /// Whether the transaction is suspended.
     Suspended(TransactionId, bool),

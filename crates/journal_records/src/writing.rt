@@ -35,7 +35,7 @@ impl JournalRecord {
             JournalRecord::HeardMetadata(..) => RecordKind::HeardMetadata,
             JournalRecord::HeardEof(..) => RecordKind::HeardEof,
             JournalRecord::Held(..) => RecordKind::Held,
-            JournalRecord::Publishing(_) => RecordKind::Publishing,
+            JournalRecord::Publishing(..) => RecordKind::Publishing,
             JournalRecord::Finishing(..) => RecordKind::Finishing,
             JournalRecord::Closed(..) => RecordKind::Closed,
             JournalRecord::Suspended(..) => RecordKind::Suspended,
@@ -252,6 +252,15 @@ fn push_closed(
     push_optional(out, outcome)
 }
 
+fn push_file(out: &mut Vec<u8>, id: TransactionId, name: &[u8], size: u64) -> Result<(), AllocError>
+    ensures { OnOk result (out.new.items
+        ≡ out.old.items ++ (id_octets id ++ name_octets name.now ++ to_be_bytes w64 size)) }
+{
+    push_id(out, id)?;
+    push_name(out, name)?;
+    push_number(out, size)
+}
+
 fn push_sent(out: &mut Vec<u8>, id: TransactionId, sent: u64) -> Result<(), AllocError>
     ensures { OnOk result (out.new.items ≡ out.old.items ++ body_octets (Sent id sent)) }
 {
@@ -288,7 +297,7 @@ fn push_body(out: &mut Vec<u8>, record: &JournalRecord) -> Result<(), AllocError
         JournalRecord::HeardMetadata(id, info) => push_info(out, *id, info),
         JournalRecord::HeardEof(id, ending) => push_ending(out, *id, *ending),
         JournalRecord::Held(id, large, ranges) => push_held(out, *id, *large, ranges.as_slice()),
-        JournalRecord::Publishing(id) => push_id(out, *id),
+        JournalRecord::Publishing(id, name, size) => push_file(out, *id, name.as_slice(), *size),
         JournalRecord::Finishing(id, outcome) => push_end(out, *id, *outcome),
         JournalRecord::Closed(id, outcome) => push_closed(out, *id, *outcome),
         JournalRecord::Suspended(id, is) => push_suspended(out, *id, *is),

@@ -15,7 +15,7 @@ use Rattle.key_file.specs.declared.draft.Direction.TheVariants.{Send, Receive}
 use Rattle.key_file.specs.Apart.{Adds}
 use Rattle.key_file.specs.Text.{AddsLine, AreWordsOf, Entry, HasWords, IsFileOf, SayKey, SayKeys, before_comment, key_for, keys_for}
 
--- what lines say, and lines behind them
+-- what lines say, and lines after them
 say-append : (lines more : List (List ℕ)) (entries rest : List Entry) → SayKeys lines entries
     → SayKeys more rest → SayKeys (lines ++ more) (entries ++ rest)
 say-append [] more entries rest none says =

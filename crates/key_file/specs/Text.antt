@@ -19,7 +19,7 @@ use Rattle.key_file.specs.Apart.{Adds}
 abbrev pub IsBlank : List ℕ → Type 0
 IsBlank = NoCharPasses is_not_whitespace
 
--- A text begins with a word, behind white space; what is left is empty or begins with white space.
+-- A text begins with a word, after white space; what is left is empty or begins with white space.
 pub record BeginsWith (word text rest : List ℕ) : Type 0 where
   pub gap : List ℕ
   pub split : text ≡ gap ++ (word ++ rest)

@@ -91,7 +91,7 @@ fn check_differs(other: Option<NamedKey>, key: NamedKey) -> Result<(), LineFault
     }
 }
 
-/// Puts a key where none is.
+/// Puts a key in a place that has none.
 ///
 /// # Errors
 ///

@@ -14,8 +14,8 @@ use hex::FromHex;
 /// Security Header).
 const MOST_SPI: u16 = 65_534;
 
-/// Returns the keys that a text has: one to send with, and one or two to receive with, of which the
-/// first is the latest. A line is an SPI, 1 to 65,534, `send` or `receive`, and a key of 64
+/// Returns the keys that a text has: one to send with, and one or two to receive with, the latest
+/// first. A line must be an SPI, 1 to 65,534, `send` or `receive`, and a key of 64
 /// hexadecimal digits. `#` begins a comment, and a line may be empty.
 ///
 /// # Errors
@@ -48,7 +48,7 @@ fn add_line(draft: &mut Draft, line: &str) -> Result<(), LineFault>
     draft.add(direction, key)
 }
 
-/// Returns what a line says, without its comment.
+/// Returns what a line says, without its comment, if it has one.
 fn before_comment(line: &str) -> &str
     ensures { result.now ≡ before_comment line.now }
 {

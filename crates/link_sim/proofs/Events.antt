@@ -9,8 +9,6 @@ pub mod Damaged
 -- A station that keeps its frames back until it was polled and flushed, beside one of a world, whose frames leave at once: both do the same, and are the same
 -- once all frames have left.
 pub mod Behind
--- Two stations that move as those of a world do, one event after another, but keep their frames back until they were polled and flushed.
-pub mod Aside
 -- What every event keeps of two stations, and the promises that follow: from the laws of an entity, and from what the steps do to the two directions.
 pub mod Keeping
 -- What each event does to both sides, by the laws of an entity.

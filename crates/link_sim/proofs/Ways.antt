@@ -5,9 +5,9 @@ pub mod Sending
 pub mod Sends
 -- The receiving end of a lane: a frame is delivered or struck.
 pub mod Receiving
--- A lane that takes a damaged frame counts it, and is else as it was.
+-- A lane that takes a damaged frame counts it, and is otherwise as it was.
 pub mod Damaged
--- Where pieces of octets lie.
+-- The places of pieces of octets.
 pub mod Placing
 -- A frame is made of what waits.
 pub mod Pulling

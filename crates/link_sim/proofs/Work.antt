@@ -1,5 +1,5 @@
--- What two stations may still do, which each step of a settling lowers.
--- Each PDU that a sender sends or hears lowers the work that remains, also where the outbox can't read its data.
+-- What two stations may still do, which each step of a settling lowers. Each PDU that a sender
+-- sends or hears lowers the work that remains, also if the outbox can't read its data.
 pub mod Sends
 -- Each PDU that a receiver sends or hears, or that opens one, lowers the work that remains.
 pub mod Receives

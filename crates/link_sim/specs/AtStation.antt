@@ -112,7 +112,7 @@ pub record OnlyLane (l : Lane) (old new : StationState) : Type 0 where
   pub packet_count : new.down.packet_count ≡ old.down.packet_count
   pub rest : KeepsRest old new
 
--- The oldest whole zone of a lane became a frame, the last that was sent: it is placed behind all
+-- The oldest whole zone of a lane became a frame, the last that was sent: it is placed after all
 -- frames of both lanes. The other lane is as it was.
 pub record PullsOne (old new : DownState) (links links_now : FrameLinksState) : Type 0 where
   pub lane : Lane
@@ -179,7 +179,7 @@ pub record KeepsLaneAt (l : Lane) (old new : DownState) (links links_now : Frame
   pub down : lane_down l new ≡ lane_down l old
   pub link : IsSameLink (lane_of_links l links) (lane_of_links l links_now)
 
--- These packets are behind all that were sent, which carry the PDUs with these texts.
+-- These packets are after all that were sent, which carry the PDUs with these texts.
 abbrev pub SendsAt : (old new : LinkSenderState) → (link link_now : FrameLinkState)
     → (qs texts : List (List ℕ)) → Type 0
 SendsAt old new link link_now qs texts = (up : LinkReceiverState) → IsCarried old link up
@@ -214,7 +214,7 @@ PutsAt (did.Refused (refusal.Call by)) source destination old new puts puts_now 
 PutsAt (did.Refused refusal.LossRunTooLong) source destination old new puts puts_now = ⊥
 PutsAt (did.Refused refusal.NotDamaged) source destination old new puts puts_now = ⊥
 
--- What a request asked of the inbox was counted where it failed: a cancel that its step's calls did,
+-- What a request asked of the inbox was counted if it failed: a cancel that its step's calls did,
 -- and no other request asks anything.
 abbrev pub RaisesByRequest : Request → TransactionId → (old new : Counted) → Type 0
 RaisesByRequest requests.Cancel id old new =
@@ -231,7 +231,7 @@ answered (Err call_errors.AlreadySo) = Ok (did.Refused (refusal.Call call_errors
 answered (Err call_errors.NoMemory) = Err alloc_error
 
 -- ---- the time
--- A station was told it, and that was counted.
+-- A station was given the time, and that was counted.
 pub record TellsTimeAt (now : ℕ) (old new : Counted) (ticks ticks_now : ℕ) : Type 0 where
   pub ticked : Ticks now old.state.table new.state.table
   pub table : new.state ≡ with_table old.state new.state.table
@@ -240,7 +240,7 @@ pub record TellsTimeAt (now : ℕ) (old new : Counted) (ticks ticks_now : ℕ) :
   pub counted : ticks_now ≡ raised ticks
 
 -- ---- a poll
--- The PDU whose turn it is was taken, and its one packet is behind all that were sent.
+-- The PDU whose turn it is was taken, and its one packet is after all that were sent.
 pub record SendsOneAt (old new : StationState) (links links_now : FrameLinksState) : Type 0 where
   pub served : new.entity.state ≡ served storeds.Done (turn old.entity.state) old.entity.state
   pub spells : SpellsTurn (turn old.entity.state) old.entity.state
@@ -275,8 +275,8 @@ PollsAt did.Nothing old new links links_now =
 PollsAt (did.Refused by) old new links links_now = ⊥
 
 -- ---- a flush
--- The begun frame of a lane was filled by at most one idle packet, and left. Where none was begun
--- the lane is as it was.
+-- The begun frame of a lane was filled by at most one idle packet, and left. If none was begun the
+-- lane is as it was.
 pub record FillsLaneAt (l : Lane) (old new : DownState) (links links_now : FrameLinksState)
     : Type 0 where
   pub sends : SendsAt (lane_down l old) (lane_down l new) (lane_of_links l links)

@@ -1,5 +1,6 @@
 -- Proof-only: what becomes of a put while both entities go on: its two records, its PDUs on their
--- way, and what was told of it. `mine` is the entity that made the put, `theirs` the other one.
+-- way, and what was indicated of it. `mine` is the entity that made the put, `theirs` the other
+-- one.
 use Rattle.std.specs.Prelude.{◌≡◌, Bool, true, false, List, [], ◌∷◌, Option, Some, None, if◌then◌else◌, ℕ}
 use Rattle.cfdp_header.specs.declared.value.Header.{Header}
 use Rattle.cfdp_header.specs.declared.value.TransactionId.{TransactionId}
@@ -37,8 +38,8 @@ IsReceiverIn (Some (Receives r m)) (Some s) = s ≡ r
 IsReceiverIn None None = Unit {0}
 IsReceiverIn _ _ = ⊥
 
--- The put is on its course: where `lossless` is set, on that of a link which lost nothing. `forth`
--- are the PDUs on their way from its entity, `back` those on their way to it.
+-- The put is on its course: if `lossless` is set, on the course of a link that lost nothing.
+-- `forth` are the PDUs on their way from its entity, `back` those on their way to it.
 pub record IsOnCourse (lossless : Bool) (put : Put) (mine theirs : EntityState)
     (forth back : List Pdu) : Type 0 where
   pub sender : SenderState
@@ -50,7 +51,7 @@ pub record IsOnCourse (lossless : Bool) (put : Put) (mine theirs : EntityState)
       (one_tells (tells_complete put.id) mine.table.told)
       (one_tells (tells_complete put.id) theirs.table.told)
 
--- Nothing spoiled it; and where `lossless` is set, no PDU was dropped and it was never suspended.
+-- Nothing spoiled it; and if `lossless` is set, no PDU was dropped and it was never suspended.
 pub record IsUnspoiled (lossless : Bool) (id : TransactionId) (mine theirs : EntityState)
     : Type 0 where
   pub told : one_tells (spoils id) mine.table.told ≡ false

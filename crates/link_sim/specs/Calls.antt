@@ -27,7 +27,7 @@ pub record TriesEvent (e : Event) (answer : Result Applied AllocError) (old new 
   pub err : OnErr answer (new ≡ old)
   pub lacks : OnErr answer (WantsMemory e)
 
--- A station sent all that was due, with a flush behind each PDU, and nothing else happened; or the
+-- A station sent all that was due, with a flush after each PDU, and nothing else happened; or the
 -- first of its polls and flushes that found no memory ended it.
 pub record TriesSpread (s : Side) (answer : Result (Unit {0}) AllocError) (old new : WorldState)
     : Type 0 where
@@ -35,14 +35,14 @@ pub record TriesSpread (s : Side) (answer : Result (Unit {0}) AllocError) (old n
   pub spreads : OnOk answer (Spreads s old new)
   pub lacks : OnErr answer (SpreadFindsNoMemory s old new)
 
--- So it did with one flush behind all of them.
+-- So it did with one flush after all of them.
 pub record TriesBurst (s : Side) (answer : Result (Unit {0}) AllocError) (old new : WorldState)
     : Type 0 where
   pub rests : OnOk answer (turn (entity_at s new) ≡ Rests)
   pub bursts : OnOk answer (Bursts s old new)
   pub lacks : OnErr answer (BurstFindsNoMemory s old new)
 
--- All is settled, and nothing was short; or an error tells what was in the first event in which
+-- All is settled, and nothing was short; or an error says what was in the first event in which
 -- anything was. The events came in the order of rounds.
 pub record TriesSettling (answer : Result (Unit {0}) SettleError) (old new : WorldState)
     : Type 0 where
@@ -50,8 +50,8 @@ pub record TriesSettling (answer : Result (Unit {0}) SettleError) (old new : Wor
   pub well : OnOk answer (GoesWell old new)
   pub cause : IfErr answer (λ error. HasCause error old new)
 
--- Only settlings and ticks of the next deadline happened, and nothing was short; an error tells
--- what was in the first event in which anything was, or that a timer is left.
+-- Only settlings and ticks of the next deadline happened, and nothing was short; an error says what
+-- was in the first event in which anything was, or that a timer is left.
 pub record TriesRecovery (answer : Result (Unit {0}) RecoverError) (old new : WorldState)
     : Type 0 where
   pub recovered : OnOk answer (IsRecovered new)
@@ -60,8 +60,8 @@ pub record TriesRecovery (answer : Result (Unit {0}) RecoverError) (old new : Wo
 
 -- ---- what a world promises
 -- Of any call: puts that were accepted stay what they are, each inbox was overwritten by the files
--- of the puts that were completed in it, and the promises hold: finished once, heard in full, told
--- truly and sent truly.
+-- of the puts that were completed in it, and the promises hold: finished once, heard in full,
+-- indicated truly and sent truly.
 pub record Upholds (old new : WorldState) : Type 0 where
   pub follows : Follows (seen old) (seen new)
   pub holds : (s : Side) → HoldsAt s (seen new)
@@ -79,7 +79,7 @@ pub record Applies (e : Event) (answer : Result Applied AllocError) (old new : W
   pub clean_put : (s : Side) (source destination : List ℕ) → e ≡ event.Put s source destination
       → IfOk answer (λ did. did ≡ dids.Applied → IsClean old → IsClean new)
 
--- Of a settling: where the world was clean, every put is complete and closed at both ends.
+-- Of a settling: if the world was clean, every put is complete and closed at both ends.
 pub record Settles (answer : Result (Unit {0}) SettleError) (old new : WorldState) : Type 0 where
   pub tries : TriesSettling answer old new
   pub upholds : Upholds old new

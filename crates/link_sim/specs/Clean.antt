@@ -21,9 +21,8 @@ use Rattle.link_sim.specs.declared.event.AcceptedPut.{AcceptedPut}
 use Rattle.station_pair.specs.declared.side.Side.{Side}
 
 -- ---- nothing went wrong
--- what is told of any transaction: a fault, inactivity too, a suspension, an abandonment, or an end
--- with an error
--- (conditions as in table 5-5)
+-- what is indicated of any transaction: a fault, inactivity too, a suspension, an abandonment, or
+-- an end with an error (conditions as in table 5-5)
 abbrev pub is_bad : Indication → Bool
 is_bad (indication.Fault id condition) = true
 is_bad (indication.Suspended id condition) = true
@@ -31,7 +30,7 @@ is_bad (indication.Abandoned id condition) = true
 is_bad (indication.Finished id condition delivery status) = not (condition == no_error)
 is_bad _ = false
 
--- No PDU was dropped but of a transaction that has no record, and for which none is opened.
+-- No PDU was dropped except of a transaction that has no record, and for which none is opened.
 abbrev pub HasHeardAll : EntityState → Type 0
 HasHeardAll e = (n : ℕ) → n ≢ 14 → get_or e.drops n 0 ≡ 0
 
@@ -40,13 +39,13 @@ is_cancelling_in sending.Sending = false
 is_cancelling_in sending.Cancelling = true
 is_cancelling_in sending.Closed = false
 
--- a sender that was told to give up, and isn't closed yet
+-- a sender whose user gave up, and that isn't closed yet
 abbrev pub is_cancelling : Entry → Bool
 is_cancelling (id, Sends x) = is_cancelling_in x.phase
 is_cancelling (id, Receives r m) = false
 
--- An entity told nothing bad, cancels nothing, and dropped no PDU but of a transaction that has no
--- record and that opens none, as a Prompt that comes ahead of its Metadata.
+-- An entity indicated nothing bad, cancels nothing, and dropped no PDU except of a transaction that
+-- has no record and that opens none, such as a Prompt that comes before its Metadata.
 pub record IsCleanEntity (e : EntityState) : Type 0 where
   pub told : list_any is_bad e.table.told ≡ false
   pub uncancelled : list_any is_cancelling e.table.records ≡ false
@@ -62,7 +61,7 @@ abbrev pub IsClean : WorldState → Type 0
 IsClean w = (s : Side) → IsCleanAt s w
 
 -- ---- a put is complete
--- The other station indicated it complete, its own one was told so, and both records are closed.
+-- The other station indicated it complete, so did its own one, and both records are closed.
 pub record IsCompleteAt (s : Side) (p : AcceptedPut) (w : WorldState) : Type 0 where
   pub completed : Contains (completions_at (other s) (seen w)) p.id
   pub told : IsToldComplete (entity_at s w).config.entity (entity_at s w).table.told p.id

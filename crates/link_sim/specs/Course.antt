@@ -1,5 +1,5 @@
 -- Proof-only: what is true between the sender and the receiver of a put while nothing spoils it,
--- and what is still owed: each wanted thing is known, on its way, due, or will be asked for.
+-- and what must still come: each wanted thing is known, on its way, due, or will be asked for.
 use Rattle.std.specs.Prelude.{◌≡◌, ◌⊎◌, ℕ, ◌<◌, ◌≤◌, Bool, true, false, List, length, is_some, Option, Some, None, IfSome}
 use Rattle.std.specs.FinSet as set
 use Rattle.cfdp_directives.specs.Pdu.Content.{Content}
@@ -14,7 +14,8 @@ use Rattle.link_sim.specs.Exchange.{is_metadata, is_eof, is_finished, is_ack_of_
 
 -- ---- truth: losses keep it too
 -- A receiver knows the file's size if it knows the EOF. Something is missing while it receives, a
--- NAK that is due asks for something, and once it ended it is complete and owed or sent a Finished.
+-- NAK that is due asks for something, and once it ended it is complete, and must send a Finished or
+-- sent it.
 pub record IsReceiverTrue (put : Put) (r : ReceiverState) : Type 0 where
   pub ending : r.phase ≡ Receiving → IfSome r.ending (λ e. e.size ≡ length put.octets)
   pub lacking : is_lacking r ≡ true
@@ -27,8 +28,7 @@ IsMaybeTrue put (Some r) = IsReceiverTrue put r
 IsMaybeTrue put None = Unit {0}
 
 -- Of a sender, a receiver or none, the PDUs on their way forth and back, and whether the sender,
--- and
--- the receiver, told its user that the file was delivered.
+-- and the receiver, indicated to its user that the file was delivered.
 pub record IsTrueBetween (put : Put) (x : SenderState) (o : Option ReceiverState)
     (forth back : List Content) (told told_there : Bool) : Type 0 where
   pub not_cancelled : x.phase ≡ sending.Cancelling → ⊥
@@ -36,8 +36,8 @@ pub record IsTrueBetween (put : Put) (x : SenderState) (o : Option ReceiverState
   pub receiver : IsMaybeTrue put o
   pub true_forth : AllTrue (IsTrueForth put) forth
   pub true_back : AllTrue IsTrueBack back
-  -- nobody is ahead of the other: an EOF is known only once it was sent, its ACK is sent only where
-  -- it is known
+  -- nobody is ahead of the other: an EOF is known only once it was sent, its ACK is sent only if it
+  -- is known
   pub eof_forth : one_says is_eof forth ≡ true → x.eof_taken ≡ true
   pub heard : maybe knows_ending o ≡ true → x.eof_taken ≡ true
   pub eof_ack_due : maybe owes_ack o ≡ true → maybe knows_ending o ≡ true
@@ -50,7 +50,7 @@ pub record IsTrueBetween (put : Put) (x : SenderState) (o : Option ReceiverState
   pub ack_due : is_some x.ack_due ≡ true → x.phase ≡ sending.Closed
   pub ack_forth : one_says is_ack_of_finished forth ≡ true → x.phase ≡ sending.Closed
   pub closed : maybe is_closed o ≡ true → x.phase ≡ sending.Closed
-  -- what was told
+  -- what was indicated
   pub sender_told : x.phase ≡ sending.Closed → told ≡ true
   pub receiver_told : maybe has_ended o ≡ true → told_there ≡ true
 
@@ -91,7 +91,7 @@ pub record AsksFirst (r : ReceiverState) : Type 0 where
   pub phase : r.phase ≡ Receiving
   pub cursor : r.nak_cursor ≡ Some 0
 
--- A NAK is due from an offset on that isn't behind n.
+-- A NAK is due from an offset on that isn't after n.
 pub record AsksFrom (n : ℕ) (r : ReceiverState) : Type 0 where
   pub phase : r.phase ≡ Receiving
   pub cursor : ℕ

@@ -15,7 +15,7 @@ use Rattle.link_sim.specs.declared.event.AcceptedPut.{AcceptedPut}
 use Rattle.station_pair.specs.declared.side.Side.{Side}
 use Rattle.station_pair.specs.declared.side.Side.TheVariants.{One, Two}
 
--- No frame of this station was lost, and none was dropped there for want of memory.
+-- No frame of this station was lost, and none was dropped there for lack of memory.
 pub record LosesNoneAt (s : Side) (w : WorldState) : Type 0 where
   pub none_lost : (l : Lane) → list_any not (lane_from s l w).marks ≡ false
   pub memory : drop_count (station_at s w).up 11 ≡ 0
@@ -23,8 +23,8 @@ pub record LosesNoneAt (s : Side) (w : WorldState) : Type 0 where
 abbrev pub LosesNone : WorldState → Type 0
 LosesNone w = (s : Side) → LosesNoneAt s w
 
--- Each put of this station stays on its course: on that of a link without losses where there were
--- none.
+-- Each put of this station stays on its course: on the course of a link without losses if there
+-- were none.
 abbrev pub StayOnCourse : Side → WorldState → (forth back : List Pdu) → Type 0
 StayOnCourse s w forth back = (put : Put) → put_of (seen w) put.id ≡ Some put
     → put.id.source ≡ (entity_at s w).config.entity

@@ -60,7 +60,7 @@ abbrev pub one_says : (Content → Bool) → List Content → Bool
 one_says says pdus = list_any says pdus
 
 -- ---- what a PDU on its way to the receiver, or to the sender, may say of this put
--- File data lie in the file, and an EOF tells no error and the file's size. What a receiver sends
+-- File data lie in the file, and an EOF has no error and the file's size. What a receiver sends
 -- isn't on its way to one.
 abbrev pub IsTrueForth : Put → Content → Type 0
 IsTrueForth put (FileData offset bytes) = offset + length bytes ≤ length put.octets

@@ -55,7 +55,7 @@ RunsOn old new = (s : Side) (put : Put) → IsPutOf s put old → (e : Exchange)
     HasExchange s put old e
     → RunsTo s put e new
 
--- ---- the time is told at a station
+-- ---- a station is given the time
 -- Of a put of this station: timers of its sender expired that were waited for, all whose deadline
 -- was
 -- no later.

@@ -12,7 +12,7 @@ abbrev pub most_struck : ℕ
 most_struck = frame_counts - 1
 
 -- Of a lane: all frames sent, in order; of each how many frames of both lanes were sent before it;
--- and the marks of those that no longer wait, in the same order: true where delivered, false where
+-- and the marks of those that no longer wait, in the same order: `true` if delivered, `false` if
 -- struck. How many of the last of these were struck in a row; how many buffers there are for frames
 -- to come, each with room for its frame, place and mark; and the octets of a frame.
 pub record FrameLinkState : Type 0 where
@@ -45,7 +45,7 @@ abbrev pub lane_of_links : Lane → FrameLinksState → FrameLinkState
 lane_of_links Directives k = k.directives
 lane_of_links Data k = k.file_data
 
--- how many frames were sent, of both lanes: save at the greatest number
+-- how many frames were sent, of both lanes, or the greatest number if there are more
 abbrev pub frames_sent : FrameLinksState → ℕ
 frames_sent k = min (length k.directives.frames + length k.file_data.frames) (2 ^ 64 - 1)
 
@@ -64,7 +64,7 @@ abbrev pub first_sent : FrameLinksState → Option Lane
 first_sent k = earlier (oldest_place k.directives) (oldest_place k.file_data)
 
 -- ---- in one buffer
--- so many pieces of the octets, each of this length, one behind the other
+-- so many pieces of the octets, each of this length, one after the other
 unfoldable pub pieces : (len count : ℕ) → List ℕ → List (List ℕ)
 pieces len zero octets = []
 pieces len (suc count) octets = take len octets ∷ pieces len count (drop len octets)

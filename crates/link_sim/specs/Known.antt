@@ -18,7 +18,7 @@ use Rattle.link_sim.specs.Between.{Pdu}
 use Rattle.link_sim.specs.Exchange.{AllTrue}
 
 -- A PDU is for this entity, and of an accepted put. Toward the file's receiver it has the large
--- file flag if the file is large, and else not.
+-- file flag if the file is large, and otherwise not.
 pub record IsDirected (put_of : TransactionId → Option Put) (theirs : EntityState) (p : Pdu)
     : Type 0 where
   pub fits : direction_fits p.0 p.1 ≡ true
@@ -42,7 +42,7 @@ IsWithPeer c (Receives r m) = (r.addressing.id.source ≡ c.peer)
 
 -- Each put of the entity has its record, each record is one with the peer, there are no more than a
 -- table may have, no acknowledgement waits that is of a transaction without a record, no record was
--- let go, and each PDU on its way is for the other entity, and of an accepted put.
+-- released, and each PDU on its way is for the other entity, and of an accepted put.
 pub record IsKnown (put_of : TransactionId → Option Put) (mine theirs : EntityState)
     (forth : List Pdu) : Type 0 where
   pub sends : (id : TransactionId) → IsSome (put_of id) → id.source ≡ mine.config.entity

@@ -5,7 +5,7 @@ use Rattle.link_sim.specs.World.State.{WorldState, delivered_from, sent_from}
 use Rattle.station_pair.specs.declared.side.Side.TheVariants.{One, Two}
 use Rattle.link_sim.specs.Theorem.{StationSeen, WorldSeen}
 
--- of a station: the PDUs that it sent, and those that were delivered to it, which are those of the
+-- of a station: the PDUs that it sent, and the PDUs that were delivered to it: the PDUs of the
 -- packets all of whose frames are marked delivered
 abbrev pub station_seen : StationState → (sent delivered : List (List ℕ)) → StationSeen
 station_seen s sent delivered = record {

@@ -50,37 +50,37 @@ packets_sent w = packets_of (octets_sent w)
 abbrev pub pdus_sent : OneWayState → List (List ℕ)
 pdus_sent w = pdus_in (busy (packets_sent w))
 
--- the PDUs delivered: those of the packets all of whose frames were
+-- the PDUs delivered: the PDUs of the packets all of whose frames were delivered
 abbrev pub pdus_delivered : OneWayState → List (List ℕ)
 pdus_delivered w = pdus_in (survivors w.up.link.zone w.marks 0 (packets_sent w))
 
 -- ---- what is on its way
--- of packets that begin at an octet, in a row, those that end behind a limit
+-- of packets that begin at an octet, in a row, those that end after a limit
 abbrev pub behind : (limit from : ℕ) → List (List ℕ) → List (List ℕ)
 behind limit from [] = []
 behind limit from (p ∷ ps) =
     if nat_le (from + length p) limit then behind limit (from + length p) ps else p ∷ ps
 
--- the PDUs on their way: those of the packets of which an octet is still to be taken, in order
+-- the PDUs on their way: the PDUs of the packets an octet of which must still be taken, in order
 abbrev pub on_way : OneWayState → List (List ℕ)
 on_way w = pdus_in (busy (behind (length w.marks * w.down.link.zone) 0 (packets_sent w)))
 
--- ---- what will arrive, where no more is lost
--- of packets that begin at an octet, in a row, those that end behind a limit: but where nothing is
--- held of the one that the limit cuts, only those behind it
+-- ---- what will arrive, if no more is lost
+-- of packets that begin at an octet, in a row, those that end after a limit: but if nothing is held
+-- of the one that the limit cuts, only those after it
 abbrev pub unbroken : (limit from : ℕ) → (held : List ℕ) → List (List ℕ) → List (List ℕ)
 unbroken limit from held [] = []
 unbroken limit from held (p ∷ ps) =
     if nat_le (from + length p) limit then unbroken limit (from + length p) held ps
     else if nat_lt from limit && nat_le (length held) 0 then ps else p ∷ ps
 
--- the PDUs on their way but for the first one, where the front of its packet was lost
+-- the PDUs on their way except for the first one, if the front of its packet was lost
 abbrev pub arriving : OneWayState → List (List ℕ)
 arriving w = pdus_in (busy (unbroken (length w.marks * w.down.link.zone) 0
     (held_at (w.run == 0) w.up.begun) (packets_sent w)))
 
 -- ---- what every direction keeps
--- The end that sends, where its stream is these packets.
+-- The end that sends, if its stream is these packets.
 pub record IsSent (w : OneWayState) (ps : List (List ℕ)) : Type 0 where
   pub valid : IsChannel w.down.link
   pub made : IsDown w.down ps (length w.frames)
@@ -97,7 +97,7 @@ pub record EndsStruck (marks : List Bool) (run : ℕ) : Type 0 where
   pub end : (before ≡ []) ⊎ ((earlier : List Bool) × (before ≡ earlier ++ true ∷ []))
 
 -- The end that receives. `read` says which of the frames taken were delivered and found memory: all
--- that were delivered, where no drop was counted for want of memory (number 11).
+-- that were delivered, if no drop was counted for lack of memory (number 11).
 pub record IsReceived (up : LinkReceiverState) (ps : List (List ℕ)) (marks : List Bool)
     (run : ℕ) : Type 0 where
   pub read : List Bool
@@ -115,7 +115,7 @@ pub record IsOneWayOf (w : OneWayState) (ps : List (List ℕ)) : Type 0 where
 abbrev pub IsOneWay : OneWayState → Type 0
 IsOneWay w = IsOneWayOf w (packets_sent w)
 
--- Between events no whole zone waits, and behind a flush nothing but octets of its idle packet.
+-- Between events no whole zone waits, and after a flush nothing but octets of its idle packet.
 pub record IsRested (w : OneWayState) : Type 0 where
   pub none_waits : length w.down.waiting < w.down.link.zone
   pub filled : w.down.flushed ≡ true →
@@ -142,8 +142,8 @@ pub record SendsNone (old new : OneWayState) : Type 0 where
   pub packets : packets_sent new ≡ packets_sent old
   pub delivered : pdus_delivered new ≡ pdus_delivered old
 
--- A frame was delivered: `more` are the PDUs that it delivers, of which `given` were given, in
--- order: all of them, where no drop was counted for want of memory (number 11).
+-- A frame was delivered: `more` are the PDUs that it delivers, and `given` are those of them that
+-- were given, in order: all of them, if no drop was counted for lack of memory (number 11).
 pub record HearsMore (old new : OneWayState) (given : List (List ℕ)) : Type 0 where
   pub way : IsOneWay new
   pub packets : packets_sent new ≡ packets_sent old
@@ -151,15 +151,14 @@ pub record HearsMore (old new : OneWayState) (given : List (List ℕ)) : Type 0 
   pub delivered : pdus_delivered new ≡ pdus_delivered old ++ more
   pub part : IsPartOf given more
   pub all : count_of new.up.drops 11 ≡ 0 → given ≡ more
-  -- where no such drop was counted now, they are the first of those that were to arrive
+  -- if no such drop was counted now, they are the first of those that were expected
   pub lands : count_of new.up.drops 11 ≡ count_of old.up.drops 11
       → count_of new.up.drops 11 < 2 ^ 64 - 1 → arriving old ≡ given ++ arriving new
-  -- in any case they are a front of those; and where one was counted now, nothing is held of a
-  -- packet
+  -- in any case they are a front of those; and if one was counted now, nothing is held of a packet
   pub rest : List (List ℕ)
   pub front : arriving old ≡ given ++ rest
   pub let_go : count_of new.up.drops 11 ≢ count_of old.up.drops 11 → new.up.begun ≡ []
-  -- nothing was dropped there, where no frame was lost before either
+  -- nothing was dropped there, if no frame was lost before either
   pub clear : list_any not old.marks ≡ false → count_of new.up.drops 11 ≡ 0
       → new.up.drops ≡ old.up.drops
   -- a drop that was counted so stays counted

@@ -16,14 +16,13 @@ pub record GoesOnFrom (from upto : Event) (old new : WorldState) : Type 0 where
 abbrev pub GoesOn : (old new : WorldState) → Type 0
 GoesOn old new = GoesOnFrom first_event first_event old new
 
--- Where inactivity is ignored, each round brings those transactions on that stood.
+-- If inactivity is ignored, each round brings those transactions on that stood.
 abbrev pub AllAdvance : List Round → WorldState → Type 0
 AllAdvance [] w = Unit {0}
 AllAdvance (r ∷ rounds) w =
     (IgnoreInactivity w → Advances w r.settled) × AllAdvance rounds r.settled
 
--- All was settled, and rounds followed, which brought transactions on. Where all that was
--- unfinished
+-- All was settled, and rounds followed, which brought transactions on. If all that was unfinished
 -- waited, it stood after the first settling.
 pub record RecoversOn (old new : WorldState) : Type 0 where
   pub run : Recovers old new

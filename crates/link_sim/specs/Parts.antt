@@ -10,7 +10,7 @@ use Rattle.link_sim.specs.World.State.{WorldState}
 use Rattle.link_sim.specs.World.Steps.{Steps}
 use Rattle.link_sim.specs.Work.{world_work}
 
--- A call leads on, and where it answers that anything happened, less may still be done.
+-- A call leads on, and if it answers that anything happened, less may still be done.
 pub record WorksOff {E : Type 0} (answer : Result Bool E) (old new : WorldState) : Type 0 where
   pub leads : LeadsTo (seen old) (seen new)
   pub less : IfOk answer (λ happened. happened ≡ true → world_work new < world_work old)
@@ -22,7 +22,7 @@ pub record TakesTurn {E : Type 0} (e : Event) (answer : Result Bool E) (old new 
   pub idle : IfOk answer (λ happened. happened ≡ false → Steps e did.Nothing old new)
 
 -- The events from one up to another, each as often as there was anything to do for it: whether any
--- did. All went well, and each transaction made a run of its own; or an error tells why not.
+-- did. All went well, and each transaction made a run of its own; or an error says why not.
 pub record SettlesPart (from upto : Event) (answer : Result Bool SettleError)
     (old new : WorldState) : Type 0 where
   pub work : WorksOff answer old new

@@ -19,32 +19,33 @@ use Rattle.link_sim.specs.World.Steps.{FindsNoMemory, Steps}
 abbrev pub armed_at : Side → WorldState → Armed
 armed_at s w = (entity_at s w).table.armed
 
--- All is settled, and at neither station a timer is armed but those of Inactivity.
+-- All is settled, and at neither station a timer is armed except those of Inactivity.
 pub record IsRecovered (w : WorldState) : Type 0 where
   pub settled : IsSettled w
   pub only_inactivity : (s : Side) → OnlyInactivity (armed_at s w)
 
--- The station that is told the time next, and which: the earliest deadline of its timers, those of
--- Inactivity apart. The second station is told only where the first one has no such timer.
+-- The station that is given the time next, and which time: the earliest deadline of its timers,
+-- except those of Inactivity. The second station is given it only if the first one has no such
+-- timer.
 abbrev pub IsNext : Side → ℕ → WorldState → Type 0
 IsNext One now w = IsLeastOther (armed_at One w) now
 IsNext Two now w = OnlyInactivity (armed_at One w) × IsLeastOther (armed_at Two w) now
 
 -- ---- what a recovery does
--- A station was told the time that is next, and nothing was short in that.
+-- A station was given the time that is next, and nothing was short in that.
 pub record TellsNext (s : Side) (now : ℕ) (old new : WorldState) : Type 0 where
   pub next : IsNext s now old
   pub ticks : Steps (event.Tick s now) did.Applied old new
   pub spared : KeepsAll (all_shortages old) (all_shortages new)
 
--- where which time was told, the world then, and the world once it was settled again
+-- at which station which time was given, the world then, and the world once it was settled again
 pub record Round : Type 0 where
   pub side : Side
   pub now : ℕ
   pub ticked : WorldState
   pub settled : WorldState
 
--- In a settled world a station was told its next time, and all was settled again.
+-- In a settled world a station was given its next time, and all was settled again.
 pub record IsRound (old : WorldState) (r : Round) : Type 0 where
   pub rests : IsSettled old
   pub tells : TellsNext r.side r.now old r.ticked
@@ -73,7 +74,7 @@ pub record Recovers (old new : WorldState) : Type 0 where
 abbrev pub raised_by : ℕ → ℕ → ℕ
 raised_by n count = max count (min (count + n) (2 ^ 64 - 1))
 
--- As many rounds as there may be went by, each of which told the time once, and a timer other than
+-- As many rounds as there may be went by, the time was given once in each, and a timer other than
 -- Inactivity is armed still.
 pub record StaysArmed (old new : WorldState) : Type 0 where
   pub run : Recovers old new
@@ -82,14 +83,15 @@ pub record StaysArmed (old new : WorldState) : Type 0 where
   pub settled : IsSettled new
   pub armed : (s : Side) × (deadline : ℕ) × IsLeastOther (armed_at s new) deadline
 
--- To tell a station the time ended it with this error: that happened then, or no memory was found.
+-- A time that a station was given ended it with this error: that happened then, or no memory was
+-- found.
 abbrev pub TickEnds : SettleError → Side → ℕ → (old new : WorldState) → Type 0
 TickEnds error s now old new =
     (Steps (event.Tick s now) did.Applied old new
     × RisesFirst error (all_shortages old) (all_shortages new))
     ⊎ ((error ≡ NoMemory) × FindsNoMemory s old new)
 
--- A round ended with this error: when the next time was told, or in the settling behind that.
+-- A round ended with this error: when the next time was given, or in the settling after that.
 pub record RoundEnds (error : SettleError) (old new : WorldState) : Type 0 where
   pub side : Side
   pub now : ℕ
@@ -97,7 +99,7 @@ pub record RoundEnds (error : SettleError) (old new : WorldState) : Type 0 where
   pub ends : TickEnds error side now old new
       ⊎ ((ticked : WorldState) × TellsNext side now old ticked × HasCause error ticked new)
 
--- A recovery ended with this error: the first settling did, or a round behind those that went well.
+-- A recovery ended with this error: the first settling did, or a round after those that went well.
 abbrev pub HasEnded : SettleError → (old new : WorldState) → Type 0
 HasEnded error old new =
     HasCause error old new ⊎ ((last : WorldState) × Recovers old last × RoundEnds error last new)

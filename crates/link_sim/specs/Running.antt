@@ -62,7 +62,7 @@ AreApart (p ∷ puts) = ((q : AcceptedPut) → Contains puts q → q.id ≢ p.id
 
 -- What is promised of each world that they led to from a first one with these inboxes: each inbox
 -- is its first files, overwritten in order of the completions there by the files of the puts that
--- they name; finished once, heard in full, told truly and sent truly; and no number recurs.
+-- they name; finished once, heard in full, indicated truly and sent truly; and no number recurs.
 pub record KeepsPromises (inboxes : FileMap × FileMap) (w : WorldState) : Type 0 where
   pub inbox : (s : Side) → (at s (seen w)).inbox
       ≡ inbox_after (put_of (seen w)) (files_at s inboxes) (completions_at s (seen w))

@@ -1,5 +1,5 @@
 -- Proof-only: what becomes of one transaction while its two entities only poll, flush and deliver,
--- and nothing is lost: a run of its own. And what becomes of it where timers of it expire.
+-- and nothing is lost: a run of its own. And what becomes of it if timers of it expire.
 use Rattle.std.specs.Prelude.{◌≡◌, ◌≢◌, ◌⊎◌, ℕ, zero, suc, ◌||◌, Bool, true, false, List, [], ◌∷◌, ◌++◌, Option, Some, None}
 use Rattle.std.specs.List.{list_any}
 use Rattle.cfdp_header.specs.Files.{FileMap}
@@ -30,9 +30,9 @@ use Rattle.link_sim.specs.Exchange.{IsTrueForth, tells_complete}
 use Rattle.link_sim.specs.Waiting.{one_tells}
 use Rattle.link_sim.specs.Work.{opening_work}
 
--- Two parts of a list that stood one behind the other, `first` and `second`, changed places, as
--- PDUs on their way do where those of one lane overtook those of the other. What stands before and
--- behind stayed.
+-- Two parts of a list that stood one after the other, `first` and `second`, changed places, as PDUs
+-- on their way do if those of one lane overtake those of the other. What stands before and after
+-- stayed.
 pub record IsSwapped {X : Type 0} (xs ys : List X) : Type 0 where
   pub before : List X
   pub first : List X
@@ -42,7 +42,7 @@ pub record IsSwapped {X : Type 0} (xs ys : List X) : Type 0 where
   pub is : ys ≡ before ++ (second ++ (first ++ behind))
 
 -- One transaction: its sender, its receiver or none yet, the PDUs on their way to the receiver and
--- to the sender, and whether the sender's user, and the receiver's, was told that it is complete.
+-- to the sender, and whether it was indicated complete to the sender's user, and to the receiver's.
 pub record Exchange : Type 0 where
   pub sender : SenderState
   pub receiver : Option ReceiverState
@@ -51,7 +51,7 @@ pub record Exchange : Type 0 where
   pub told : Bool
   pub told_there : Bool
 
--- whether it was told, with what was told before
+-- whether it was indicated, with what was indicated before
 abbrev pub told_then : Put → Bool → List Indication → Bool
 told_then put before told = before || one_tells (tells_complete put.id) told
 
@@ -107,7 +107,8 @@ pub record ReceiverTakes (put : Put) (old new : Exchange) : Type 0 where
     told_there = told_then put old.told_there a.told;
   })
 
--- The inbox does as it is told, and of a PDU that is true of the put no fault of the file is told.
+-- The inbox does as it is asked, and of a PDU that is true of the put no fault of the file is
+-- indicated.
 pub record ReceiverHears (put : Put) (old new : Exchange) : Type 0 where
   pub receiver : ReceiverState
   pub is_receiver : old.receiver ≡ Some receiver
@@ -164,7 +165,7 @@ pub record ReceiverOpens (put : Put) (old new : Exchange) : Type 0 where
         (opens Done Done times files large heard addressing).told;
   }
 
--- a PDU that opens no record comes where there is none
+-- a PDU that opens no record comes if there is none
 pub record GoesUnheard (old new : Exchange) : Type 0 where
   pub none : old.receiver ≡ None
   pub heard : Content
@@ -181,7 +182,7 @@ pub record Overtakes (old new : Exchange) : Type 0 where
   pub swaps_back : IsSwapped old.back back
   pub is : new ≡ record old { forth = forth; back = back }
 
--- more was told, of whatever transaction
+-- more was indicated, of whatever transaction
 pub record TellsMore (old new : Exchange) : Type 0 where
   pub told : Bool
   pub told_there : Bool

@@ -38,7 +38,7 @@ abbrev pub HasSent : Side → WorldState → Type 0
 HasSent s w = (turn (entity_at s w) ≡ Rests)
     × ((l : Lane) → flush_of (packing (lane_down l (station_at s w).down)) ≡ [])
 
--- Where the promises hold of the old world, more happened up to the new one, and they hold of it.
+-- If the promises hold of the old world, more happened up to the new one, and they hold of it.
 pub record LeadsTo (old new : WorldSeen) : Type 0 where
   pub follows : ((s : Side) → HoldsAt s old) → Follows old new
   pub holds : ((s : Side) → HoldsAt s old) → (s : Side) → HoldsAt s new
@@ -52,7 +52,7 @@ IsOfSettling (event.Deliver s l) = Unit {0}
 IsOfSettling _ = ⊥
 
 -- In a round the first station polls and flushes, then the second one, and what waits of the first
--- is delivered, and then of the second: of each the lane of directives first. Behind that comes the
+-- is delivered, and then of the second: of each the lane of directives first. After that comes the
 -- next round.
 abbrev pub next_of : Event → Event
 next_of (event.Poll s) = event.Flush s
@@ -63,7 +63,7 @@ next_of (event.Deliver One Data) = event.Deliver Two Directives
 next_of (event.Deliver Two Data) = event.Poll One
 next_of e = e
 
--- what comes behind an event: the same once more where it did something, and else the next one
+-- what comes after an event: the same once more if it did something, and otherwise the next one
 abbrev pub behind : Event → Applied → Event
 behind e did.Nothing = next_of e
 behind e _ = e
@@ -80,7 +80,7 @@ AreOfSettling (s ∷ steps) old new = (mid : WorldState)
     × IsOfSettling s.0 × Steps s.0 s.1 old mid × AreOfSettling steps mid new
 
 -- Nothing but such events did, in order from one up to another: nothing was put, lost or cancelled,
--- and no time was told.
+-- and no time was given.
 pub record SettlesFrom (from upto : Event) (old new : WorldState) : Type 0 where
   pub steps : List (Event × Applied)
   pub are : AreOfSettling steps old new
@@ -106,15 +106,15 @@ shortages s = record {
   table = get_or s.entity.state.drops 15 0;
 }
 
--- The count differs; or it stands at the greatest value, where one more wouldn't show, so that is
--- taken for a rise.
+-- The count differs; or it stands at the greatest value, at which one more wouldn't show, so that
+-- is taken for a rise.
 abbrev pub HasRisen : (before after : ℕ) → Type 0
 HasRisen before after = (after ≢ before) ⊎ (after ≡ 2 ^ 64 - 1)
 
 abbrev pub IsSpared : (before after : ℕ) → Type 0
 IsSpared before after = (after ≡ before) × (after < 2 ^ 64 - 1)
 
--- At a station a count rose that this error tells of.
+-- At a station a count rose that this error reports.
 abbrev pub RisesAt : SettleError → (before after : Shortages) → Type 0
 RisesAt NoMemory before after =
     HasRisen before.link_memory after.link_memory ⊎ HasRisen before.memory after.memory
@@ -130,7 +130,7 @@ CountsStayAt StoreFailed before after =
     IsSpared before.outbox after.outbox × IsSpared before.inbox after.inbox
 CountsStayAt TableFull before after = IsSpared before.table after.table
 
--- those of both stations
+-- the shortages of both stations
 abbrev pub all_shortages : WorldState → Shortages × Shortages
 all_shortages w = (shortages w.one, shortages w.two)
 
@@ -141,13 +141,13 @@ abbrev pub CountsStay : SettleError → (before after : Shortages × Shortages) 
 CountsStay error before after =
     CountsStayAt error before.0 after.0 × CountsStayAt error before.1 after.1
 
--- No count that tells of a shortage differs at either station; and had one risen, it would show.
+-- No count that shows a shortage differs at either station; and had one risen, it would show.
 pub record KeepsAll (before after : Shortages × Shortages) : Type 0 where
   pub memory : CountsStay NoMemory before after
   pub stores : CountsStay StoreFailed before after
   pub tables : CountsStay TableFull before after
 
--- A count that this error tells of rose, and none of an error with a lower number.
+-- A count that this error reports rose, and none of an error with a lower number.
 abbrev pub RisesFirst : SettleError → (before after : Shortages × Shortages) → Type 0
 RisesFirst NoMemory before after = Rises NoMemory before after
 RisesFirst StoreFailed before after =
@@ -161,7 +161,7 @@ RisesFirst TableFull before after =
 abbrev pub no_room : Side → WorldState → ℕ
 no_room s w = get_or (entity_at s w).drops 15 0
 
--- Where that differs, the table of the station has all the records that it may have: 4,096.
+-- If that differs, the table of the station has all the records that it may have: 4,096.
 abbrev pub DropsWhereFull : (old new : WorldState) → Type 0
 DropsWhereFull old new = (s : Side) → no_room s new ≢ no_room s old
     → length (entity_at s new).table.records ≡ most_records
@@ -177,8 +177,8 @@ pub record GoesWellFrom (from upto : Event) (old new : WorldState) : Type 0 wher
 abbrev pub GoesWell : (old new : WorldState) → Type 0
 GoesWell old new = GoesWellFrom first_event first_event old new
 
--- An event of it ended a settling with this error: that happened in it, or it found no memory.
--- Where a PDU found no room in it, the table there is full.
+-- An event of it ended a settling with this error: that happened in it, or it found no memory. If a
+-- PDU found no room in it, the table there is full.
 abbrev pub Ends : SettleError → Event → (old new : WorldState) → Type 0
 Ends error e old new = IsOfSettling e ×
     (((d : Applied) × Steps e d old new × RisesFirst error (all_shortages old) (all_shortages new))

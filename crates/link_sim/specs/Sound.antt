@@ -14,7 +14,7 @@ use Rattle.link_sim.specs.Theorem.{put_of}
 use Rattle.link_sim.specs.Work.{AreWithin, most_offset}
 use Rattle.link_sim.specs.World.State.{WorldState, AreWays, delivered_from, entity_at, sent_from}
 
--- A PDU that a station sent tells the truth of its puts, and that a file was delivered only where
+-- A PDU that a station sent says the truth of its puts, and says that a file was delivered only if
 -- the station completed it.
 abbrev pub SentTruly : Side → WorldState → List ℕ → Type 0
 SentTruly s w text = (h : Header) (v : Content) → SpellsPdu h v text →
@@ -23,7 +23,7 @@ SentTruly s w text = (h : Header) (v : Content) → SpellsPdu h v text →
     × SaysDelivered e.config.entity e.table.told h.id v
 
 -- What holds of one station, both lanes on which it sends, and what it heard. No indication of it
--- was let go.
+-- was discarded.
 pub record IsSoundAt (s : Side) (w : WorldState) : Type 0 where
   pub ways : AreWays s w
   pub first : FileMap
@@ -32,7 +32,7 @@ pub record IsSoundAt (s : Side) (w : WorldState) : Type 0 where
   pub sent : (text : List ℕ) → Contains (sent_from s w) text → SentTruly s w text
   pub peer : (entity_at s w).config.peer ≡ (entity_at (other s) w).config.entity
   pub within : AreWithin most_offset (entity_at s w).table.records
-  -- each put has a number of its station, below that of the next one
+  -- each put has a number of its station, below the number of the next one
   pub numbers : (p : AcceptedPut) → Contains w.puts p
       → p.id.source ≡ (entity_at s w).config.entity → p.id.number < (entity_at s w).next
 

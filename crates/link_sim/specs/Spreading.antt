@@ -1,4 +1,4 @@
--- What one station sends where it is polled until nothing is due.
+-- What one station sends if it is polled until nothing is due.
 use Rattle.std.specs.Prelude.{◌≡◌, ◌⊎◌, ℕ, zero, suc}
 use Rattle.station_pair.specs.declared.side.Side.{Side}
 use Rattle.link_sim.specs.declared.event.Event.TheVariants as event
@@ -27,11 +27,11 @@ PollRests s old new = Steps (event.Poll s) did.Nothing old new
 abbrev pub FlushesOnce : Side → (old new : WorldState) → Type 0
 FlushesOnce s old new = (d : Applied) × Steps (event.Flush s) d old new
 
--- A poll that did something, and a flush behind it.
+-- A poll that did something, and a flush after it.
 abbrev pub SendsOut : Side → (old new : WorldState) → Type 0
 SendsOut s old new = (mid : WorldState) × PollMoves s old mid × FlushesOnce s mid new
 
--- ---- with a flush behind each poll that did something
+-- ---- with a flush after each poll that did something
 pub record Spreads (s : Side) (old new : WorldState) : Type 0 where
   pub count : ℕ
   pub last : WorldState
@@ -46,7 +46,7 @@ pub record SpreadFindsNoMemory (s : Side) (old new : WorldState) : Type 0 where
   pub ends : FindsNoMemory s last new
       ⊎ ((mid : WorldState) × PollMoves s last mid × FindsNoMemory s mid new)
 
--- ---- with one flush behind all polls
+-- ---- with one flush after all polls
 -- Polls did something, until one found nothing due.
 pub record PollsAll (s : Side) (old new : WorldState) : Type 0 where
   pub count : ℕ

@@ -1,4 +1,4 @@
--- Proof-only: a transaction that is settled, and where it then stands.
+-- Proof-only: a transaction that is settled, and its stage then.
 use Rattle.std.specs.Prelude.{◌≡◌, ◌<◌, Bool, true, false, List, [], is_some, Option, Some, None, Contains}
 use Rattle.cfdp_directives.specs.declared.user.limits.Limits.{Limits}
 use Rattle.cfdp_directives.specs.Pdu.Content.{Content}
@@ -46,8 +46,8 @@ pub record IsBelow (here there : Limits) (e : Exchange) : Type 0 where
   pub sender : (e.sender.phase ≡ sending.Closed → ⊥) → e.sender.count < here.eof
   pub receiver : IsReceiverBelow there e.receiver
 
--- So as far as a timer is waited for that counts: an EOF that isn't acknowledged, a NAK where the
--- EOF is known, a Finished.
+-- So as far as a timer is waited for that counts: an EOF that isn't acknowledged, a NAK if the EOF
+-- is known, a Finished.
 abbrev pub IsReceiverBelowNow : Limits → Option ReceiverState → Type 0
 IsReceiverBelowNow there (Some r) =
     (r.phase ≡ receiving.Receiving → is_some r.ending ≡ true → r.nak_count < there.nak)
@@ -75,7 +75,7 @@ is_answered_in sending.Closed acknowledged = true
 abbrev pub is_answered : SenderState → Bool
 is_answered x = is_answered_in x.phase x.acknowledged
 
--- Both are closed, and both users were told that it is complete.
+-- Both are closed, and it was indicated complete to both users.
 pub record IsCompleteExchange (e : Exchange) : Type 0 where
   pub sender : e.sender.phase ≡ sending.Closed
   pub receiver : maybe is_closed e.receiver ≡ true

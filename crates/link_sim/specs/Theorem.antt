@@ -19,8 +19,8 @@ use Rattle.station_pair.specs.Stations.{other}
 
 -- ---- what is seen
 -- Of a station: its entity's id and the checksum type of its puts, the files that it can send, the
--- files of its inbox, what it told its user, the PDUs that it put on the link, and those that were
--- delivered to it, in order within a lane.
+-- files of its inbox, what it indicated to its user, the PDUs that it put on the link, and those
+-- that were delivered to it, in order within a lane.
 pub record StationSeen : Type 0 where
   pub entity : ℕ
   pub checksum_kind : ℕ
@@ -50,7 +50,7 @@ accepted_as (p ∷ puts) id = if same_id p.id id then Some p else accepted_as pu
 abbrev pub side_of : ℕ → WorldSeen → Side
 side_of entity w = if entity == w.one.entity then One else Two
 
--- an accepted put with the octets of its source, where its station has them
+-- an accepted put with the octets of its source, if its station has them
 abbrev pub with_octets : ℕ → AcceptedPut → Option (List ℕ) → Option Put
 with_octets kind p None = None
 with_octets kind p (Some octets) = Some (record {
@@ -95,7 +95,7 @@ abbrev pub CausedAt : Side → WorldSeen → Type 0
 CausedAt s w = (id : TransactionId) → Contains (completions_at s w) id →
     (put : Put) × ((put_of w id ≡ Some put) × HeardInFull put (at s w).delivered)
 
--- Where a sender was told complete, it heard so, and the other station has completed the put.
+-- If a sender indicated its put complete, it heard so, and the other station has completed it.
 pub record IsTold (s : Side) (w : WorldSeen) (id : TransactionId) : Type 0 where
   pub heard : SomePdu (SaysComplete id) (at s w).delivered
   pub completed : Contains (completions_at (other s) w) id

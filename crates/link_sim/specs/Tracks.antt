@@ -28,7 +28,7 @@ pub record OverIn (s : Side) (put : Put) (w : WorldState) : Type 0 where
 abbrev pub AllTracked : WorldState → Type 0
 AllTracked w = (s : Side) (put : Put) → IsPutOf s put w → StandsIn s put w ⊎ OverIn s put w
 
--- What is the same in two worlds: the puts, and what the stations do where no answer comes.
+-- What is the same in two worlds: the puts, and what the stations do if no answer comes.
 pub record KeepsPutsOf (old new : WorldState) : Type 0 where
   pub puts : (s : Side) (put : Put) → IsPutOf s put old → IsPutOf s put new
   pub puts_before : (s : Side) (put : Put) → IsPutOf s put new → IsPutOf s put old

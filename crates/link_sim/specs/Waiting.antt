@@ -26,7 +26,7 @@ use Rattle.link_sim.specs.World.State.{WorldState, entity_at, on_way_from}
 use Rattle.link_sim.specs.declared.event.AcceptedPut.{AcceptedPut}
 use Rattle.station_pair.specs.declared.side.Side.{Side}
 
--- what a station does where an answer doesn't come
+-- what a station does if an answer doesn't come
 abbrev pub policy_at : Side → WorldState → Policy
 policy_at s w = (entity_at s w).config.policy
 
@@ -87,9 +87,8 @@ IsWaitingIn limits (Some s) = IsWaitingRecord limits s
 IsWaitingIn limits None = Unit {0}
 
 -- ---- a transaction
--- At a station: no fault of it was indicated but for inactivity, no abandonment, no end with an
--- error;
--- and its record, if there is one, waits.
+-- At a station: no fault of it was indicated except for inactivity, no abandonment, no end with an
+-- error; and its record, if there is one, waits.
 pub record IsWaitingAt (id : TransactionId) (s : Side) (w : WorldState) : Type 0 where
   pub told : one_tells (spoils id) (entity_at s w).table.told ≡ false
   pub record_waits : IsWaitingIn (policy_at s w).limits (record_of id (entity_at s w).table.records)
@@ -122,7 +121,7 @@ IsUnfinished id w = IsOpen id w ⊎ IsComing id w
 abbrev pub AllWait : WorldState → Type 0
 AllWait w = (id : TransactionId) → IsUnfinished id w → IsWaiting id w
 
--- Neither station does anything where nothing was heard for too long, but for telling so.
+-- Neither station does anything if nothing is heard for too long, except to say so.
 abbrev pub IgnoreInactivity : WorldState → Type 0
 IgnoreInactivity w = (s : Side) → (policy_at s w).handlers.inactivity ≡ Ignore
 

@@ -1,7 +1,7 @@
 -- Proof-only: how much the two stations may still do in a settling, a number that falls with each
--- PDU that is sent or heard. A PDU on its way counts what it may cause where it is heard, and one
--- more for itself; a PDU that is due counts more than it does once it is on its way. `most` is a
--- number that no file's size and no offset held passes.
+-- PDU that is sent or heard. A PDU on its way counts what it may cause if it is heard, and one more
+-- for itself; a PDU that is due counts more than it does once it is on its way. `most` is a number
+-- that no file's size and no offset held passes.
 use Rattle.std.specs.Prelude.{◌≡◌, ℕ, ◌+◌, ◌-◌, ◌*◌, ◌==◌, ◌<◌, ◌≤◌, zero, suc, Bool, true, List, [], ◌∷◌, length, drop, sum_by, Option, Some, None, IfSome, if◌then◌else◌}
 use Rattle.std.specs.FinSet as set
 use Rattle.cfd_bits.specs.Field.{field}
@@ -35,7 +35,8 @@ count_below held (suc n) = count_below held n + (if set.contains held n then 1 e
 abbrev pub nak_work : ℕ → ℕ
 nak_work most = 7 * most + 8
 
--- A NAK that is due from an offset on: each one that is sent moves the offset on, but for the last.
+-- A NAK that is due from an offset on: each one that is sent moves the offset on, except for the
+-- last.
 unfoldable pub nak_due_work : ℕ → ℕ → ℕ
 nak_due_work most from = (most - from + 1) * (nak_work most + 1)
 
@@ -140,7 +141,7 @@ unfoldable pub texts_work : ℕ → List (List ℕ) → ℕ
 texts_work most texts = sum_by (text_work most) texts
 
 -- ---- the bounds that it needs
--- While it receives, no offset that a receiver holds, and no size that it was told, passes `most`.
+-- While it receives, no offset that a receiver holds, and no size that it heard, passes `most`.
 pub record IsReceiverWithin (most : ℕ) (r : ReceiverState) : Type 0 where
   pub held : (n : ℕ) → set.contains r.held n ≡ true → n < most
   pub ending : r.phase ≡ receiving.Receiving → IfSome r.ending (λ e. e.size ≤ most)

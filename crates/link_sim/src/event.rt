@@ -11,9 +11,9 @@ pub enum Event {
     Put {
         /// The station that sends.
         at: Side,
-        /// The file's name in that station's outbox: 1 to 255 octets.
+        /// The file's name in that station's outbox, which must have 1 to 255 octets.
         source: Octets,
-        /// The file's name at the other station: 1 to 255 octets.
+        /// The file's name at the other station, which must have 1 to 255 octets.
         destination: Octets,
     },
     /// A station's user gives a transaction up.
@@ -31,17 +31,17 @@ pub enum Event {
         at: Side,
         id: TransactionId,
     },
-    /// A sender's user asks the receiver for a Keep Alive, or else for a NAK.
+    /// A sender's user asks the receiver for a Keep Alive or for a NAK.
     Prompt {
         at: Side,
         id: TransactionId,
         keep_alive: bool,
     },
-    /// A station sends its next PDU, where one is due.
+    /// A station sends its next PDU, if one is due.
     Poll(Side),
-    /// A station fills its begun frame of each lane, where one is begun.
+    /// A station fills its begun frame of each lane, if one is begun.
     Flush(Side),
-    /// A station is told the time, and timers that are due expire.
+    /// A station is given the time, and timers that are due expire.
     Tick {
         at: Side,
         now: u64,
@@ -51,13 +51,13 @@ pub enum Event {
     /// The oldest waiting frame that this station sent in this lane is lost.
     Strike(Side, Lane),
     /// The oldest waiting frame that a station sent in a lane comes to the other one damaged. So it
-    /// is lost, and the other one counts that it dropped it. Only links with error control know
-    /// damaged frames.
+    /// is lost, and the other one counts that it dropped it. The link must have error control:
+    /// others know no damaged frames.
     Damage {
         /// The station that sent it.
         side: Side,
         lane: Lane,
-        /// What comes in its place: as many octets, whose check differs.
+        /// What comes in its place: it must have as many octets, and its check must differ.
         octets: Octets,
     },
 }

@@ -38,7 +38,7 @@ fn write_frame<O: Outbox, I: Inbox>(
     let _ = station.next_frame(frame);
 }
 
-/// How many octets so many frames have, and so many more; `None` where that is no `usize`.
+/// Returns how many octets so many frames have, and so many more, or `None` if that is no `usize`.
 fn octets_of(frames: usize, more: usize, len: usize) -> Option<usize>
     ensures { IfSome result (λ n. n ≡ (frames + more) * len) }
 {
@@ -47,8 +47,8 @@ fn octets_of(frames: usize, more: usize, len: usize) -> Option<usize>
 
 /// The frames that one station sent in one lane, in order, and what became of them.
 ///
-/// They stand in one buffer. Room for more is made ahead, by [`make_room`](Self::make_room); so to
-/// take one from the station's end needs no memory, nor to mark it.
+/// They stand in one buffer. Room for more must be made ahead, by [`make_room`](Self::make_room);
+/// so to take one from the station's end needs no memory, nor to mark it.
 #[derive(Debug, Drop)]
 pub struct FrameLink {
     // octets of each frame
@@ -57,11 +57,11 @@ pub struct FrameLink {
     count: usize,
     // how many more have room
     blanks: usize,
-    // The frames, one behind the other, and behind them the octets of those to come.
+    // The frames, one after the other, and after them the octets of those to come.
     octets: Vec<u8>,
     // Of each frame: how many of both lanes were sent before it. All frames have room.
     places: Vec<usize>,
-    // Of those that no longer wait: true where delivered. All frames have room, those to come too.
+    // Of those that no longer wait: `true` if delivered. All frames have room, those to come too.
     marks: Vec<bool>,
     run: LossRun,
 }
@@ -89,7 +89,7 @@ impl Model for FrameLink {
 }
 
 impl FrameLink {
-    /// Nothing was sent; frames will have `len` octets. It takes no memory.
+    /// Makes a link on which nothing was sent; frames will have `len` octets. It takes no memory.
     #[tactic(auto, using(crate::proofs::Ways::Placing::pieces_none))]
     pub fn new(alloc: Global, len: usize) -> Self
         ensures { result ≡ record {
@@ -116,7 +116,7 @@ impl FrameLink {
     ///
     /// # Errors
     ///
-    /// `AllocError` where the memory was refused: as many have room as before.
+    /// `AllocError` if the memory was refused: as many have room as before.
     pub fn make_room(&mut self, count: usize) -> Result<(), AllocError>
         ensures ok { OnOk result (count ≤ self.new.blanks) }
         ensures grows { self.old.blanks ≤ self.new.blanks }
@@ -138,10 +138,10 @@ impl FrameLink {
         Ok(())
     }
 
-    /// Takes the oldest whole zone that waits at a station in this lane as a frame, where it has
-    /// room; it leaves next. So many frames of both lanes were sent before it.
+    /// Takes the oldest whole zone that waits at a station in this lane as a frame, if it has room;
+    /// it leaves next. So many frames of both lanes were sent before it.
     ///
-    /// False where there is no room: nothing changed then.
+    /// Returns `false` if there is no room: nothing changed then.
     pub fn pull<O: Outbox, I: Inbox>(
         &mut self,
         station: &mut Station<O, I>,
@@ -177,8 +177,8 @@ impl FrameLink {
         true
     }
 
-    /// How many frames of both lanes were sent before the oldest that waits in this one; `None`
-    /// where none waits.
+    /// Returns how many frames of both lanes were sent before the oldest that waits in this one, or
+    /// `None` if none waits.
     pub fn oldest_place(&self) -> Option<usize>
         ensures place { result ≡ oldest_place self.now }
         ensures waits { MatchOption result (length self.now.frames ≤ length self.now.marks)
@@ -193,7 +193,7 @@ impl FrameLink {
         self.places.get(frame).copied()
     }
 
-    /// How many frames were sent.
+    /// Returns how many frames were sent.
     #[tactic(auto, using(crate::proofs::Ways::Placing::pieces_len))]
     pub fn count(&self) -> usize
         ensures { result ≡ length self.now.frames }
@@ -201,7 +201,8 @@ impl FrameLink {
         self.count
     }
 
-    /// The frame at a place, from 0 on, in the order sent; `None` where there is no such frame.
+    /// Returns the frame at a place, from 0 on, in the order sent, or `None` if there is no such
+    /// frame.
     #[tactic(auto, using(crate::proofs::Ways::Placing::pieces_len, crate::proofs::Ways::Placing::pieces_at, crate::proofs::Ways::Placing::room_at))]
     pub fn frame(&self, place: usize) -> Option<&[u8]>
         ensures { MatchOption result (length self.now.frames ≤ place)
@@ -216,7 +217,7 @@ impl FrameLink {
         Some(frame)
     }
 
-    /// The oldest frame that waits; `None` where none does.
+    /// Returns the oldest frame that waits, or `None` if none does.
     pub fn oldest(&self) -> Option<&[u8]>
         ensures { MatchOption result (length self.now.frames ≤ length self.now.marks)
             (λ f. (length self.now.marks < length self.now.frames) × (f.now ≡ oldest self.now)) }
@@ -224,7 +225,7 @@ impl FrameLink {
         self.frame(self.marks.len())
     }
 
-    /// The oldest frame that waits was delivered; one does.
+    /// Marks the oldest frame that waits as delivered; one must wait.
     #[tactic(auto, using(crate::proofs::Ways::Placing::pieces_len))]
     pub fn deliver(&mut self)
         requires { length self.old.marks < length self.old.frames }
@@ -261,7 +262,7 @@ impl FrameLink {
         Loss::Done
     }
 
-    /// What became of the frame at a place, from 0 on; `None` where there is no such frame.
+    /// Returns what became of the frame at a place, from 0 on, or `None` if there is no such frame.
     pub fn mark(&self, place: usize) -> Option<Mark>
         ensures { MatchOption result (length self.now.frames ≤ place)
             (λ m. (place < length self.now.frames) × (m ≡ mark_at self.now place)) }

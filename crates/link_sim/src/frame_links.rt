@@ -24,7 +24,7 @@ impl Model for FrameLinks {
 }
 
 impl FrameLinks {
-    /// Nothing was sent; frames will have `len` octets. It takes no memory.
+    /// Makes a link on which nothing was sent; frames will have `len` octets. It takes no memory.
     pub(crate) fn new(alloc: Global, len: usize) -> Self
         ensures { (lane : Lane) → lane_of_links lane result ≡ record {
           frames = [];
@@ -41,7 +41,7 @@ impl FrameLinks {
         }
     }
 
-    /// How many frames were sent, of both lanes.
+    /// Returns how many frames were sent, of both lanes.
     pub fn count(&self) -> usize
         ensures { result ≡ frames_sent self.now }
     {
@@ -50,14 +50,14 @@ impl FrameLinks {
             .saturating_add(self.file_data.count())
     }
 
-    /// How many frames were sent in a lane.
+    /// Returns how many frames were sent in a lane.
     pub fn count_in(&self, lane: Lane) -> usize
         ensures { result ≡ length (lane_of_links lane self.now).frames }
     {
         self.lane(lane).count()
     }
 
-    /// The frames of a lane.
+    /// Returns the frames of a lane.
     pub fn lane(&self, lane: Lane) -> &FrameLink
         ensures { result.now ≡ lane_of_links lane self.now }
     {
@@ -67,7 +67,7 @@ impl FrameLinks {
         }
     }
 
-    /// The lane of the frame that was sent first, of all that wait; `None` where none does.
+    /// Returns the lane of the frame that was sent first, of all that wait, or `None` if none does.
     pub fn first_sent(&self) -> Option<Lane>
         ensures lane { result ≡ first_sent self.now }
         ensures waits { MatchOption result

@@ -16,12 +16,12 @@ use std::alloc::{AllocError, Global};
 use valid_config::Valid;
 
 impl<W: Witness> World<MemoryOutbox, MemoryInbox, W> {
-    /// Two stations in which nothing happened yet, with these files to send, those of the first
-    /// station first, and empty inboxes. The witness sees what happens from then on.
+    /// Makes two stations in which nothing happened yet, with these files to send, the first
+    /// station's files first, and empty inboxes. The witness sees what happens from then on.
     ///
     /// # Errors
     ///
-    /// `AllocError` only where the memory for a station was refused.
+    /// `AllocError` only if the memory for a station was refused.
     pub fn in_memory(
         alloc: Global,
         config: Valid<WorldConfig>,

@@ -6,8 +6,8 @@ use station_pair::Side;
 use std::fmt;
 
 impl<O: SteadyOutbox, I: Inbox, W: Witness> fmt::Debug for World<O, I, W> {
-    /// Both stations, how many frames each sent, how many puts were accepted, and how often a
-    /// station was told the time.
+    /// Writes both stations, how many frames each sent, how many puts were accepted, and how often
+    /// a station was given the time.
     fn fmt<F: fmt::Write>(&self, f: &mut fmt::Formatter<F>) -> fmt::Result {
         f.debug_struct("World")
             .field("one", self.station(Side::One))

@@ -27,14 +27,14 @@ impl Model for LossRun {
 }
 
 impl LossRun {
-    /// None was struck.
+    /// Makes a run in which none was struck.
     pub fn new() -> Self
         ensures { result ≡ 0 }
     {
         LossRun { run: 0 }
     }
 
-    /// So many were struck: at most [`MOST_STRUCK`].
+    /// Makes a run in which so many were struck, which must be at most [`MOST_STRUCK`].
     pub fn from(run: u32) -> Self
         requires { run ≤ most_struck }
         ensures { result ≡ run }
@@ -42,7 +42,8 @@ impl LossRun {
         LossRun { run }
     }
 
-    /// One more is struck. False where as many were as may be: nothing changed then.
+    /// Counts one more that is struck. Returns `false` if as many were as may be: nothing changed
+    /// then.
     pub fn strike(&mut self) -> bool
         ensures may { (result ≡ true) ↔ (self.old < most_struck) }
         ensures long { (result ≡ false) ↔ (self.old ≡ most_struck) }
@@ -56,7 +57,7 @@ impl LossRun {
         true
     }
 
-    /// One was delivered.
+    /// Ends the run, since one was delivered.
     pub fn deliver(&mut self)
         ensures { self.new ≡ 0 }
     {

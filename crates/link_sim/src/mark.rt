@@ -9,14 +9,14 @@ pub enum Mark {
     Struck,
 }
 
-/// What became of a wish to strike a frame.
+/// What became of a frame that a call should strike.
 #[derive(Clone, Copy, Debug, PartialEq, Eq)]
 pub enum Loss {
     /// It was struck.
     Done,
     /// No frame waits.
     NoneWaits,
-    /// The last [`MOST_STRUCK`](crate::MOST_STRUCK) frames taken were struck, and one more may not
+    /// The last [`MOST_STRUCK`](crate::MOST_STRUCK) frames taken were struck, and one more must not
     /// be.
     TooMany,
 }

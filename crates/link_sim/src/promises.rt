@@ -24,8 +24,8 @@ ghost use Rattle.link_sim.specs.declared.event.Event.{Event};
 ghost use Rattle.station_pair.specs.declared.side.Side.{Side};
 ghost use Rattle.station_pair.specs.declared.world_config.WorldConfig.{WorldConfig};
 
-/// Whatever calls are made on two stations from their start on, the promises hold of them; and
-/// where all is settled and nothing went wrong so far, every put is complete.
+/// Whatever calls are made on two stations from their start on, the promises hold of them; and if
+/// all is settled and nothing went wrong so far, every put is complete.
 pub fn worlds_keep_the_promises()
     ensures keeps { (c : WorldConfig) (outboxes inboxes : FileMap × FileMap)
         (first now : WorldState)

@@ -30,28 +30,28 @@ const MOST_ROUNDS: u32 = 24_576;
 
 impl<O: SteadyOutbox, I: Inbox, W: Witness> World<O, I, W> {
     /// Lets both stations make up for what was lost, without any further loss, until at neither a
-    /// timer is armed but those of Inactivity.
+    /// timer is armed except those of Inactivity.
     ///
     /// It settles, and then goes by rounds, 24,576 at most. In a round a station that has another
-    /// timer armed is told the earliest deadline of such timers as the time, the first station
-    /// where both have one; then all is settled again. Nothing is put, struck or cancelled.
+    /// timer armed is given the earliest deadline of such timers as the time, the first station if
+    /// both have one; then all is settled again. Nothing is put, struck or cancelled.
     ///
-    /// Where both stations ignore inactivity, and each transaction that isn't finished waits below
-    /// its limits, neither cancelled nor suspended, all of these are complete in the end, whatever
-    /// was lost before (CCSDS 727.0-B-5, 4.6.4 and 4.7).
+    /// If both stations ignore inactivity, and each transaction that isn't finished waits below its
+    /// limits, neither cancelled nor suspended, all of these are complete in the end, whatever was
+    /// lost before (CCSDS 727.0-B-5, 4.6.4 and 4.7).
     ///
     /// # Errors
     ///
     /// `Settle`: what ends a settling happened, at the first event in which it did, be it of a
-    /// settling or a time that was told. `StillArmed`: such a timer is left after all rounds. The
-    /// world is as the events up to then left it.
+    /// settling or of a time that was given. `StillArmed`: such a timer is left after all rounds.
+    /// The world is as the events up to then left it.
     pub fn recover(&mut self) -> Result<(), RecoverError>
-        // Only settlings and such ticks happened, or an error tells what ended them; and the
+        // Only settlings and such ticks happened, or an error says what ended them; and the
         // promises hold.
         ensures tries { TriesRecovery result self.old self.new }
         ensures upholds { Upholds self.old self.new }
-        // From a world where both stations ignore inactivity and each unfinished transaction waits
-        // below its limits: these are complete and closed at both ends, and no timer is left.
+        // From a world in which both stations ignore inactivity and each unfinished transaction
+        // waits below its limits: these are complete and closed at both ends, and no timer is left.
         ensures completes { OnOk result (IgnoreInactivity self.old × AllWait self.old
             → (id : TransactionId) → IsUnfinished id self.old → IsCompleted id self.new) }
         ensures ends { IfErr result (λ error. IgnoreInactivity self.old × AllWait self.old
@@ -73,7 +73,7 @@ impl<O: SteadyOutbox, I: Inbox, W: Witness> World<O, I, W> {
         }
     }
 
-    /// One round, where a timer is armed other than Inactivity: says whether one was.
+    /// Goes through one round, if a timer is armed other than Inactivity: returns whether one was.
     fn recover_round(&mut self) -> Result<bool, SettleError>
         requires settled { IsSettled self.old }
         ensures leads { LeadsTo (seen self.old) (seen self.new) }
@@ -95,7 +95,8 @@ impl<O: SteadyOutbox, I: Inbox, W: Witness> World<O, I, W> {
         Ok(true)
     }
 
-    /// The station that is told the time next, and which: `None` where only Inactivity is armed.
+    /// Returns the station that is given the time next, and that time; `None` if only Inactivity is
+    /// armed.
     fn next_tick(&self) -> Option<(Side, u64)>
         ensures { MatchOption result ((s : Side) → OnlyInactivity (armed_at s self.now))
             (λ next. IsNext next.0 next.1 self.now) }
@@ -107,7 +108,7 @@ impl<O: SteadyOutbox, I: Inbox, W: Witness> World<O, I, W> {
         Some((Side::Two, now))
     }
 
-    /// Tells a station the time.
+    /// Gives a station the time.
     fn tell(&mut self, side: Side, now: u64) -> Result<(), SettleError>
         requires next { IsNext side now self.old }
         ensures leads { LeadsTo (seen self.old) (seen self.new) }

@@ -26,27 +26,27 @@ use cfdp_store::{Inbox, SteadyOutbox};
 use station_pair::{SettleError, Side};
 
 impl<O: SteadyOutbox, I: Inbox, W: Witness> World<O, I, W> {
-    /// Lets both stations send and hear, without any loss, until nothing is due at either, no flush
-    /// would make a frame, and no frame waits.
+    /// Lets both stations send and receive, without any loss, until nothing is due at either, no
+    /// flush would make a frame, and no frame waits.
     ///
     /// A round polls and flushes the first station, then the second, and delivers all that waits of
-    /// the first, then of the second, of each directives first. Nothing is put, struck, cancelled,
-    /// and no time is told.
+    /// the first, then of the second, of each directives first. Nothing is put, struck or
+    /// cancelled, and no time is given.
     ///
     /// # Errors
     ///
     /// At the first event in which one of these happened, the one with the lowest number: a call
-    /// found no memory or something was dropped for want of it, a store failed, a PDU found a table
+    /// found no memory or something was dropped for lack of it, a store failed, a PDU found a table
     /// full. The world is as the events up to then left it.
     pub fn settle(&mut self) -> Result<(), SettleError>
-        // All is settled, or an error tells why not; the promises hold; and where the world was
-        // clean, every put is complete and closed at both ends.
+        // All is settled, or an error says why not; the promises hold; and if the world was clean,
+        // every put is complete and closed at both ends.
         ensures { Settles result self.old self.new }
     {
         self.settle_on()
     }
 
-    /// As `settle`, for calls here that rest on more than it promises.
+    /// Does what `settle` does, for calls here that rest on more than it promises.
     pub(crate) fn settle_on(&mut self) -> Result<(), SettleError>
         ensures settles { Settles result self.old self.new }
         // Each transaction made a run of its own.
@@ -82,7 +82,7 @@ impl<O: SteadyOutbox, I: Inbox, W: Witness> World<O, I, W> {
         self.stations.show_rest();
     }
 
-    /// One round: says whether anything happened in it.
+    /// Goes through one round: returns whether anything happened in it.
     fn settle_round(&mut self) -> Result<bool, SettleError>
         ensures part { SettlesPart first_event first_event result self.old self.new }
         ensures settled { IfOk result (λ happened. happened ≡ false → IsSettled self.new) }
@@ -95,7 +95,7 @@ impl<O: SteadyOutbox, I: Inbox, W: Witness> World<O, I, W> {
         Ok(one || two || from_one || from_two)
     }
 
-    /// All that waits of a station is delivered.
+    /// Delivers all that waits of a station.
     fn deliver_all(&mut self, side: Side) -> Result<bool, SettleError>
         ensures part { SettlesPart (events.Deliver side lanes.Directives)
             (next_of (events.Deliver side lanes.Data)) result self.old self.new }
@@ -107,7 +107,7 @@ impl<O: SteadyOutbox, I: Inbox, W: Witness> World<O, I, W> {
         Ok(directives || file_data)
     }
 
-    /// A station sends all that is due, and its begun frame.
+    /// Lets a station send all that is due, and its begun frame.
     fn send_all(&mut self, side: Side) -> Result<bool, SettleError>
         ensures part { SettlesPart (events.Poll side) (next_of (events.Flush side)) result
             self.old self.new }
@@ -118,7 +118,8 @@ impl<O: SteadyOutbox, I: Inbox, W: Witness> World<O, I, W> {
         Ok(polled || flushed)
     }
 
-    /// Repeats an event until there is nothing to do for it, and says whether it happened at all.
+    /// Repeats an event until there is nothing to do for it, and returns whether it happened at
+    /// all.
     fn repeat(&mut self, event: &Event) -> Result<bool, SettleError>
         requires of_it { IsOfSettling event.now }
         ensures part { SettlesPart event.now (next_of event.now) result self.old self.new }
@@ -132,11 +133,11 @@ impl<O: SteadyOutbox, I: Inbox, W: Witness> World<O, I, W> {
         Ok(happened)
     }
 
-    /// One event of a settling: says whether it did anything.
+    /// Makes one event of a settling happen: returns whether it did anything.
     fn settle_by(&mut self, event: &Event) -> Result<bool, SettleError>
         requires of_it { IsOfSettling event.now }
         ensures turn { TakesTurn event.now result self.old self.new }
-        // Nothing was short in it; an error tells what was, with the lowest number.
+        // Nothing was short in it; an error says what was, with the lowest number.
         ensures well { IfOk result (λ moved. moved ≡ true
             → GoesOnFrom event.now event.now self.old self.new) }
         ensures well_last { IfOk result (λ moved. moved ≡ false
@@ -156,7 +157,7 @@ impl<O: SteadyOutbox, I: Inbox, W: Witness> World<O, I, W> {
         }
     }
 
-    /// How often both stations were short of something.
+    /// Returns how often both stations were short of something.
     pub(crate) fn shortages(&self) -> (Shortages, Shortages)
         ensures { result ≡ all_shortages self.now }
     {

@@ -30,7 +30,7 @@ impl Shortages {
         }
     }
 
-    /// Whether what this error tells of happened since.
+    /// Returns `true` if what this error reports happened since.
     pub(crate) fn shows(&self, error: SettleError, before: &Shortages) -> bool
         ensures rises { result ≡ true → RisesAt error before.now self.now }
         ensures keeps { result ≡ false → CountsStayAt error before.now self.now }
@@ -48,7 +48,7 @@ impl Shortages {
     }
 }
 
-/// Whether a count rose, or may have risen unseen: it stays at the greatest value.
+/// Returns `true` if a count rose, or may have risen unseen: it stays at the greatest value.
 fn has_risen(before: u64, now: u64) -> bool
     ensures risen { result ≡ true → HasRisen before now }
     ensures spared { result ≡ false → IsSpared before now }
@@ -56,7 +56,7 @@ fn has_risen(before: u64, now: u64) -> bool
     now != before || now == u64::MAX
 }
 
-/// What either station was short of since, if anything: the error with the lowest number.
+/// Returns what either station was short of since, if anything: the error with the lowest number.
 pub(crate) fn shortage_since(
     before: &(Shortages, Shortages),
     now: &(Shortages, Shortages),

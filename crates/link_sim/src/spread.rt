@@ -23,7 +23,7 @@ impl<O: SteadyOutbox, I: Inbox, W: Witness> World<O, I, W> {
     ///
     /// # Errors
     ///
-    /// `AllocError` only where the memory for an event was refused: that one didn't happen.
+    /// `AllocError` only if the memory for an event was refused: that one didn't happen.
     pub fn spread(&mut self, side: Side) -> Result<(), AllocError>
         // Nothing but these events happened, in this order; and the promises hold.
         ensures tries { TriesSpread side result self.old self.new }
@@ -40,7 +40,7 @@ impl<O: SteadyOutbox, I: Inbox, W: Witness> World<O, I, W> {
     ///
     /// # Errors
     ///
-    /// `AllocError` only where the memory for an event was refused: that one didn't happen.
+    /// `AllocError` only if the memory for an event was refused: that one didn't happen.
     pub fn burst(&mut self, side: Side) -> Result<(), AllocError>
         // Nothing but these events happened, in this order; and the promises hold.
         ensures tries { TriesBurst side result self.old self.new }
@@ -63,7 +63,7 @@ impl<O: SteadyOutbox, I: Inbox, W: Witness> World<O, I, W> {
         Ok(())
     }
 
-    /// One event of these: says whether it did anything.
+    /// Makes one of these events happen: returns whether it did anything.
     fn does(&mut self, event: &Event) -> Result<bool, AllocError>
         requires of_it { IsOfSettling event.now }
         ensures turn { TakesTurn event.now result self.old self.new }

@@ -1,4 +1,4 @@
-//! Two stations, behind calls whose contracts say what each call did and no more.
+//! Two stations, reached by calls whose contracts say what each call did and no more.
 //!
 //! What is promised of a world, the delivery theorem first, holds whatever is done by these calls.
 //! It stands in no goal of functions that take any `Stations`.
@@ -22,27 +22,27 @@ pub trait Stations: Drop {
     ghost world: { Self → WorldState };
 
     /// Says which step of a script, or of another user, comes next: what happens is of it, until
-    /// another is told. To the stations it does nothing.
+    /// another is named. To the stations it does nothing.
     fn comes_to(&mut self, step: usize)
         ensures { world self.new ≡ world self.old };
 
-    /// Lets one thing happen, and says what it did.
+    /// Lets one thing happen, and returns what it did.
     ///
     /// # Errors
     ///
-    /// `AllocError` only where the memory for it was refused: nothing happened then.
+    /// `AllocError` only if the memory for it was refused: nothing happened then.
     fn apply(&mut self, event: &Event) -> Result<Applied, AllocError>
         ensures { TriesEvent event.now result (world self.old) (world self.new) };
 
-    /// The lane of the frame that a station sent first, of all of its frames that wait; `None`
-    /// where none does.
+    /// Returns the lane of the frame that a station sent first, of all of its frames that wait, or
+    /// `None` if none does.
     fn first_sent(&self, side: Side) -> Option<Lane>
         ensures { MatchOption result ((lane : Lane) → NoneWaits side lane (world self.now))
             (λ lane. length (lane_from side lane (world self.now)).marks
             < length (lane_from side lane (world self.now)).frames) };
 
-    /// The oldest frame that waits in a lane of what a station sent: the next one there that arrives,
-    /// is lost or comes damaged. `None` where none waits.
+    /// Returns the oldest frame that waits in a lane of what a station sent: the next one there
+    /// that arrives, is lost or comes damaged. Returns `None` if none waits.
     fn oldest_frame(&self, side: Side, lane: Lane) -> Option<&[u8]>
         ensures { MatchOption result (NoneWaits side lane (world self.now))
             (λ frame. (length (lane_from side lane (world self.now)).marks
@@ -53,7 +53,7 @@ pub trait Stations: Drop {
     ///
     /// # Errors
     ///
-    /// `AllocError` only where the memory for an event was refused: that one didn't happen.
+    /// `AllocError` only if the memory for an event was refused: that one didn't happen.
     fn spread(&mut self, side: Side) -> Result<(), AllocError>
         ensures { TriesSpread side result (world self.old) (world self.new) };
 
@@ -61,7 +61,7 @@ pub trait Stations: Drop {
     ///
     /// # Errors
     ///
-    /// `AllocError` only where the memory for an event was refused: that one didn't happen.
+    /// `AllocError` only if the memory for an event was refused: that one didn't happen.
     fn burst(&mut self, side: Side) -> Result<(), AllocError>
         ensures { TriesBurst side result (world self.old) (world self.new) };
 
@@ -69,24 +69,24 @@ pub trait Stations: Drop {
     ///
     /// # Errors
     ///
-    /// Those of [`World::settle`](crate::World::settle).
+    /// The errors of [`World::settle`](crate::World::settle).
     fn settle(&mut self) -> Result<(), SettleError>
         ensures { TriesSettling result (world self.old) (world self.new) };
 
-    /// Settles, and tells stations the time and settles again, until no timer is armed but those of
-    /// Inactivity.
+    /// Settles, and gives stations the time and settles again, until no timer is armed except those
+    /// of Inactivity.
     ///
     /// # Errors
     ///
-    /// Those of [`World::recover`](crate::World::recover).
+    /// The errors of [`World::recover`](crate::World::recover).
     fn recover(&mut self) -> Result<(), RecoverError>
         ensures { TriesRecovery result (world self.old) (world self.new) };
 
-    /// What a station told its user, in order.
+    /// Returns what a station indicated to its user, in order.
     fn indications(&self, side: Side) -> &[Indication]
         ensures { result.now ≡ (entity_at side (world self.now)).table.told };
 
-    /// The files that a station received.
+    /// Returns the files that a station received.
     fn received(&self, side: Side) -> &Files
         ensures { result.now ≡ (entity_at side (world self.now)).table.files };
 }

@@ -47,7 +47,7 @@ use std::marker::Model;
 use valid_config::Valid;
 
 /// Two stations, the frames that each sent, the puts that they accepted, and how often the time was
-/// told.
+/// given.
 #[derive(Drop)]
 pub(crate) struct TwoStations<O: SteadyOutbox, I: Inbox> {
     alloc: Global,
@@ -82,8 +82,8 @@ impl<O: SteadyOutbox, I: Inbox> Model for TwoStations<O, I> {
       ticks = w.ticks;
     } };
 
-    // Both lanes of both directions are carried, and a PDU of any kind has room in each where no
-    // whole frame waits. Each end that receives is set up as at first.
+    // Both lanes of both directions are carried, and a PDU of any kind has room in each if no whole
+    // frame waits. Each end that receives is set up as at first.
     ghost invariant = { λ w. AreCarried w.one.down w.from_one w.two.up
         × AreCarried w.two.down w.from_two w.one.up
         × ((lane : Lane) → 8192 ≤ (lane_down lane w.one.down).capacity)
@@ -92,7 +92,7 @@ impl<O: SteadyOutbox, I: Inbox> Model for TwoStations<O, I> {
 }
 
 impl<O: SteadyOutbox, I: Inbox> TwoStations<O, I> {
-    /// Two stations over these stores, that of the first station first. Nothing was sent.
+    /// Makes two stations over these stores, the first station's stores first. Nothing was sent.
     pub(crate) fn new(
         alloc: Global,
         config: Valid<WorldConfig>,
@@ -135,7 +135,7 @@ impl<O: SteadyOutbox, I: Inbox> TwoStations<O, I> {
         }
     }
 
-    /// A station, lent.
+    /// Returns a station, borrowed.
     pub(crate) fn station(&self, side: Side) -> &Station<O, I>
         ensures { result.now ≡ station_at side self.now }
     {
@@ -145,7 +145,7 @@ impl<O: SteadyOutbox, I: Inbox> TwoStations<O, I> {
         }
     }
 
-    /// The frames that a station sent, in both lanes, with their marks, lent.
+    /// Returns the frames that a station sent, in both lanes, with their marks, borrowed.
     pub(crate) fn frames(&self, side: Side) -> &FrameLinks
         ensures { state.seen_links result.now ≡ link_from side self.now }
     {
@@ -163,7 +163,7 @@ impl<O: SteadyOutbox, I: Inbox> TwoStations<O, I> {
         let _ = &self.one;
     }
 
-    /// Lets one thing happen, and says what it did.
+    /// Lets one thing happen, and returns what it did.
     pub(crate) fn step(&mut self, event: &Event) -> Result<Applied, AllocError>
         ensures { TriesEvent event.now result self.old self.new }
     {
@@ -239,7 +239,7 @@ impl<O: SteadyOutbox, I: Inbox> TwoStations<O, I> {
         }
     }
 
-    /// What the user of a station asks of a transaction.
+    /// Does what the user of a station asks of a transaction.
     fn request(
         &mut self,
         side: Side,
@@ -273,7 +273,7 @@ impl<O: SteadyOutbox, I: Inbox> TwoStations<O, I> {
         }
     }
 
-    /// These octets come in the place of the oldest waiting frame of a lane.
+    /// Delivers these octets in the place of the oldest waiting frame of a lane.
     fn damage(&mut self, side: Side, lane: Lane, octets: &[u8]) -> Applied
         ensures { steps.Damages result side lane octets.now self.old self.new }
     {
@@ -285,7 +285,7 @@ impl<O: SteadyOutbox, I: Inbox> TwoStations<O, I> {
     }
 }
 
-/// The channel of a lane of what a station sends, as the other one was set up for it.
+/// Returns the channel of a lane of what a station sends, as the other one was set up for it.
 fn channel_from(config: Valid<WorldConfig>, side: Side, lane: Lane) -> ChannelConfig
     ensures { result ≡ lane_channel lane (station_of (other side) config).receives }
 {
@@ -293,8 +293,8 @@ fn channel_from(config: Valid<WorldConfig>, side: Side, lane: Lane) -> ChannelCo
     receiver.receives.lane(lane)
 }
 
-/// What the user of a station asks of a transaction. Only one that gives up what is received may
-/// ask something of the inbox, and so fail there.
+/// Does what the user of a station asks of a transaction. Only one that gives up what is received
+/// may ask something of the inbox, and so fail there.
 fn request_at<O: Outbox, I: Inbox>(
     station: &mut Station<O, I>,
     id: TransactionId,
@@ -319,7 +319,7 @@ fn request_at<O: Outbox, I: Inbox>(
     }
 }
 
-/// What a world answers to a call on a transaction.
+/// Returns what a world answers to a call on a transaction.
 fn answer(called: Result<(), RequestError>) -> Result<Applied, AllocError>
     ensures { result ≡ answered called }
 {
@@ -330,7 +330,7 @@ fn answer(called: Result<(), RequestError>) -> Result<Applied, AllocError>
     }
 }
 
-/// A put at a station. An error leaves all as it was.
+/// Makes a put at a station. An error leaves all as it was.
 fn put_at<O: Outbox, I: Inbox>(
     alloc: Global,
     station: &mut Station<O, I>,
@@ -361,7 +361,7 @@ fn put_at<O: Outbox, I: Inbox>(
     }
 }
 
-/// A station is told the time.
+/// Gives a station the time.
 fn tick_at<O: Outbox, I: Inbox>(
     station: &mut Station<O, I>,
     ticks: &mut u64,
@@ -377,7 +377,7 @@ fn tick_at<O: Outbox, I: Inbox>(
     Ok(Applied::Applied)
 }
 
-/// Takes the frame that leaves a station next, where one does.
+/// Takes the frame that leaves a station next, if one does.
 fn pull_next<O: Outbox, I: Inbox>(links: &mut FrameLinks, station: &mut Station<O, I>) -> bool
     requires { HasBuffers station.old.down links.old }
     ensures none { result ≡ false → frame_lane station.old.down ≡ None }
@@ -393,7 +393,7 @@ fn pull_next<O: Outbox, I: Inbox>(links: &mut FrameLinks, station: &mut Station<
     }
 }
 
-/// Takes all whole zones that wait at a station as frames. There are buffers for them.
+/// Takes all whole zones that wait at a station as frames. There must be buffers for them.
 fn pull_all<O: Outbox, I: Inbox>(links: &mut FrameLinks, station: &mut Station<O, I>)
     requires { HasBuffers station.old.down links.old }
     ensures { PullsBoth station.old station.new links.old links.new }
@@ -416,7 +416,7 @@ fn make_room<O: Outbox, I: Inbox>(
     links.file_data.make_room(station.frames_ahead(Lane::Data))
 }
 
-/// A poll of a station whose outbox's files always stand: what it reads is what they have.
+/// Polls a station whose outbox's files always stand: what it reads is what they have.
 fn poll<O: SteadyOutbox, I: Inbox>(station: &mut Station<O, I>) -> Result<Polled, AllocError>
     ensures polled { IfOk result (λ answer. Polls answer station.old station.new) }
     ensures spells { IfOk result (λ answer. answer ≡ answers.Moved
@@ -438,7 +438,7 @@ fn poll<O: SteadyOutbox, I: Inbox>(station: &mut Station<O, I>) -> Result<Polled
     answer
 }
 
-/// A station sends its next PDU, and all frames that are whole then.
+/// Sends a station's next PDU, and all frames that are whole then.
 fn poll_at<O: SteadyOutbox, I: Inbox>(
     station: &mut Station<O, I>,
     links: &mut FrameLinks,
@@ -458,7 +458,7 @@ fn poll_at<O: SteadyOutbox, I: Inbox>(
     }
 }
 
-/// Whether a lane has more frames than it had.
+/// Returns `true` if a lane has more frames than it had.
 fn has_more(links: &FrameLinks, directives: usize, file_data: usize) -> bool
     ensures more { result ≡ true → (directives < length links.now.directives.frames)
         ⊎ (file_data < length links.now.file_data.frames) }
@@ -468,7 +468,7 @@ fn has_more(links: &FrameLinks, directives: usize, file_data: usize) -> bool
     directives < links.count_in(Lane::Directives) || file_data < links.count_in(Lane::Data)
 }
 
-/// A station fills its begun frame of each lane, which leave.
+/// Fills a station's begun frame of each lane, and these leave.
 fn flush_at<O: Outbox, I: Inbox>(
     station: &mut Station<O, I>,
     links: &mut FrameLinks,
@@ -488,7 +488,7 @@ fn flush_at<O: Outbox, I: Inbox>(
     }
 }
 
-/// The oldest waiting frame of a lane reaches a station.
+/// Delivers the oldest waiting frame of a lane to a station.
 fn deliver_to<O: Outbox, I: Inbox>(
     link: &mut FrameLink,
     lane: Lane,
@@ -504,7 +504,7 @@ fn deliver_to<O: Outbox, I: Inbox>(
     Applied::Applied
 }
 
-/// The oldest waiting frame of a lane reaches a station; the other lane stays.
+/// Delivers the oldest waiting frame of a lane to a station; the other lane stays.
 fn deliver_at<O: Outbox, I: Inbox>(
     links: &mut FrameLinks,
     lane: Lane,
@@ -519,7 +519,7 @@ fn deliver_at<O: Outbox, I: Inbox>(
     }
 }
 
-/// Whether octets are no frame of a channel since they were damaged.
+/// Returns `true` if octets are no frame of a channel since they were damaged.
 fn comes_damaged(octets: &[u8], channel: &ChannelConfig) -> bool
     ensures { (result ≡ true) ↔ (frame_fault octets.now channel.now ≡ Some Damaged) }
 {
@@ -529,7 +529,7 @@ fn comes_damaged(octets: &[u8], channel: &ChannelConfig) -> bool
     }
 }
 
-/// These octets reach a station in the place of the oldest waiting frame of a lane.
+/// Delivers these octets to a station in the place of the oldest waiting frame of a lane.
 fn damage_to<O: Outbox, I: Inbox>(
     link: &mut FrameLink,
     channel: &ChannelConfig,
@@ -554,8 +554,8 @@ fn damage_to<O: Outbox, I: Inbox>(
     }
 }
 
-/// These octets reach a station in the place of the oldest waiting frame of a lane; the other lane
-/// stays.
+/// Delivers these octets to a station in the place of the oldest waiting frame of a lane; the other
+/// lane stays.
 fn damage_at<O: Outbox, I: Inbox>(
     links: &mut FrameLinks,
     lane: Lane,
@@ -572,7 +572,7 @@ fn damage_at<O: Outbox, I: Inbox>(
     }
 }
 
-/// The oldest waiting frame of a lane is lost.
+/// Strikes the oldest waiting frame of a lane.
 fn strike_lane(link: &mut FrameLink) -> Applied
     ensures { StrikesAt result link.old link.new }
 {
@@ -583,7 +583,7 @@ fn strike_lane(link: &mut FrameLink) -> Applied
     }
 }
 
-/// The oldest waiting frame of a lane is lost; the other lane stays.
+/// Strikes the oldest waiting frame of a lane; the other lane stays.
 fn strike_at(links: &mut FrameLinks, lane: Lane) -> Applied
     ensures { OnLane lane (StrikesAt result) links.old links.new }
 {

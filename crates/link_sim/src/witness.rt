@@ -6,9 +6,9 @@ use cfdp_store::{Inbox, Outbox};
 
 /// One who looks on while events happen in a world, and changes nothing there.
 pub trait Witness: Drop {
-    /// Sees an event, and behind it both stations and all frames that each sent, with their marks;
+    /// Sees an event, and after it both stations and all frames that each sent, with their marks;
     /// what is of the first station stands first. It is called once for each event that was asked
-    /// for, also where that did nothing, was refused or found no memory.
+    /// for, also if that did nothing, was refused or found no memory.
     fn saw<O: Outbox, I: Inbox>(
         &mut self,
         event: &Event,
@@ -16,7 +16,7 @@ pub trait Witness: Drop {
         frames: (&FrameLinks, &FrameLinks),
     );
 
-    /// Hears which step the world's user comes to: events are of it, until it hears of another.
+    /// Receives the step that the world's user comes to: events are of it, until the next one.
     fn comes_to(&mut self, step: usize);
 }
 

@@ -29,9 +29,9 @@ use valid_config::Valid;
 /// A world: two stations of CFDP, class 2, and all frames that each sent to the other, some of them
 /// lost or damaged.
 ///
-/// Whatever happens, a file is published only where its put was heard in full, each inbox is what
-/// the completed puts make of it, no transaction is indicated finished twice, and a sender is told
-/// complete only of a put that the other station completed. The contracts of [`new`](Self::new),
+/// Whatever happens, a file is published only if its put was heard in full, each inbox is what the
+/// completed puts make of it, no transaction is indicated finished twice, and a sender indicates a
+/// put complete only if the other station completed it. The contracts of [`new`](Self::new),
 /// [`apply`](Self::apply) and [`run`] say so.
 ///
 /// Its witness looks on: each event that happens in a call of the world is shown to it.
@@ -57,12 +57,13 @@ impl<O: SteadyOutbox, I: Inbox, W: Witness> Model for World<O, I, W> {
 }
 
 impl<O: SteadyOutbox, I: Inbox, W: Witness> World<O, I, W> {
-    /// Two stations in which nothing happened yet, over these stores: those of the first station
-    /// stand first. The witness sees what happens from then on; `()` is one that looks at nothing.
+    /// Makes two stations in which nothing happened yet, over these stores: the first station's
+    /// stores stand first. The witness sees what happens from then on; `()` is one that looks at
+    /// nothing.
     ///
     /// # Errors
     ///
-    /// `AllocError` only where the memory for a station was refused.
+    /// `AllocError` only if the memory for a station was refused.
     pub fn new(
         alloc: Global,
         config: Valid<WorldConfig>,
@@ -88,96 +89,96 @@ impl<O: SteadyOutbox, I: Inbox, W: Witness> World<O, I, W> {
         Ok(World { stations, witness })
     }
 
-    /// The witness, which the world lets go with all else.
+    /// Returns the witness, and drops the world with all else.
     pub fn into_witness(self) -> W {
         let World { stations, witness } = self;
         drop(stations);
         witness
     }
 
-    /// The puts that were accepted, in order.
+    /// Returns the puts that were accepted, in order.
     pub fn puts(&self) -> &[AcceptedPut]
         ensures { result.now ≡ self.now.puts }
     {
         self.stations.puts.as_slice()
     }
 
-    /// How often a station was told the time. The count stays at the greatest `u64`.
+    /// Returns how often a station was given the time. The count stays at the greatest `u64`.
     pub fn ticks(&self) -> u64
         ensures { result ≡ self.now.ticks }
     {
         self.stations.ticks
     }
 
-    /// What a station told its user, in order. A world lets go of nothing.
+    /// Returns what a station indicated to its user, in order. A world discards nothing.
     pub fn indications(&self, side: Side) -> &[Indication]
         ensures { result.now ≡ (entity_at side self.now).table.told }
     {
         self.stations.station(side).indications()
     }
 
-    /// The outbox of a station, lent.
+    /// Returns the outbox of a station, borrowed.
     pub fn outbox(&self, side: Side) -> &O
         ensures { O.files result.now ≡ (entity_at side self.now).table.sources }
     {
         self.stations.station(side).outbox()
     }
 
-    /// The inbox of a station, lent.
+    /// Returns the inbox of a station, borrowed.
     pub fn inbox(&self, side: Side) -> &I
         ensures { I.published result.now ≡ (entity_at side self.now).table.files }
     {
         self.stations.station(side).inbox()
     }
 
-    /// A station, lent.
+    /// Returns a station, borrowed.
     pub fn station(&self, side: Side) -> &Station<O, I>
         ensures { result.now ≡ station_at side self.now }
     {
         self.stations.station(side)
     }
 
-    /// The frames that a station sent, in both lanes, with their marks, lent.
+    /// Returns the frames that a station sent, in both lanes, with their marks, borrowed.
     pub fn frames(&self, side: Side) -> &FrameLinks
         ensures { seen_links result.now ≡ link_from side self.now }
     {
         self.stations.frames(side)
     }
 
-    /// Lets one thing happen, and says what it did.
+    /// Lets one thing happen, and returns what it did.
     ///
     /// # Errors
     ///
-    /// `AllocError` only where the memory for it was refused: nothing happened then. The arrival,
-    /// the loss and the damage of a frame need none.
+    /// `AllocError` only if the memory for it was refused: nothing happened then. The arrival, the
+    /// loss and the damage of a frame need none.
     pub fn apply(&mut self, event: &Event) -> Result<Applied, AllocError>
         // The event did what it does and nothing else, or nothing happened; the promises hold, and
-        // a clean world stays clean where nothing went wrong.
+        // a clean world stays clean if nothing went wrong.
         ensures { Applies event.now result self.old self.new }
     {
         self.happen(event)
     }
 
-    /// Tells the witness which step the user of the world comes to.
+    /// Informs the witness which step the user of the world comes to.
     pub fn comes_to(&mut self, step: usize)
         ensures { self.new ≡ self.old }
     {
         self.witness.comes_to(step);
     }
 
-    /// As `apply`, for calls here that rest on more than it promises.
+    /// Does what `apply` does, for calls here that rest on more than it promises.
     pub(crate) fn happen(&mut self, event: &Event) -> Result<Applied, AllocError>
         ensures applies { Applies event.now result self.old self.new }
         // A poll, a flush and a delivery that did something lower what may still be done.
         ensures less { IsOfSettling event.now → IfOk result (λ did. did ≡ dids.Applied
             → world_work self.new < world_work self.old) }
-        // Where a station found no room for a PDU, its table is full.
+        // If a station found no room for a PDU, its table is full.
         ensures full { DropsWhereFull self.old self.new }
-        // Where nothing was short in it, each transaction made a run of its own.
+        // If nothing was short in it, each transaction made a run of its own.
         ensures runs { IsOfSettling event.now → IfOk result (λ did. did ≡ dids.Applied
             → KeepsAll (all_shortages self.old) (all_shortages self.new)
             → RunsAlong self.old self.new) }
-        // Where the time is told, timers expire that were waited for, and puts stay.
+        // If the time is given, timers expire that were waited for, and puts stay.
         ensures tells { (side : Side) (now : ℕ) → event.now ≡ events.Tick side now
             → IfOk result (λ did. ExpiresOn side now self.old self.new
             × KeepsPutsOf self.old self.new) }
@@ -215,7 +216,7 @@ pub fn run<O: SteadyOutbox, I: Inbox>(
     events: &[Event],
 ) -> Result<World<O, I>, AllocError>
     // Each inbox is its first files, overwritten in order of the completions there by the files of
-    // the puts that they name; finished once, heard in full, told truly and sent truly.
+    // the puts that they name; finished once, heard in full, indicated truly and sent truly.
     ensures promised { IfOk result
         (KeepsPromises (I.published inboxes.0, I.published inboxes.1)) }
     // From a first world each of the events happened, in order, and nothing else.

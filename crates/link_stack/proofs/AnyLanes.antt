@@ -167,7 +167,7 @@ gives_sent link u new last d old out valid is of tell r =
       sent = t.sent;
     }
 
--- where nothing is known any more of the last frame of a lane
+-- if nothing is known any more of the last frame of a lane
 abbrev forget_of : (lane its : Lane) → Option Delivery → Option Delivery
 forget_of Directives Directives last = None
 forget_of Data Data last = None
@@ -200,7 +200,7 @@ gives_none link u new last octets old out is stray r =
     ]
 
 -- ---- one after another
--- less is asked where less is known of the last frames
+-- less is required if less is known of the last frames
 known_less : (d : Delivery) (now last : Option Delivery) → (now ≡ last) ⊎ (now ≡ None) → IfSome last (λ b. CountsTell b d) → IfSome now (λ b. CountsTell b d)
 known_less d now last (inl same) tell = subst (λ (o : Option Delivery). IfSome o (λ b. CountsTell b d)) (sym same) tell
 known_less d now last (inr none) tell = subst (λ (o : Option Delivery). IfSome o (λ b. CountsTell b d)) (sym none) tt
@@ -226,7 +226,7 @@ contains_head a xs = (0, omega arith, refl)
 contains_tail : {A : Type 0} (a : A) (xs : List A) (x : A) → Contains xs x → Contains (a ∷ xs) x
 contains_tail a xs x (k, lt, is) = (suc k, omega arith, is)
 
--- what came of a frame, or of one behind it
+-- what came of a frame, or of one after it
 comes_first : (d : Delivery) (came : List Arrival) (old mid new given : List (List ℕ)) → mid ≡ old ++ given → IsPartOf given (pdus_in (busy d.packets)) → ComesOf came mid new →
     ComesOf (OfStream d ∷ came) old new
 comes_first d came old mid new given one sent more =

@@ -44,7 +44,7 @@ no_fault link h text s =
       eq-eqb (field text 10 6) link.virtual_channel (s.virtual_channel ∙ s.our_channel),
     ) refl
 
--- what a header that is spelled tells of its count
+-- what a header that is spelled says of its count
 pub seen_is : (link : ChannelConfig) (h : FrameHeader) (text : List ℕ) → SpellsFrame link h text → seen_in text ≡ record { count = h.count; cycle = h.cycle }
 seen_is link h text s =
     let seen : ℕ → Bool → SeenCount = λ (n : ℕ) (b : Bool). record { count = n; cycle = b } in

@@ -44,7 +44,8 @@ made_more link ps [] n frame is = subst (λ l. IsMadeAt link l n frame) (sym (ap
 made_more link ps (q ∷ qs) n frame is =
     subst (λ l. IsMadeAt link l n frame) (append_assoc ps (q ∷ []) qs) (made_more link (ps ++ q ∷ []) qs n frame (made_push link ps q n frame is))
 
--- Its stream is these packets, which carry the PDUs put in; and these frames were made of it, from this number on.
+-- Its stream is these packets, which carry the PDUs put in; and these frames were made of it, from
+-- this number on.
 pub record IsStreamSo (link : ChannelConfig) (first : ℕ) (d : LinkSenderState) (ps puts frames : List (List ℕ)) : Type 0 where
   pub same_link : d.link ≡ link
   pub down : IsDown d ps (first + length frames)
@@ -248,7 +249,7 @@ are_arrivals link first calls streams (Copy lane place ∷ came) s are =
     )
 are_arrivals link first calls streams (Noise octets ∷ came) s are = (are.0, are_arrivals link first calls streams came s are.1)
 
--- the counts tell of two copies that are near
+-- the counts show of two copies that are near whether one follows the other
 copies_tell : (link : LinkConfig) (first : ℕ) (calls : List DownCall) (streams : Lane → List (List ℕ)) (lane : Lane) (m n : ℕ) → AreStreams link first calls streams → m < length (made_of lane calls) →
     n < length (made_of lane calls) → IsWithinCounts true m n → CountsTell (copy first calls streams lane m) (copy first calls streams lane n)
 copies_tell link first calls streams lane m n s hm hn near =
@@ -263,7 +264,7 @@ abbrev last_copy : ℕ → List DownCall → (Lane → List (List ℕ)) → Lane
 last_copy first calls streams lane None = None
 last_copy first calls streams lane (Some m) = Some (copy first calls streams lane m)
 
--- each is told by the last of its lane
+-- each is known by the last of its lane
 next_tells : (link : LinkConfig) (first : ℕ) (calls : List DownCall) (streams : Lane → List (List ℕ)) (lane : Lane) (last : Option ℕ) (n : ℕ) (ns : List ℕ) → AreStreams link first calls streams →
     n < length (made_of lane calls) → IfSome last (λ m. m < length (made_of lane calls)) → AreNear last (n ∷ ns) →
     IfSome (last_copy first calls streams lane last) (λ b. CountsTell b (copy first calls streams lane n)) × AreNear (Some n) ns

@@ -1,4 +1,4 @@
--- From the calls of sending ends that are made anew to what comes up at the other end.
+-- From the calls of sending ends that are made again and again to what comes up at the other end.
 use Rattle.std.proofs.Common.{◌≡◌, ℕ, zero, suc, ◌+◌, ◌<◌, true, Option, Some, None, IfSome, List, [], ◌∷◌, ◌⊎◌, length, map, slice_index_or, refl, sym, ap, subst, ◌∙◌, inl, inr, arith}
 use Rattle.std.specs.List.{Contains}
 use Rattle.std.proofs.lemmas.Bool.{cases_lt}
@@ -59,7 +59,7 @@ are_arrivals link lives streams (CopyOf life lane place ∷ came) s are =
     )
 are_arrivals link lives streams (NoiseOf octets ∷ came) s are = (are.0, are_arrivals link lives streams came s are.1)
 
--- a frame that was made: which of them made it, and at which place
+-- a frame that was made: which of them made it, and at which index
 record Made (lives : List Life) (lane : Lane) (life place : ℕ) : Type 0 where
   pub one : life < length lives
   pub there : place < length (made_in lane (life_at lives life))
@@ -80,7 +80,7 @@ same_life lives lane j m k n apart before after next = elim (cases_lt j k) [
   ]
 ]
 
--- the counts tell of two copies that are near
+-- the counts show of two copies that are near whether one follows the other
 copies_tell : (link : LinkConfig) (lives : List Life) (streams : Streams) (lane : Lane) (j m k n : ℕ) → AreAll link lives streams → AreApart lives → Made lives lane j m → Made lives lane k n →
     IsWithinCounts true ((life_at lives j).first + m) ((life_at lives k).first + n) → CountsTell (copy lives streams j lane m) (copy lives streams k lane n)
 copies_tell link lives streams lane j m k n s apart before after near =
@@ -91,7 +91,7 @@ copies_tell link lives streams lane j m k n s apart before after near =
       apart = λ next. ap (λ i. streams i lane) (same_life lives lane j m k n apart before after next);
     })
 
--- the last one of a lane: which of them made it, and at which place
+-- the last one of a lane: which of them made it, and at which index
 abbrev Last : Type 0
 Last = Option (ℕ × ℕ)
 

@@ -1,4 +1,4 @@
--- Frames by their numbers: what the counts tell, and packets sent later.
+-- Frames by their numbers: what the counts show, and packets sent later.
 use Rattle.std.proofs.Common.{◌≡◌, ℕ, ◌+◌, ◌*◌, ◌%◌, ◌<◌, ◌≤◌, max, Bool, true, false, Some, List, [], ◌∷◌, length, refl, sym, ap, ◌∙◌, arith, length-append}
 use Rattle.std.proofs.lemmas.Bool.{eq-eqb, eqb-true}
 use Rattle.aos_frame.specs.Counts.{frame_counts, counts_of, compared, follows, with_cycle}
@@ -11,7 +11,7 @@ use Rattle.link_stack.specs.Upward.{LinkReceiverState}
 use Rattle.link_stack.specs.AnyOrder.{Delivery, IsFrameOf, IsLeftBy, CountsTell, AreCounted, grown}
 use Rattle.link_stack.specs.EndToEnd.{AreNear, AreInWindow}
 
--- ---- what the counts tell
+-- ---- what the counts show
 told_next : (all a b : Bool) (l t n m : ℕ) → (all ≡ true → a ≡ true) → (all ≡ true → b ≡ true) → l ≡ n % counts_of a → t ≡ m % counts_of b → m ≤ n + counts_of all → n + 1 < m + counts_of all →
     (l + 1) % compared a b ≡ t % compared a b → m ≡ n + 1
 told_next true true true l t n m f g e k front behind same = omega arith

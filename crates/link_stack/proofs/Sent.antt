@@ -49,7 +49,7 @@ written_frame link ps made count pointer headers body counted written zo =
     ap (λ n. pointer_octets n ++ body) zo.pointed ∙ ap (λ l. pointer_octets (first_header_pointer link.zone (made * link.zone) 0 ps) ++ l) zo.cut_out in
     ap (λ l. l ++ body) written ∙ append_assoc (h count) (pointer_octets pointer) body ∙ ap (λ n. h n ++ (pointer_octets pointer ++ body)) counted ∙ ap (λ l. h (made % frame_counts) ++ l) same
 
--- a bare frame that stands in a frame of the channel, its M_PDU behind the insert zone
+-- a bare frame where it stands in a frame of the channel, its M_PDU after the insert zone
 pub bare_at : (fields : FrameFields) (h a m b : List ℕ) → length h ≡ 6 → length a ≡ fields.insert_zone → length m + 6 + extra fields ≡ length (h ++ (a ++ (m ++ b))) →
     bare_in fields (h ++ (a ++ (m ++ b))) ≡ h ++ m
 bare_at fields h a m b lh la lm =

@@ -46,7 +46,7 @@ unpacked_one link initial first counts packets next place then now after q left 
           ∙ ap (λ l. all_counted now (drops_of link l)) (sym here) ∙ is.drops;
     }
 
--- what stands at a place
+-- what stands at an index
 pub found_at : {A : Type 0} (xs left : List A) (place : ℕ) (d q : A) → drop place xs ≡ q ∷ left → slice_index_or xs place d ≡ q
 found_at [] left zero d q e = absurd cc
 found_at [] left (suc place) d q e = absurd cc
@@ -73,7 +73,7 @@ replaced [] left (suc place) q b e = absurd cc
 replaced (x ∷ xs) left zero q b e = (cc, refl)
 replaced (x ∷ xs) left (suc place) q b e = let r = replaced xs left place q b e in (r.0, ap (λ l. x ∷ l) r.1)
 
--- what stands at a place has a header
+-- what stands at an index has a header
 pub long_there : (packets : List (List ℕ)) (place : ℕ) (p : List ℕ) → place < length packets → AreLong (drop place packets) → p ≡ slice_index_or packets place [] → 6 ≤ length p
 long_there packets place p h long same =
     let all : AreLong (slice_index_or packets place [] ∷ drop (suc place) packets) = subst AreLong (at_place packets place [] h) long in

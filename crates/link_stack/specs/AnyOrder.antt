@@ -31,34 +31,34 @@ pub record IsFrameOf (link : ChannelConfig) (d : Delivery) : Type 0 where
   pub zoned : ZoneOf d.packets d.number link.zone (pointer_of (mpdu_in link d.octets))
       (zone_in link d.octets)
 
--- No packet can come of these octets: they are no frame of the channel, or it tells that it has
--- idle data only.
+-- No packet can come of these octets: they are no frame of the channel, or they have idle data
+-- only.
 abbrev pub IsStray : ChannelConfig → List ℕ → Type 0
 IsStray link octets = (frame_fault octets link ≢ None) ⊎ (pointer_of (mpdu_in link octets) ≡ 2046)
 
--- ---- what the counts tell
--- If the count of the second frame follows that of the first, the second is the frame behind the
--- first one in the same stream.
+-- ---- what the counts show
+-- If the count of the second frame follows the count of the first, the second is the frame after
+-- the first one in the same stream.
 abbrev pub CountsTell : (before after : Delivery) → Type 0
 CountsTell before after =
     follows (Some (seen_in before.octets)) (seen_in after.octets) ≡ true →
     (after.packets ≡ before.packets) × (after.number ≡ before.number + 1)
 
--- Of two numbers the second is at most as far in front of the first as there are counts, and less
--- than that less one behind it.
+-- Of two numbers the second is greater by at most as many as there are counts, or smaller by less
+-- than that less one.
 pub record IsWithinCounts (all : Bool) (before after : ℕ) : Type 0 where
   pub in_front : after ≤ before + counts_of all
   pub behind : before + 1 < after + counts_of all
 
 -- Both frames have the counts of their numbers, which are within the counts; and no frame of one
--- stream has the number behind one of another.
+-- stream has the number after one of another.
 pub record AreCounted (all : Bool) (before after : Delivery) : Type 0 where
   pub first : CountsFrame all before.number (seen_in before.octets)
   pub second : CountsFrame all after.number (seen_in after.octets)
   pub within : IsWithinCounts all before.number after.number
   pub apart : after.number ≡ before.number + 1 → after.packets ≡ before.packets
 
--- the same frame, where one packet more is in the stream
+-- the same frame, if one more packet is in the stream
 abbrev pub grown : List ℕ → Delivery → Delivery
 grown packet d = record d { packets = d.packets ++ packet ∷ [] }
 
@@ -75,8 +75,8 @@ abbrev pub IsLeft : LinkReceiverState → Option Delivery → Type 0
 IsLeft up None = up.begun ≡ []
 IsLeft up (Some d) = IsLeftBy up d
 
--- What a lane does with a frame of a stream: it appends, in order, what some of the packets carry
--- that are not idle, and is left so.
+-- What a lane does with a frame of a stream: it appends, in order, what some of the packets that
+-- are not idle carry, and is left so.
 pub record TakesAny (up new : LinkReceiverState) (d : Delivery) (old out : List (List ℕ))
     : Type 0 where
   pub link : new.link ≡ up.link
@@ -122,7 +122,7 @@ pub record Receives (frame : List ℕ) (old new : UpState) (before after : List 
   pub lane : (lane : Lane) → 2 ≤ length frame →
       field frame 10 6 ≡ (lane_up lane old).link.virtual_channel → lane_of old frame ≡ lane
 
--- A frame of a stream gives, in order, what some of the packets carry that are not idle.
+-- A frame of a stream gives, in order, what some of the packets that are not idle carry.
 pub record GivesSent (link : LinkConfig) (new : UpState) (last : Lane → Option Delivery)
     (d : Delivery) (before after : List (List ℕ)) : Type 0 where
   pub left : AreLeft link new (now_last d last)
@@ -155,7 +155,7 @@ AreArrivals link (OfStream d ∷ came) =
 AreArrivals link (Stray octets ∷ came) =
     ((lane : Lane) → IsStray (lane_channel lane link) octets) × AreArrivals link came
 
--- Of each frame of a stream the counts tell whether it follows the last one of its lane.
+-- The counts say of each frame of a stream whether it follows the last one of its lane.
 abbrev pub CountsTellAll : (Lane → Option Delivery) → List Arrival → Type 0
 CountsTellAll last [] = Unit {0}
 CountsTellAll last (OfStream d ∷ came) =
@@ -170,7 +170,7 @@ ReceivesAll (frame ∷ frames) old new before after =
     (mid : UpState) × (between : List (List ℕ))
     × Receives frame old mid before between × ReceivesAll frames mid new between after
 
--- These were appended, and each of them is what a packet carries that is not idle, of the stream of
+-- These were appended, and each of them is what a packet that is not idle carries, of the stream of
 -- one of these frames.
 pub record ComesOf (came : List Arrival) (before after : List (List ℕ)) : Type 0 where
   pub given : List (List ℕ)

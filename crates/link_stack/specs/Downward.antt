@@ -12,9 +12,9 @@ use Rattle.mpdu.specs.Packing.{PackerState, IsAt, flush_of, idle_packet}
 use Rattle.mpdu.specs.Stream.{stream}
 use Rattle.link_stack.specs.Frames.{AreOfLink, frame_of, packet_of, pdus_in, zone_in}
 
--- A lane of a sending end: its channel of the link; the most octets of packets that may wait,
--- those that do, the place among them where the next packet starts or will, and whether a flush's
--- packet came last; the count of the next frame; and what its operational control field says.
+-- A lane of a sending end: its channel of the link; the most octets of packets that may wait, the
+-- octets that do, the index among them at which the next packet starts or will, and whether a
+-- flush's packet came last; the count of the next frame; and its operational control field.
 pub record LinkSenderState : Type 0 where
   pub link : ChannelConfig
   pub capacity : ℕ
@@ -35,8 +35,8 @@ packing d = record {
   flushed = d.flushed;
 }
 
--- the octets of the longest PDU for which there is room, 0 where there is none: a packet has 6
--- octets more
+-- the octets of the longest PDU for which there is room, 0 if there is none: a packet has 6 more
+-- octets
 abbrev pub room : LinkSenderState → ℕ
 room d = d.capacity - length d.waiting - 6
 
@@ -53,7 +53,7 @@ IsFixed old new =
     (new.link ≡ old.link) × (new.capacity ≡ old.capacity) × (new.frame_count ≡ old.frame_count)
     × (new.control ≡ old.control)
 
--- The stream is longer by one packet, that of this PDU, with this count.
+-- The stream is longer by one packet, which has this PDU and this count.
 pub record SendsPdu (pdu : List ℕ) (count : ℕ) (old new : LinkSenderState) : Type 0 where
   pub sends : (ps : List (List ℕ)) (made : ℕ) → IsDown old ps made →
       IsDown new (ps ++ packet_of old.link count pdu ∷ []) made
@@ -79,7 +79,7 @@ pub record Flushes (old new : LinkSenderState) : Type 0 where
 abbrev pub sealed_frame : LinkSenderState → List (List ℕ) → ℕ → List ℕ
 sealed_frame d ps n = sealed d.link.fields (frame_of d.link ps n) d.control
 
--- The oldest whole zone became a bare frame: of a stream, its next one behind those made.
+-- The oldest whole zone became a bare frame: of a stream, its next one after the frames made.
 pub record MakesBare (bare : List ℕ) (old new : LinkSenderState) : Type 0 where
   pub long : length bare ≡ 8 + old.link.zone
   pub stream : (ps : List (List ℕ)) (made : ℕ) → IsDown old ps made →
@@ -90,7 +90,7 @@ pub record MakesBare (bare : List ℕ) (old new : LinkSenderState) : Type 0 wher
   pub fixed : (new.link ≡ old.link) × (new.capacity ≡ old.capacity)
       × (new.flushed ≡ old.flushed) × (new.control ≡ old.control)
 
--- The oldest whole zone became a frame: of a stream, its next one behind those made, with the
+-- The oldest whole zone became a frame: of a stream, its next one after the frames made, with the
 -- fields of the channel.
 pub record MakesFrame (frame : List ℕ) (old new : LinkSenderState) : Type 0 where
   pub is_next : (ps : List (List ℕ)) (made : ℕ) → IsDown old ps made →
@@ -131,7 +131,7 @@ IsBounded d =
     (length d.directives.waiting ≤ d.directives.capacity + 2047)
     × (length d.file_data.waiting ≤ d.file_data.capacity + 2047)
 
--- a lane that sent nothing, where so many octets of packets may wait
+-- a lane that sent nothing, if so many octets of packets may wait
 abbrev pub first_lane_down : ChannelConfig → ℕ → LinkSenderState
 first_lane_down link capacity = record {
   link = link;
@@ -151,7 +151,7 @@ first_down link capacity = record {
   packet_count = 0;
 }
 
--- whether a whole zone waits in a lane
+-- true if a whole zone waits in a lane
 abbrev pub has_whole : LinkSenderState → Bool
 has_whole d = nat_le d.link.zone (length d.waiting)
 

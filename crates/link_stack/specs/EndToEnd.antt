@@ -1,4 +1,4 @@
--- From the PDUs that are put into a sending end to those that come up at the other one.
+-- From the PDUs that are put into a sending end to the PDUs that come up at the other one.
 use Rattle.std.specs.Prelude.{◌≡◌, ℕ, ◌+◌, ◌<◌, ◌≤◌, max, true, List, [], ◌∷◌, ◌++◌, length, Option, Some, None, Contains, slice_index_or}
 use Rattle.aos_frame.specs.Frame.{lane_channel, other_lane}
 use Rattle.aos_frame.specs.declared.config.LinkConfig.{LinkConfig}
@@ -49,8 +49,8 @@ abbrev pub made_of : Lane → List DownCall → List (List ℕ)
 made_of lane [] = []
 made_of lane (call ∷ calls) = made_by lane call ++ made_of lane calls
 
--- What comes at the other end: the frame at this place of those that were made of a lane, from 0;
--- or octets of which no packet can come.
+-- What comes at the other end: the frame at this index of the frames that were made of a lane, from
+-- 0; or octets of which no packet can come.
 pub data Coming : Type 0 where
   Copy : Lane → ℕ → Coming
   Noise : List ℕ → Coming
@@ -59,7 +59,7 @@ abbrev pub coming_octets : List DownCall → Coming → List ℕ
 coming_octets calls (Copy lane place) = slice_index_or (made_of lane calls) place []
 coming_octets calls (Noise octets) = octets
 
--- Each place is one of a frame that was made.
+-- Each index is one of a frame that was made.
 abbrev pub AreComing : LinkConfig → List DownCall → List Coming → Type 0
 AreComing link calls [] = Unit {0}
 AreComing link calls (Copy lane place ∷ came) =
@@ -67,7 +67,7 @@ AreComing link calls (Copy lane place ∷ came) =
 AreComing link calls (Noise octets ∷ came) =
     ((lane : Lane) → IsStray (lane_channel lane link) octets) × AreComing link calls came
 
--- the places of the frames of a lane among them
+-- the indices of the frames of a lane among them
 abbrev pub keep_place : (lane its : Lane) → ℕ → List ℕ → List ℕ
 keep_place Directives Directives place places = place ∷ places
 keep_place Data Data place places = place ∷ places
@@ -78,14 +78,14 @@ places_of lane [] = []
 places_of lane (Copy its place ∷ came) = keep_place lane its place (places_of lane came)
 places_of lane (Noise octets ∷ came) = places_of lane came
 
--- Of any two of which one comes right behind the other, or the last one before, they are within the
--- counts of 28 bits.
+-- Each number is within the counts of 28 bits of the number right before it; the first, of the last
+-- one before all, if there is one.
 abbrev pub AreNear : Option ℕ → List ℕ → Type 0
 AreNear last [] = Unit {0}
 AreNear None (n ∷ ns) = AreNear (Some n) ns
 AreNear (Some before) (n ∷ ns) = IsWithinCounts true before n × AreNear (Some n) ns
 
--- Each is less than `late` behind the greatest one before it, and at most `ahead` in front of that.
+-- Each is less than `late` after the greatest one before it, and at most `ahead` before that.
 abbrev pub AreInWindow : (late ahead newest : ℕ) → List ℕ → Type 0
 AreInWindow late ahead newest [] = Unit {0}
 AreInWindow late ahead newest (n ∷ ns) =

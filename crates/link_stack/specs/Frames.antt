@@ -27,7 +27,7 @@ carrying link count pdu = record {
 abbrev pub packet_of : ChannelConfig → ℕ → List ℕ → List ℕ
 packet_of link count pdu = packet_octets (carrying link count pdu)
 
--- why a whole packet that isn't idle carries no PDU of the link, or none
+-- why a whole packet that isn't idle carries no PDU of the link, or none if it does
 unfoldable pub packet_drop : ChannelConfig → List ℕ → Option LinkDrop
 packet_drop link packet =
     if not (apid_field packet == link.apid) then Some OtherApid
@@ -36,15 +36,15 @@ packet_drop link packet =
     else None
 
 -- the M_PDU of a frame of the channel: what stands between its header, with the insert zone, and
--- the fields behind
+-- the fields after it
 abbrev pub mpdu_in : ChannelConfig → List ℕ → List ℕ
 mpdu_in link frame = of_fields.mpdu_in link.fields frame
 
--- its packet zone, which stands behind the M_PDU header
+-- its packet zone, which stands after the M_PDU header
 abbrev pub zone_in : ChannelConfig → List ℕ → List ℕ
 zone_in link frame = drop 2 (mpdu_in link frame)
 
--- the PDUs that packets carry: what stands behind their headers
+-- the PDUs that packets carry: what stands after their headers
 abbrev pub pdus_in : List (List ℕ) → List (List ℕ)
 pdus_in ps = map (λ p. drop 6 p) ps
 

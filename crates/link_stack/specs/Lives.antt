@@ -1,5 +1,5 @@
--- A sending end that is made anew, again and again, as the station is that has it, and what comes up
--- at the other end of the frames of all of them.
+-- A sending end that is made again and again, as its station is, and what comes up at the other end
+-- of the frames of all of them.
 use Rattle.std.specs.Prelude.{◌≡◌, ℕ, ◌+◌, ◌<◌, List, [], ◌∷◌, ◌++◌, length, Contains, slice_index_or}
 use Rattle.aos_frame.specs.Frame.{lane_channel}
 use Rattle.aos_frame.specs.declared.config.LinkConfig.{LinkConfig}
@@ -31,8 +31,8 @@ abbrev pub AreApart : List Life → Type 0
 AreApart lives = (lane : Lane) (j k : ℕ) → j < k → k < length lives →
     (life_at lives j).first + length (made_in lane (life_at lives j)) < (life_at lives k).first
 
--- What comes: a copy of the frame at this place of those that one of them made of a lane; or octets
--- of which no packet can come.
+-- What comes: a copy of the frame at this index of the frames that one of them made of a lane; or
+-- octets of which no packet can come.
 pub data ComingOf : Type 0 where
   CopyOf : (life : ℕ) → Lane → (place : ℕ) → ComingOf
   NoiseOf : List ℕ → ComingOf

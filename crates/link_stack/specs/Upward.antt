@@ -31,7 +31,7 @@ pub record LinkReceiverState : Type 0 where
   pub drops : List ℕ
   pub control : Option ℕ
 
--- the PDUs of those packets that carry one of the link
+-- the PDUs of the packets that carry one of the link
 abbrev pub with_pdu : Option LinkDrop → List ℕ → List (List ℕ) → List (List ℕ)
 with_pdu None packet pdus = drop 6 packet ∷ pdus
 with_pdu (Some cause) packet pdus = pdus
@@ -49,18 +49,18 @@ abbrev pub drops_of : ChannelConfig → List (List ℕ) → List LinkDrop
 drops_of link [] = []
 drops_of link (p ∷ ps) = with_drop (packet_drop link p) (drops_of link ps)
 
--- each has a whole header at least
+-- each must have a whole header at least
 abbrev pub AreLong : List (List ℕ) → Type 0
 AreLong [] = Unit {0}
 AreLong (p ∷ ps) = (6 ≤ length p) × AreLong ps
 
--- what a zone tells: at most one Resync, and a BadPacket for each bad header
+-- what is dropped of a zone: at most one Resync, and a BadPacket for each bad header
 abbrev pub zone_drops : Bool → ℕ → List LinkDrop
 zone_drops true bad = Resync ∷ replicate bad BadPacket
 zone_drops false bad = replicate bad BadPacket
 
 -- What a frame is read as: the count seen last and what is held of a begun packet after it, the
--- whole packets that aren't idle, and what is told of the frame and its zone.
+-- whole packets that aren't idle, and what is reported of the frame and its zone.
 pub record FrameRead : Type 0 where
   pub last : Option SeenCount
   pub begun : List ℕ
@@ -82,14 +82,14 @@ packets_read last begun follows at zone =
           (bad_count (length zone) (held_at follows begun) at zone);
     }
 
--- an M_PDU, behind the count of its frame; the pointer 2046 tells of idle data only (CCSDS
+-- an M_PDU, after the count of its frame; if the pointer is 2046, it has idle data only (CCSDS
 -- 732.0-B-4, 4.1.4.2.3)
 abbrev pub mpdu_read : LinkReceiverState → SeenCount → List ℕ → FrameRead
 mpdu_read up seen mpdu =
     if pointer_of mpdu == 2046 then idle_read seen
     else packets_read (Some seen) up.begun (follows up.last seen) (pointer_of mpdu) (drop 2 mpdu)
 
--- A frame of another link, or none, changes nothing but the count of its cause.
+-- A frame of another link, or none, changes only the count of its cause.
 abbrev pub read_unless : Option FrameError → LinkReceiverState → List ℕ → FrameRead
 read_unless (Some error) up frame = record {
   last = up.last;
@@ -103,8 +103,8 @@ read_unless None up frame = mpdu_read up (seen_in frame) (mpdu_in up.link frame)
 abbrev pub frame_read : LinkReceiverState → List ℕ → FrameRead
 frame_read up frame = read_unless (frame_fault frame up.link) up frame
 
--- the operational control field that came last, once a frame came: that of the frame, where it is
--- one of the channel
+-- the operational control field that came last, once a frame came: the frame's, if it is one of the
+-- channel
 abbrev pub control_unless : Option FrameError → LinkReceiverState → List ℕ → Option ℕ
 control_unless (Some error) up frame = up.control
 control_unless None up frame = control_in up.link.fields frame
@@ -112,7 +112,7 @@ control_unless None up frame = control_in up.link.fields frame
 abbrev pub control_after : LinkReceiverState → List ℕ → Option ℕ
 control_after up frame = control_unless (frame_fault frame up.link) up frame
 
--- The frame has a zone to read: it is one of the link, and its pointer doesn't tell of idle data.
+-- The frame has a zone to read: it is one of the link, and its pointer isn't the one of idle data.
 pub record HasZone (link : ChannelConfig) (frame : List ℕ) : Type 0 where
   pub of_link : frame_fault frame link ≡ None
   pub not_idle : (pointer_of (mpdu_in link frame) == 2046) ≡ false
@@ -128,8 +128,7 @@ pub record Takes (read : FrameRead) (up new : LinkReceiverState)
   pub pdus : out ≡ old ++ pdus_of up.link read.packets
 
 -- A front of it was taken, and nothing is held: there was no memory to hand out a packet that the
--- zone
--- completes, and NoMemory was counted in the place of what the zone tells.
+-- zone completes, and NoMemory was counted in place of the zone's drops.
 pub record TakesFront (read : FrameRead) (up new : LinkReceiverState)
     (old out : List (List ℕ)) : Type 0 where
   pub link : new.link ≡ up.link
@@ -142,9 +141,9 @@ pub record TakesFront (read : FrameRead) (up new : LinkReceiverState)
   pub pdus : out ≡ old ++ pdus_of up.link (take count read.packets)
 
 -- The receiving end is in the state in which the delivered frames of this stream leave it. The
--- marks
--- say which frames were delivered; the last `missed` were lost, fewer than the counts tell apart:
--- than 2^28 where all frames of the stream have the usage flag of the count cycle, else than 2^24.
+-- marks say which frames were delivered; the last `missed` were lost, which must be fewer than the
+-- counts: than 2^28 if all frames of the stream have the usage flag of the count cycle, otherwise
+-- than 2^24.
 pub record IsUpOf (all : Bool) (up : LinkReceiverState) (ps : List (List ℕ)) (marks : List Bool)
     (missed : ℕ) : Type 0 where
   pub packets_whole : ArePackets ps
@@ -160,14 +159,14 @@ pub record IsUpOf (all : Bool) (up : LinkReceiverState) (ps : List (List ℕ)) (
 abbrev pub IsUp : LinkReceiverState → List (List ℕ) → List Bool → ℕ → Type 0
 IsUp up ps marks missed = IsUpOf true up ps marks missed
 
--- The frame behind the marked ones of the packets' stream, as a sending end makes it.
+-- The frame after the marked ones of the packets' stream, as a sending end makes it.
 pub record IsNextFrame (link : ChannelConfig) (ps : List (List ℕ)) (marks : List Bool)
     (frame : List ℕ) : Type 0 where
   pub inside : length marks * link.zone + link.zone ≤ length (stream ps)
   pub sealed : IsSealed link ps (length marks) frame
 
--- The frame behind the marked ones, whoever makes it: a frame of the link with that count and that
--- zone. Where not all frames of the stream have the flag, it may have it or not.
+-- The frame after the marked ones, whoever makes it: a frame of the link with that count and that
+-- zone. If not all frames of the stream have the flag, it may have it or not.
 pub record IsNextFrameOf (all : Bool) (link : ChannelConfig) (ps : List (List ℕ)) (marks : List Bool)
     (frame : List ℕ) : Type 0 where
   pub of_link : frame_fault frame link ≡ None
@@ -176,7 +175,7 @@ pub record IsNextFrameOf (all : Bool) (link : ChannelConfig) (ps : List (List �
       (zone_in link frame)
 
 -- It was taken whole: appended are the PDUs of the survivors that it completes. Nothing is dropped
--- but a begun packet, where a frame was missed.
+-- except a begun packet, if a frame was missed.
 pub record TakesNextOf (all : Bool) (up new : LinkReceiverState) (ps : List (List ℕ))
     (marks : List Bool) (missed : ℕ) (old out : List (List ℕ)) : Type 0 where
   pub after : IsUpOf all new ps (marks ++ true ∷ []) 0
@@ -193,9 +192,8 @@ abbrev pub TakesNext : LinkReceiverState → LinkReceiverState → List (List �
     List (List ℕ) → List (List ℕ) → Type 0
 TakesNext up new ps marks missed old out = TakesNextOf true up new ps marks missed old out
 
--- A front of those PDUs was appended, since there was no memory for one of them, and the end is as
--- if
--- the frame had been struck.
+-- A front of these PDUs was appended, since there was no memory for one of them, and the end is as
+-- if the frame had been struck.
 pub record TakesNextFrontOf (all : Bool) (up new : LinkReceiverState) (ps : List (List ℕ))
     (marks : List Bool) (old out : List (List ℕ)) : Type 0 where
   pub after : IsUpOf all new ps (marks ++ false ∷ []) 0
@@ -239,28 +237,28 @@ first_up link = record {
   file_data = first_lane_up (lane_channel Data link);
 }
 
--- the lane that takes a frame: that of its virtual channel. What is of neither, or no frame, goes
--- to the lane of directives, which drops and counts it.
+-- the lane that takes a frame: the lane of its virtual channel. If it is of neither, or no frame,
+-- it goes to the lane of directives, which drops and counts it.
 abbrev pub lane_of : UpState → List ℕ → Lane
 lane_of u frame =
     if nat_le 2 (length frame) && field frame 10 6 == u.file_data.link.virtual_channel then Data
     else Directives
 
--- how often a cause was counted: on either lane, save at the greatest value
+-- how often a cause was counted, on either lane; if it is the greatest value, it stays so
 abbrev pub drop_count : UpState → ℕ → ℕ
 drop_count u number =
     min (count_of u.directives.drops number + count_of u.file_data.drops number) (2 ^ 64 - 1)
 
 -- A frame was taken by the end of its lane, which gave the PDUs of the packets that the frame
--- completes, or where it found no memory a front of them. Of a stream's next frame they are those
--- of the survivors that it completes, also where another implementation makes the frames, and not
+-- completes, or a front of them if it found no memory. If it is a stream's next frame, they are the
+-- PDUs of the survivors that it completes, also if another implementation makes the frames, and not
 -- all of them have the usage flag of the count cycle.
 pub record LaneTakes (frame : List ℕ) (up new : LinkReceiverState) (old out : List (List ℕ))
     : Type 0 where
   -- what any frame does
   pub takes : Takes (frame_read up frame) up new old out
       ⊎ (HasZone up.link frame × TakesFront (frame_read up frame) up new old out)
-  -- what the next frame of a stream does, where the end is as those before it leave it
+  -- what the next frame of a stream does, if the end is as the frames before it leave it
   pub next : (ps : List (List ℕ)) (marks : List Bool) (missed : ℕ) → IsUp up ps marks missed →
       IsNextFrame up.link ps marks frame →
       TakesNext up new ps marks missed old out ⊎ TakesNextFront up new ps marks old out
@@ -269,8 +267,8 @@ pub record LaneTakes (frame : List ℕ) (up new : LinkReceiverState) (old out : 
       IsUpOf all up ps marks missed → IsNextFrameOf all up.link ps marks frame →
       TakesNextOf all up new ps marks missed old out
       ⊎ TakesNextFrontOf all up new ps marks old out
-  -- so where nothing was given before, given are the PDUs of the survivors that this frame
-  -- completes, unless it found no memory
+  -- so if nothing was given before, given are the PDUs of the survivors that this frame completes,
+  -- unless it found no memory
   pub delivered : (ps : List (List ℕ)) (marks : List Bool) (missed : ℕ) → IsUp up ps marks missed →
       IsNextFrame up.link ps marks frame → old ≡ [] →
       (pdus_in (survivors up.link.zone (marks ++ true ∷ []) 0 ps)

@@ -19,8 +19,8 @@ use valid_config::Valid;
 /// lane end to end over the frames of its virtual channel.
 ///
 /// Each lane has the capacity, and its own frame count and flush. The packets of both are counted
-/// together. All that waits lies in buffers that were made with it, and a frame is written where it
-/// is wanted. So no call takes memory.
+/// together. All that waits lies in buffers made with it, and a frame is written only when it is
+/// asked for. So no call takes memory.
 #[derive(Debug, Drop)]
 pub struct Down {
     directives: DownLane,
@@ -49,10 +49,10 @@ impl Model for Down {
 }
 
 impl Down {
-    /// The end of a valid link, with no PDU sent: in each lane at most `capacity` octets of packets
-    /// (up to 65,536) may wait.
+    /// Returns the end of a valid link, with no PDU sent. In each lane at most `capacity` octets of
+    /// packets may wait, which must be at most 65,536.
     ///
-    /// `AllocError` comes only where one of its buffers was refused.
+    /// `AllocError` comes only if one of its buffers was refused.
     pub fn new(alloc: Global, link: Valid<LinkConfig>, capacity: usize) -> Result<Self, AllocError>
         requires most { capacity ≤ 65536 }
         ensures new { IfOk result (λ d. d ≡ first_down link capacity) }
@@ -67,12 +67,12 @@ impl Down {
 
     /// Counts the frames of both lanes from this number on, modulo 2^28 (CCSDS 732.0-B-4, 4.1.2.4).
     ///
-    /// It is meant before the first frame, for an end that is made anew where another one sent
-    /// before: so its first frame isn't taken for the next one of those.
+    /// Call it before the first frame if another end sent before this one: so its first frame isn't
+    /// taken for the next one of the other end.
     pub fn count_from(&mut self, count: u32)
         ensures from { self.new ≡ both_counted_from count self.old }
-        // A lane that sent nothing is then as one that made so many frames, each filled by an idle
-        // packet.
+        // If a lane sent nothing, it is then as one that made so many frames, each filled by an
+        // idle packet.
         ensures stream { (lane : Lane) → IsDown (lane_down lane self.old) [] 0 →
             IsDown (lane_down lane self.new)
             (idle_zones (lane_down lane self.old).link.zone count) count }
@@ -83,8 +83,8 @@ impl Down {
         self.file_data.count_from(count);
     }
 
-    /// Has this in the operational control field of the frames of both lanes from now on (CCSDS
-    /// 732.0-B-4, 4.1.5), if the link has one; at first it is 0.
+    /// Sets the operational control field of the frames of both lanes from now on (CCSDS 732.0-B-4,
+    /// 4.1.5), if the link has one; at first it is 0.
     pub fn set_control_field(&mut self, control: u32)
         ensures set { self.new ≡ both_controlled control self.old }
         ensures fixed { KeepsLanes self.old self.new }
@@ -103,7 +103,8 @@ impl Down {
         }
     }
 
-    /// The octets of the longest PDU for which there is room in a lane; 0 where there is none.
+    /// Returns the number of octets of the longest PDU for which there is room in a lane; 0 if
+    /// there is none.
     pub fn room(&self, lane: Lane) -> usize
         ensures room { result ≡ downward.room (lane_down lane self.now) }
         ensures bounded { IsBounded self.now }
@@ -113,15 +114,15 @@ impl Down {
         self.lane(lane).room()
     }
 
-    /// The octets of each frame, of either lane: 8 more than those of a zone, and those of the
-    /// fields of the link.
+    /// Returns the number of octets of each frame, of either lane: 8 more than a zone has, and the
+    /// octets of the fields of the link.
     pub fn frame_len(&self) -> usize
         ensures { (lane : Lane) → result ≡ frame_len (lane_down lane self.now).link }
     {
         self.directives.link().frame_len()
     }
 
-    /// The octets of packets that wait in a lane to be made frames.
+    /// Returns the number of octets of packets that wait in a lane to become frames.
     pub fn waiting_len(&self, lane: Lane) -> usize
         ensures len { result ≡ length (lane_down lane self.now).waiting }
         ensures most { result ≤ (lane_down lane self.now).capacity + 2047 }
@@ -129,8 +130,8 @@ impl Down {
         self.lane(lane).waiting_len()
     }
 
-    /// The most whole frames that can ever wait in a lane, whatever is sent and flushed: a caller
-    /// that has room for so many of each lane can always take them all.
+    /// Returns the most whole frames that can ever wait in a lane, whatever is sent and flushed: if
+    /// a caller has room for so many of each lane, it can always take them all.
     pub fn frames_ahead(&self, lane: Lane) -> usize
         ensures enough { (lane_down lane self.now).capacity + 2047
             < result * (lane_down lane self.now).link.zone
@@ -141,14 +142,15 @@ impl Down {
         (self.lane(lane).capacity() + 2047) / usize::from(self.lane(lane).link().zone)
     }
 
-    /// Puts a PDU of at least one octet behind the others of its lane, in a packet of its own.
+    /// Puts a PDU after the others of its lane, in a packet of its own. It must have at least one
+    /// octet.
     ///
-    /// `Full` where the PDU is longer than [`room`](Self::room) of that lane; nothing changed then.
+    /// `Full` if the PDU is longer than [`room`](Self::room) of that lane; nothing changed then.
     pub fn send(&mut self, pdu: &[u8], lane: Lane) -> Result<(), Full>
         requires { 1 ≤ length pdu.now }
         ensures full { IsErr result ↔ (downward.room (lane_down lane self.old) < length pdu.now) }
         ensures err { OnErr result (self.new ≡ self.old) }
-        // The lane's stream is then longer by one packet: the PDU's, with the running count.
+        // The lane's stream is then longer by one packet, which has the PDU and the running count.
         ensures sent { OnOk result (SendsPdu pdu.now self.old.packet_count
             (lane_down lane self.old) (lane_down lane self.new)) }
         ensures packet_count { OnOk result (self.new.packet_count
@@ -170,7 +172,7 @@ impl Down {
         Ok(())
     }
 
-    /// Puts a PDU for which there is room behind the others of its lane.
+    /// Puts a PDU after the others of its lane. There must be room for it.
     fn send_in(&mut self, pdu: &[u8], lane: Lane)
         requires some { 1 ≤ length pdu.now }
         requires room { length pdu.now ≤ downward.room (lane_down lane self.old) }
@@ -189,11 +191,11 @@ impl Down {
         }
     }
 
-    /// Fills the begun zone of a lane by an idle packet, where one is begun, so that all PDUs sent
+    /// Fills the begun zone of a lane with an idle packet, if one is begun, so that all PDUs sent
     /// in it can leave in whole frames.
     ///
-    /// Where less is free than an idle packet needs, its rest opens the next zone, and waits there.
-    /// A zone that holds nothing, or only such a rest, isn't begun: a second flush adds nothing.
+    /// If less is free than an idle packet needs, its rest opens the next zone, and waits there. A
+    /// zone that holds nothing, or only such a rest, isn't begun: a second flush adds nothing.
     pub fn flush(&mut self, lane: Lane)
         // The lane's stream is then longer by the idle packet, or as it was.
         ensures flushed { Flushes (lane_down lane self.old) (lane_down lane self.new) }
@@ -209,8 +211,8 @@ impl Down {
         }
     }
 
-    /// The lane whose frame [`next_frame`](Self::next_frame) gives next: directives go first.
-    /// `None` where no whole zone waits in either.
+    /// Returns the lane whose frame [`next_frame`](Self::next_frame) gives next: directives go
+    /// first. `None` if no whole zone waits in either.
     pub fn next_lane(&self) -> Option<Lane>
         ensures { result ≡ frame_lane self.now }
     {
@@ -224,16 +226,16 @@ impl Down {
     }
 
     /// Writes the oldest whole zone of [`next_lane`](Self::next_lane) as a frame with the lane's
-    /// next count and the fields of the link, takes it off, and tells the lane. The buffer has
-    /// [`frame_len`](Self::frame_len) octets.
+    /// next count and the fields of the link, takes it off, and returns the lane. The buffer must
+    /// have [`frame_len`](Self::frame_len) octets.
     ///
-    /// `None` where no whole zone waits: nothing changed then.
+    /// `None` if no whole zone waits: nothing changed then.
     pub fn next_frame(&mut self, out: &mut [u8]) -> Option<Lane>
         requires { length out.old ≡ frame_len self.old.directives.link }
         // Directives go first.
         ensures lane { result ≡ frame_lane self.old }
         ensures kept { result ≡ None → (self.new ≡ self.old) × (out.new ≡ out.old) }
-        // It is the frame of the lane's stream behind those made.
+        // It is the frame of the lane's stream after the frames made.
         ensures made { IfSome result (λ lane. MakesFrame out.new (lane_down lane self.old)
             (lane_down lane self.new)) }
         ensures other { IfSome result (λ lane. lane_down (other_lane lane) self.new

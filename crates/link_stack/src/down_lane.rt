@@ -54,7 +54,7 @@ impl Model for DownLane {
 }
 
 impl DownLane {
-    /// A lane with no PDU sent.
+    /// Returns a lane with no PDU sent.
     pub(crate) fn new(
         alloc: Global,
         link: Valid<ChannelConfig>,
@@ -76,22 +76,22 @@ impl DownLane {
     /// Counts the frames from this number on, modulo 2^28.
     pub(crate) fn count_from(&mut self, count: u32)
         ensures from { self.new ≡ counted_from count self.old }
-        // A lane that sent nothing is then as one that made so many frames, each filled by an idle
-        // packet.
+        // If a lane sent nothing, it is then as one that made so many frames, each filled by an
+        // idle packet.
         ensures stream { IsDown self.old [] 0 →
             IsDown self.new (idle_zones self.old.link.zone count) count }
     {
         self.frames = VcCounter::from_count(count);
     }
 
-    /// Has this in the operational control field of the frames from now on.
+    /// Sets the operational control field of the frames from now on.
     pub(crate) fn set_control(&mut self, control: u32)
         ensures { self.new ≡ controlled control self.old }
     {
         self.control = control;
     }
 
-    /// Its virtual channel, and what is in the frames of that.
+    /// Returns its virtual channel, and what is in the frames of that.
     pub(crate) fn link(&self) -> ChannelConfig
         ensures is { result ≡ self.now.link }
         ensures valid { IsChannel result }
@@ -99,14 +99,14 @@ impl DownLane {
         self.link
     }
 
-    /// The octets of the longest PDU for which there is room; 0 where there is none.
+    /// Returns the number of octets of the longest PDU for which there is room; 0 if there is none.
     pub(crate) fn room(&self) -> usize
         ensures { result ≡ downward.room self.now }
     {
         self.packer.room().saturating_sub(PACKET_HEADER_LEN)
     }
 
-    /// How many octets of packets may wait.
+    /// Returns how many octets of packets may wait.
     pub(crate) fn capacity(&self) -> usize
         ensures is { result ≡ self.now.capacity }
         ensures most { result ≤ 65536 }
@@ -114,7 +114,7 @@ impl DownLane {
         self.packer.capacity()
     }
 
-    /// The octets of packets that wait to be made frames.
+    /// Returns the number of octets of packets that wait to become frames.
     pub(crate) fn waiting_len(&self) -> usize
         ensures len { result ≡ length self.now.waiting }
         ensures most { result ≤ self.now.capacity + 2047 }
@@ -122,20 +122,20 @@ impl DownLane {
         self.packer.waiting_len()
     }
 
-    /// Whether a whole zone waits.
+    /// Returns `true` if a whole zone waits.
     pub(crate) fn has_whole(&self) -> bool
         ensures { result ≡ downward.has_whole self.now }
     {
         usize::from(self.link.zone) <= self.packer.waiting_len()
     }
 
-    /// Puts a PDU of at least one octet, for which there is room, behind the others: in a packet
-    /// with this count.
+    /// Puts a PDU after the others, in a packet with this count. It must have at least one octet,
+    /// and there must be room for it.
     pub(crate) fn send(&mut self, pdu: &[u8], count: u16)
         requires some { 1 ≤ length pdu.now }
         requires room { length pdu.now ≤ downward.room self.old }
         requires count { count < 16384 }
-        // The stream is then longer by one packet: the PDU's, with this count.
+        // The stream is then longer by one packet, which has the PDU and this count.
         ensures stream { (ps : List (List ℕ)) (made : ℕ) → IsDown self.old ps made →
             IsDown self.new (ps ++ packet_of self.old.link count pdu.now ∷ []) made }
         ensures pdu { pdus_in (busy (packet_of self.old.link count pdu.now ∷ []))
@@ -158,7 +158,7 @@ impl DownLane {
         let _ = self.packer.push_pieces(&header, pdu);
     }
 
-    /// Fills the begun zone by an idle packet, where one is begun.
+    /// Fills the begun zone with an idle packet, if one is begun.
     pub(crate) fn flush(&mut self)
         // The stream is then longer by the idle packet, or as it was.
         ensures stream { (ps : List (List ℕ)) (made : ℕ) → IsDown self.old ps made →
@@ -176,7 +176,7 @@ impl DownLane {
     }
 
     /// Writes the oldest whole zone as a frame with the next count and the fields of the channel,
-    /// and takes it off. False where no whole zone waits: nothing changed then.
+    /// and takes it off. Returns `false` if no whole zone waits: nothing changed then.
     pub(crate) fn next_frame(&mut self, out: &mut [u8]) -> bool
         requires { length out.old ≡ frame_len self.old.link }
         ensures whole { result ≡ downward.has_whole self.old }
@@ -193,8 +193,8 @@ impl DownLane {
         true
     }
 
-    /// Writes the oldest whole zone as a bare frame with the next count where that stands in a
-    /// frame of the channel, and takes it off. False where no whole zone waits: nothing changed
+    /// Writes the oldest whole zone as a bare frame with the next count, where it stands in a frame
+    /// of the channel, and takes it off. Returns `false` if no whole zone waits: nothing changed
     /// then.
     fn put_bare(&mut self, out: &mut [u8]) -> bool
         requires { length out.old ≡ frame_len self.old.link }
@@ -211,7 +211,7 @@ impl DownLane {
     }
 
     /// Writes the oldest whole zone as a bare frame with the next count, its header and its M_PDU
-    /// apart, and takes it off. False where no whole zone waits: nothing changed then.
+    /// apart, and takes it off. Returns `false` if no whole zone waits: nothing changed then.
     fn next_bare(&mut self, header: &mut [u8], mpdu: &mut [u8]) -> bool
         requires header { length header.old ≡ 6 }
         requires mpdu { length mpdu.old ≡ 2 + self.old.link.zone }

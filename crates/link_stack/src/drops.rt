@@ -9,7 +9,7 @@ use thiserror::Error;
 #[derive(Clone, Copy, Debug, PartialEq, Eq, Error)]
 pub enum LinkDrop {
     /// The octets are no frame of the link, or the frame holds only idle data, which the first
-    /// header pointer 2046 tells too.
+    /// header pointer 2046 shows too.
     #[error("{0}")]
     Frame(FrameError),
     /// A begun packet was discarded, since a frame was missing or the first header pointer did not
@@ -19,7 +19,7 @@ pub enum LinkDrop {
     /// A packet's version isn't `000` (CCSDS 133.0-B-2, 4.1.3.2).
     #[error("packet version number must be 0")]
     BadPacket,
-    /// A packet is of another application process identifier than the link's, and isn't idle.
+    /// A packet has another application process identifier than the link, and isn't idle.
     #[error("the packet has another APID")]
     OtherApid,
     /// A packet of the link is a segment, or has a secondary header.
@@ -47,7 +47,7 @@ impl LinkDrop {
         LinkDrop::Frame(FrameError::Damaged),
     ];
 
-    /// Why the octets are no frame of the link, where that is the cause.
+    /// Returns why the octets are no frame of the link, if that is the cause.
     pub fn source(self) -> Option<FrameError>
         ensures { result ≡ drop_source self }
     {
@@ -57,7 +57,8 @@ impl LinkDrop {
         }
     }
 
-    /// The number that stands for this drop in reports, 1 to 12; of a frame's refusal, its own.
+    /// Returns the number of this drop in reports, 1 to 12; if a frame was refused, the number of
+    /// the refusal.
     pub fn number(self) -> u8
         ensures { result ≡ drop_number self }
     {
@@ -71,7 +72,7 @@ impl LinkDrop {
         }
     }
 
-    /// The name of this drop in reports; of a frame's refusal, its own.
+    /// Returns the name of this drop in reports; if a frame was refused, the name of the refusal.
     pub fn name(self) -> &'static str
         ensures { result.now ≡ drop_name self }
     {

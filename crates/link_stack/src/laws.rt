@@ -23,7 +23,7 @@ ghost use Rattle.link_stack.specs.Lives.{AreApart, AreComingOf, ComingOf, IsLife
 ghost use Rattle.link_stack.specs.Lives.{life_at, numbers_of, octets_coming};
 
 /// A frame that is struck changes nothing at the receiving end, completes no packet, and is one
-/// more missed. Fewer in a row are, than the counts tell apart.
+/// more missed. The frames struck in a row must be fewer than the counts that are compared.
 pub fn a_struck_frame_is_missed()
     ensures end { (all : Bool) (up : LinkReceiverState) (ps : List (List ℕ)) (marks : List Bool)
         (missed : ℕ) → 0
@@ -35,7 +35,7 @@ pub fn a_struck_frame_is_missed()
         ≡ survivors up.link.zone marks 0 ps }
 {}
 
-/// A packet that is sent later changes no frame that is made already, and nothing of what the
+/// If a packet is sent later, it changes no frame that is made already, and nothing of what the
 /// frames before it leave.
 pub fn a_later_packet_changes_nothing()
     ensures frames { (link : ChannelConfig) (ps : List (List ℕ)) (q : List ℕ) (n : ℕ) →
@@ -53,7 +53,7 @@ pub fn a_later_packet_changes_nothing()
 {}
 
 /// The packet of a PDU of 1 to 65,536 octets is one whole packet of a valid link, is not idle, and
-/// its PDU stands behind its header of 6 octets.
+/// its PDU stands after its header of 6 octets.
 pub fn a_packet_carries_its_pdu()
     ensures whole { (link : ChannelConfig) (count : ℕ) (pdu : List ℕ) → IsChannel link →
         count < 16384 → 1 ≤ length pdu → length pdu ≤ 65536 →
@@ -65,12 +65,12 @@ pub fn a_packet_carries_its_pdu()
         × (drop 6 (packet_of link count pdu) ≡ pdu) }
 {}
 
-/// A frame of a stream, delivered when and as often as may be, gives PDUs of that stream alone.
+/// A frame of a stream, whenever and however often it is delivered, gives only PDUs of that stream.
 ///
-/// Nothing is asked of the order. Each lane holds of a begun packet what some of the frames up to
-/// the last one of a stream leave, or nothing; and where the counts say that the frame follows that
-/// one, it does. Then it gives, in order, PDUs that were put into the stream, and is left so by
-/// this frame. Octets of which no packet can come give nothing.
+/// The frames may come in any order. Each lane must hold of a begun packet what some of the frames
+/// up to the last one of a stream leave, or nothing; and if the counts say that the frame follows
+/// that one, it must. Then it gives, in order, PDUs that were put into the stream, and is left so
+/// by this frame. Octets from which no packet can come give nothing.
 pub fn a_frame_gives_what_was_sent()
     ensures first { (link : LinkConfig) (up : UpState) → up ≡ first_up link →
         AreLeft link up no_last }
@@ -82,7 +82,7 @@ pub fn a_frame_gives_what_was_sent()
         (octets : List ℕ) (before after : List (List ℕ)) → AreLeft link up last →
         ((lane : Lane) → IsStray (lane_channel lane link) octets) →
         Receives octets up new before after → GivesNone link new last before after }
-    // The same of one lane.
+    // The same for one lane.
     ensures lane { (up new : LinkReceiverState) (last : Option Delivery) (d : Delivery)
         (before after : List (List ℕ)) → IsChannel up.link → IsFrameOf up.link d →
         IsLeft up last → IfSome last (λ b. CountsTell b d) →
@@ -94,10 +94,10 @@ pub fn a_frame_gives_what_was_sent()
 
 /// All that ever comes up was sent, in whatever order and however often the frames come.
 ///
-/// A receiving end takes frames of both lanes, one after another, and among them octets of which no
-/// packet can come. Where the counts tell of any two frames of a lane, of which one is delivered
-/// right behind the other, whether it follows, each PDU given was put into the stream of one of
-/// these frames.
+/// A receiving end takes frames of both lanes, one after another, and among them octets from which
+/// no packet can come. The counts must say, of any two frames of a lane that are delivered one
+/// right after the other, whether the second follows. If they do, each PDU given was put into the
+/// stream of one of these frames.
 pub fn what_comes_up_was_sent()
     ensures { (link : LinkConfig) (came : List Arrival) (up new : UpState)
         (before after : List (List ℕ)) → IsLink link → AreArrivals link came →
@@ -105,12 +105,13 @@ pub fn what_comes_up_was_sent()
         ReceivesAll (map octets_in came) up new before after → ComesOf came before after }
 {}
 
-/// Frames whose numbers are near each other are told apart by their counts.
+/// If the numbers of two frames are near each other, their counts show whether one follows the
+/// other.
 ///
-/// Of two frames, delivered one right behind the other, the second is at most as many frames in
-/// front of the first as there are counts, and less than that less one behind it: 2^28 where all
-/// have the usage flag of the count cycle, else 2^24. Then its count follows that of the first only
-/// where it is the next frame.
+/// Of two frames, delivered one right after the other, the number of the second must be greater by
+/// at most as many as there are counts, or smaller by less than that less one: 2^28 if all have the
+/// usage flag of the count cycle, otherwise 2^24. Then its count follows the count of the first
+/// only if it is the next frame.
 pub fn near_frames_are_told()
     ensures tell { (all : Bool) (before after : Delivery) → AreCounted all before after →
         CountsTell before after }
@@ -127,7 +128,7 @@ pub fn near_frames_are_told()
         (with_cycle ((n + 1) % frame_counts))) }
 {}
 
-/// A packet that is sent later changes nothing of what was delivered, or is held, before.
+/// If a packet is sent later, it changes nothing of what was delivered, or is held, before.
 pub fn a_later_packet_leaves_deliveries()
     ensures frame { (link : ChannelConfig) (d : Delivery) (q : List ℕ) → IsPacket q →
         IsFrameOf link d → IsFrameOf link (grown q d) }
@@ -141,9 +142,9 @@ pub fn a_later_packet_leaves_deliveries()
 ///
 /// A sending end counts its frames from some number on; PDUs are put into both lanes, zones are
 /// filled, and frames are made. The other end takes copies of these frames, and among them octets
-/// of which no packet can come. Each frame is, of its lane, at most 2^28 frames in front of the one
-/// taken before it, and less than 2^28 - 1 behind it. Then all that comes up are PDUs that were put
-/// in.
+/// from which no packet can come. Beside the frame taken before it in its lane, the number of each
+/// frame must be greater by at most 2^28, or smaller by less than 2^28 - 1. Then all that comes up
+/// are PDUs that were put in.
 pub fn what_comes_up_was_put_in()
     ensures { (link : LinkConfig) (capacity first : ℕ) (calls : List DownCall)
         (start now : DownState) (came : List Coming) (up new : UpState)
@@ -154,12 +155,13 @@ pub fn what_comes_up_was_put_in()
         WerePut calls before after }
 {}
 
-/// The same of a sending end that is made anew, again and again, as the station is that has it: all
-/// that comes up was put into one of them.
+/// The same for a sending end that is made again and again, as its station is: all that comes up
+/// was put into one of them.
 ///
-/// The frames of each are counted from a number above those of all before it, of which at least one
-/// is left out. Each frame that is taken, of whichever of them, is, of its lane, at most 2^28
-/// numbers in front of the one taken before it, and less than 2^28 - 1 behind it.
+/// The frames of each are counted from a number above the numbers of all before it, and at least
+/// one number must be left out between them. Beside the frame taken before it in its lane, the
+/// number of each frame, of whichever of them, must be greater by at most 2^28, or smaller by less
+/// than 2^28 - 1.
 pub fn what_comes_up_was_put_in_once()
     ensures { (link : LinkConfig) (capacity : ℕ) (lives : List Life) (came : List ComingOf)
         (up new : UpState) (before after : List (List ℕ)) → IsLink link → link.spacecraft < 256 →

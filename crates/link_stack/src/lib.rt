@@ -2,9 +2,9 @@
 //! up again.
 //!
 //! One packet carries one whole PDU. A direction has two lanes, each a virtual channel: directives
-//! go on the one, file data on the other, so that a directive never waits behind file data. A
-//! [`Down`] lays the packets of each lane over the frames of its channel, and an [`Up`] gives back
-//! the PDUs all of whose frames came, in order within a lane. What can't be read is dropped, and
+//! go on one, file data on the other, so that a directive never waits for file data. A [`Down`]
+//! lays the packets of each lane over the frames of its channel, and an [`Up`] returns the PDUs all
+//! of whose frames came, in order within a lane. If something can't be read, it is dropped, and
 //! each drop is counted under its number.
 //!
 //! ```

@@ -18,7 +18,7 @@ use valid_config::Valid;
 /// The receiving end of one direction of a link: what it takes of the frames of each lane are the
 /// PDUs all of whose frames came, in order.
 ///
-/// Whatever can't be read is dropped, and counted under one number.
+/// If something can't be read, it is dropped, and counted under one number.
 #[derive(Debug, Drop)]
 pub struct Up {
     directives: UpLane,
@@ -37,9 +37,9 @@ impl Model for Up {
 }
 
 impl Up {
-    /// The end of a valid link, which has taken no frame.
+    /// Returns the end of a valid link, which has taken no frame.
     ///
-    /// `AllocError` comes only where the buffer of a reassembler was refused.
+    /// `AllocError` comes only if the buffer of a reassembler was refused.
     pub fn new(alloc: Global, link: Valid<LinkConfig>) -> Result<Self, AllocError>
         ensures new { IfOk result (λ u. u ≡ first_up link) }
         // Each lane is as no frame of a stream of the link leaves it.
@@ -53,9 +53,10 @@ impl Up {
         })
     }
 
-    /// How often something was dropped under a number, on either lane: 1 to 6 and
-    /// 12 are [`FrameError`](aos_frame::FrameError)'s, 7 to 11 those of
-    /// [`LinkDrop`](crate::LinkDrop). It stays at the greatest `u64`; of any other number it is 0.
+    /// Returns how often something was dropped under a number, on either lane: 1 to 6 and 12 are
+    /// the numbers of [`FrameError`](aos_frame::FrameError), 7 to 11 of
+    /// [`LinkDrop`](crate::LinkDrop). If the count is the greatest `u64`, it stays so; for any
+    /// other number it is 0.
     pub fn drops(&self, number: u8) -> u64
         ensures { result ≡ drop_count self.now number }
     {
@@ -64,8 +65,8 @@ impl Up {
             .saturating_add(self.file_data.drops(number))
     }
 
-    /// The operational control field of the last frame of a lane that was one of its channel;
-    /// `None` where none came, or the link has no such field.
+    /// Returns the operational control field of the last frame of a lane that was one of its
+    /// channel; `None` if none came, or the link has no such field.
     pub fn control_field(&self, lane: Lane) -> Option<u32>
         ensures { result ≡ (lane_up lane self.now).control }
     {
@@ -75,8 +76,8 @@ impl Up {
         }
     }
 
-    /// The lane that takes a frame: that of its virtual channel. What is of neither channel, or no
-    /// frame, goes to the lane of directives.
+    /// Returns the lane that takes a frame: the lane of its virtual channel. If it is of neither
+    /// channel, or no frame, it goes to the lane of directives.
     fn lane_of(&self, frame: &[u8]) -> Lane
         ensures { result ≡ lane_of self.now frame.now }
     {
@@ -90,24 +91,24 @@ impl Up {
     /// Takes a frame, whatever its octets are, appends the PDUs that it completes, and counts what
     /// is dropped of it.
     ///
-    /// A frame that `decode` of `aos_frame` refuses counts as its refusal, 1 to 6 or 12, and
-    /// changes nothing else: so does one of the wrong length, or whose check tells that it was damaged. A
-    /// first header pointer of 2046 counts as 6 alone, and lets a begun packet of its lane go. Else
-    /// a zone counts at most one `Resync`, a `BadPacket` for each header of another version than
-    /// `000`, and an `OtherApid` or else a `Segmented` for each whole packet that isn't idle and
-    /// carries no PDU of the link.
+    /// If `decode` of `aos_frame` refuses a frame, it counts as its refusal, 1 to 6 or 12, and
+    /// changes nothing else: for example if it has the wrong length, or its check shows that it was
+    /// damaged. A first header pointer of 2046 counts as 6 alone, and discards a begun packet of
+    /// its lane. Otherwise a zone counts at most one `Resync`, a `BadPacket` for each header of
+    /// another version than `000`, and an `OtherApid` or else a `Segmented` for each whole packet
+    /// that isn't idle and carries no PDU of the link.
     ///
-    /// Where a growth was refused, at a zone that completes a packet, `NoMemory` is counted in the
-    /// place of what the zone tells: a front of its PDUs was appended, the lane's begun packet and
-    /// the rest of the zone are discarded, and its next zone is read from its pointer, as if this
-    /// frame had been lost.
+    /// If a growth was refused at a zone that completes a packet, `NoMemory` is counted in place of
+    /// the zone's drops: a front of its PDUs was appended, the lane's begun packet and the rest of
+    /// the zone are discarded, and its next zone is read from its pointer, as if this frame had
+    /// been lost.
     pub fn receive(&mut self, frame: &[u8], out: &mut OctetStrings)
         // The end of its lane takes it, and the other one stays as it was.
         ensures taken { LaneTakes frame.now (lane_up (lane_of self.old frame.now) self.old)
             (lane_up (lane_of self.old frame.now) self.new) out.old out.new }
         ensures other { lane_up (other_lane (lane_of self.old frame.now)) self.new
             ≡ lane_up (other_lane (lane_of self.old frame.now)) self.old }
-        // A lane's frames have its channel, and so come to it.
+        // A lane's frames have its channel, and so they go to it.
         ensures lane { (lane : Lane) → 2 ≤ length frame.now →
             field frame.now 10 6 ≡ (lane_up lane self.old).link.virtual_channel →
             lane_of self.old frame.now ≡ lane }

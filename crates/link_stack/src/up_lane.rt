@@ -22,7 +22,7 @@ use std::alloc::{AllocError, Global};
 use std::marker::Model;
 use valid_config::Valid;
 
-/// The causes that drops are counted under.
+/// The number of causes under which drops are counted.
 const CAUSES: usize = 12;
 
 /// How often something was dropped, for each cause.
@@ -40,7 +40,7 @@ impl Model for Drops {
     ghost view = { λ d. d.counts };
 }
 
-/// One more, save at the greatest value.
+/// Returns one more, or the same if the count is the greatest.
 fn one_more(count: u64) -> u64
     ensures { result ≡ raised count }
 {
@@ -73,7 +73,7 @@ impl Drops {
     }
 }
 
-/// Counts what a zone tells, or that it found no memory.
+/// Counts what was out of order in a zone, or that there was no memory for it.
 fn note(fed: &Result<Notes, AllocError>, drops: &mut Drops)
     ensures read { IfOk fed.now (λ n. drops.new
         ≡ all_counted drops.old (zone_drops n.resync n.bad)) }
@@ -98,7 +98,7 @@ fn count_bad(bad: u8, drops: &mut Drops)
     }
 }
 
-/// Why a whole packet that isn't idle carries no PDU of the link, if it doesn't.
+/// Returns why a whole packet that isn't idle carries no PDU of the link, if it doesn't.
 #[tactic(auto, unfolding(crate::specs::Frames::packet_drop))]
 fn packet_drop_of(link: &ChannelConfig, packet: &[u8]) -> Option<LinkDrop>
     requires { 6 ≤ length packet.now }
@@ -114,8 +114,8 @@ fn packet_drop_of(link: &ChannelConfig, packet: &[u8]) -> Option<LinkDrop>
     None
 }
 
-/// Makes the packet at a place its PDU, or takes it out and counts why it carries none. Answers the
-/// place of the next.
+/// Replaces the packet at an index by its PDU, or takes it out and counts why it carries none.
+/// Returns the index of the next.
 fn unpack_one(
     link: &ChannelConfig,
     packets: &mut OctetStrings,
@@ -141,7 +141,8 @@ fn unpack_one(
     place + 1
 }
 
-/// Makes the packets from a place on their PDUs, and takes out and counts those that carry none.
+/// Replaces the packets from an index on by their PDUs, and takes out and counts the packets that
+/// carry none.
 fn unpack(link: &ChannelConfig, packets: &mut OctetStrings, first: usize, drops: &mut Drops)
     requires there { first ≤ length packets.old }
     requires long { AreLong (drop first packets.old) }
@@ -187,7 +188,7 @@ impl Model for UpLane {
 }
 
 impl UpLane {
-    /// A lane that has taken no frame.
+    /// Returns a lane that has taken no frame.
     pub(crate) fn new(alloc: Global, link: Valid<ChannelConfig>) -> Result<Self, AllocError>
         ensures new { IfOk result (λ u. u ≡ first_lane_up link) }
         // It is as no frame of a stream of the lane leaves it.
@@ -203,29 +204,29 @@ impl UpLane {
         })
     }
 
-    /// How often something was dropped under a number.
+    /// Returns how often something was dropped under a number.
     pub(crate) fn drops(&self, number: u8) -> u64
         ensures { result ≡ count_of self.now.drops number }
     {
         self.drops.of(number)
     }
 
-    /// The operational control field that came last; `None` where none came.
+    /// Returns the operational control field that came last; `None` if none came.
     pub(crate) fn control(&self) -> Option<u32>
         ensures { result ≡ self.now.control }
     {
         self.control
     }
 
-    /// The virtual channel of the lane.
+    /// Returns the virtual channel of the lane.
     pub(crate) fn virtual_channel(&self) -> u8
         ensures { result ≡ self.now.link.virtual_channel }
     {
         self.link.virtual_channel
     }
 
-    /// Reads a zone whose first header pointer may be any but that of idle data. False where it
-    /// found no memory.
+    /// Reads a zone. Its first header pointer must not be the one of idle data. Returns `false` if
+    /// there was no memory for it.
     fn read_zone(
         &mut self,
         pointer: u16,
@@ -251,7 +252,7 @@ impl UpLane {
     }
 
     /// Reads the M_PDU of a frame of the link with this count, and this usage flag of the count
-    /// cycle. False where its zone found no memory.
+    /// cycle. Returns `false` if there was no memory for its zone.
     fn read_mpdu(&mut self, count: u32, cycle: bool, mpdu: &[u8], out: &mut OctetStrings) -> bool
         requires len { length mpdu.now ≡ 2 + self.old.link.zone }
         ensures all { result ≡ true →
@@ -272,7 +273,7 @@ impl UpLane {
         self.read_zone(pointer, &mpdu[MPDU_HEADER_LEN..], in_order, out)
     }
 
-    /// Reads a frame. False where its zone found no memory.
+    /// Reads a frame. Returns `false` if there was no memory for its zone.
     fn read_frame(&mut self, frame: &[u8], out: &mut OctetStrings) -> bool
         ensures all { result ≡ true →
             Takes (frame_read self.old frame.now) self.old self.new out.old out.new }

@@ -1,4 +1,4 @@
--- What the counts of the frames tell where few in a row are struck.
+-- What the counts of the frames show if few in a row are struck.
 use Rattle.std.proofs.Common.{◌≡◌, ℕ, zero, suc, ◌+◌, ◌-◌, ◌%◌, ◌==◌, ◌<◌, ◌≤◌, Bool, true, false, List, [], ◌∷◌, length, get_or, Option, Some, None, refl, sym, subst, ◌∙◌, inl, inr, arith}
 use Rattle.std.proofs.lemmas.Bool.{cases_lt, cases_Bool, eqb-true}
 use Rattle.std.specs.Option.{IfSome}
@@ -12,7 +12,7 @@ use Rattle.mpdu.specs.Draining.{IsCounted}
 pub never : (n : ℕ) → (suc n == 0) ≡ false
 never n = elim (cases_Bool (suc n == 0)) [ inl e ↦ (let same : suc n ≡ 0 = eqb-true (suc n) 0 e in absurd (omega arith)) | inr e ↦ e ]
 
--- a mark of the list, whatever stands for those past its end
+-- a mark of the list, whatever stands for the marks past its end
 pub mark-inside : (bs : List Bool) (i : ℕ) (d e : Bool) → i < length bs → get_or bs i d ≡ get_or bs i e
 mark-inside [] i d e h = absurd (omega arith)
 mark-inside (b ∷ bs) zero d e h = refl
@@ -62,7 +62,7 @@ few struck taken missed next last held runs h =
     absurd (cc) in
     elim (cases_lt missed frame_counts) [ inl c ↦ c | inr c ↦ absurd (many c) ]
 
--- What is held at the next zone, where its frame is the next count's.
+-- What is held at the next zone, if its frame is the next count's.
 pub told_right : (struck : List Bool) (taken missed next count : ℕ) (last : Option SeenCount) (held : List ℕ) → AreFewInARow struck → IsCounted struck taken missed next last held →
     count ≡ next → held_at (follows last (with_cycle count)) held ≡ held_at (missed == 0) held
 told_right struck taken missed next count last held runs h e =
@@ -73,7 +73,8 @@ get_or-past [] i d h = refl
 get_or-past (b ∷ bs) zero d h = absurd (omega arith)
 get_or-past (b ∷ bs) (suc i) d h = get_or-past bs i d (omega arith)
 
--- The runs of a list, one mark after the other: the last `run` of the first i are struck, and each start before those has a mark that isn't.
+-- The runs of a list, one mark after the other: the last `run` of the first i are struck, and each
+-- start before those has a mark that isn't.
 pub record AreFewBelow (struck : List Bool) (i run : ℕ) : Type 0 where
   pub few : run < frame_counts
   pub within : run ≤ i

@@ -1,4 +1,4 @@
--- Exported: packets that are read from a stream are those that it was made of.
+-- Exported: packets that are read from a stream are the packets of which it was made.
 use Rattle.std.proofs.Common.{◌≡◌, ℕ, zero, suc, ◌+◌, ◌≤◌, true, false, ◌&&◌, nat_le, ◌==◌, List, [], ◌∷◌, ◌++◌, length, take, drop, refl, sym, ap, ◌∙◌, arith, inl, inr, subst, Bool, length-append, length-drop}
 use Rattle.std.proofs.lemmas.Bool.{le-leb, lt-leb, leb-true, cases_Bool, eqb-true}
 use Rattle.cfd_bits.specs.Field.{field}
@@ -18,7 +18,7 @@ and_second : (x y : Bool) → (x && y) ≡ true → y ≡ true
 and_second true y e = e
 and_second false y e = absurd cc
 
--- a packet in front tells its length
+-- a packet at the front gives its length
 told_len : (p rest : List ℕ) → IsPacket p → header_len (p ++ rest) ≡ length p
 told_len p rest h = header_len-same (p ++ rest) p (take-append-le 6 p rest (omega (arith, packet_long p h))) ∙ packet_size p h
 
@@ -37,7 +37,7 @@ unfolding first_packets
 first_packets-none zero rest e = refl
 first_packets-none (suc n) rest e = rw e refl
 
--- one packet more is read
+-- one more packet is read
 first_packets-cons : (n : ℕ) (p rest : List ℕ) → IsPacket p → first_packets (suc n) (p ++ rest) ≡ p ∷ first_packets n rest
 unfolding first_packets
 first_packets-cons n p rest h =
@@ -64,7 +64,7 @@ pub packets_of_all : (ps : List (List ℕ)) (text : List ℕ) → ArePackets ps 
 packets_of_all ps text h e =
     ap packets_of (e ∙ sym (append-nil (stream ps))) ∙ packets_of-stream ps [] h refl
 
--- What begins with a packet has one in front.
+-- If octets begin with a packet, there is one at the front.
 front_is_packet : (text : List ℕ) → begins_with_packet text ≡ true → IsPacket (take (header_len text) text)
 unfolding header_len header_ok
 front_is_packet text e =

@@ -1,4 +1,4 @@
--- Exported: where fewer zones are delivered, fewer packets survive, and each zone completes no more.
+-- Exported: if fewer zones are delivered, fewer packets survive, and each zone completes no more.
 use Rattle.std.proofs.Common.{◌≡◌, ℕ, ◌+◌, ◌*◌, ◌<◌, ◌≤◌, Bool, true, false, not, ◌&&◌, cond, List, [], ◌∷◌, ◌++◌, length, refl, sym, ap, subst, ◌∙◌, inl, inr, arith}
 use Rattle.std.proofs.lemmas.Bool.{cases_lt}
 use Rattle.mpdu.specs.Stream.{keep, is_idle, ArePackets, arrived, meets, survivors}
@@ -13,7 +13,7 @@ step_more false b m x y h k e = k e
 step_more true false m x y h k e = absurd cc
 step_more true true m x y h k e = rw (h refl) (k e)
 
--- a range that arrived, arrives where more is delivered
+-- a range that arrived, arrives if more is delivered
 pub arrived-more : (z s : ℕ) (few marks : List Bool) (a b : ℕ) → AreAmong few marks → arrived z s few a b ≡ true → arrived z s marks a b ≡ true
 arrived-more z s [] [] a b h e = e
 arrived-more z s [] (m ∷ marks) a b h e = absurd h
@@ -55,13 +55,13 @@ keep-append : (k : Bool) (p : List ℕ) (l m : List (List ℕ)) → keep k p (l 
 keep-append true p l m = refl
 keep-append false p l m = refl
 
--- of packets of which the first ends behind the marks none survives
+-- of packets of which the first ends after the marks none survives
 none_yet : (z : ℕ) (marks : List Bool) (a : ℕ) (p : List ℕ) (ps : List (List ℕ)) → ArePackets ps → length marks * z < a + length p → survivors z marks a (p ∷ ps) ≡ []
 none_yet z marks a p ps h lt =
     let no : arrived z 0 marks a (a + length p) ≡ false = arrived-past z 0 marks a (a + length p) (omega arith) in
     keep_false (arrived z 0 marks a (a + length p)) p (survivors z marks (a + length p) ps) no ∙ survivors-behind z marks (a + length p) ps h (omega arith)
 
--- One zone more, where more is delivered: it completes all that it would complete else.
+-- One more zone, if more is delivered: it completes all that it would otherwise complete.
 pub record CompletesFrom (z : ℕ) (marks : List Bool) (a : ℕ) (ps added : List (List ℕ)) : Type 0 where
   pub more : List (List ℕ)
   pub completed : survivors z (marks ++ true ∷ []) a ps ≡ survivors z marks a ps ++ more

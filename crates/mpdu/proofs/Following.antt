@@ -1,4 +1,4 @@
--- Exported: of the counts of frames in order a frame follows where none was missed.
+-- Exported: if no frame was missed, a frame follows by the counts of frames in order.
 use Rattle.std.proofs.Common.{◌≡◌, ℕ, zero, suc, ◌+◌, ◌%◌, ◌<◌, ◌==◌, ◌&&◌, not, Bool, true, false, List, [], Option, Some, None, IfSome, refl, sym, ap, ◌∙◌, arith}
 use Rattle.std.proofs.lemmas.Bool.{eq-eqb, ne_eqb}
 use Rattle.aos_frame.specs.Counts.{frame_counts, counts_of, compared, follows, CountsFrame}
@@ -21,7 +21,7 @@ each : (missed : ℕ) (all : Bool) → missed < counts_of all → missed < frame
 each missed true few = few
 each missed false few = omega arith
 
--- As few as the counts of such a stream tell apart, the two counts tell apart.
+-- If fewer are missed than such a stream has counts, they are fewer than the counts compared.
 few_compared : (all last this : Bool) (missed : ℕ) → (all ≡ true → last ≡ true) → (all ≡ true → this ≡ true) → missed < counts_of all → missed < compared last this
 few_compared all true true missed f g few = each missed all few
 few_compared false true false missed f g few = few
@@ -29,7 +29,7 @@ few_compared false false this missed f g few = few
 few_compared true true false missed f g few = absurd (let bad : false ≡ true = g refl in cc)
 few_compared true false this missed f g few = absurd (let bad : false ≡ true = f refl in cc)
 
--- Compared as they are, the counts are those of the frames.
+-- Compared as they are, the counts are the numbers of the frames.
 same_counts : (last this : Bool) (l c n taken : ℕ) → l ≡ n % counts_of last → c ≡ taken % counts_of this →
     ((l + 1) % compared last this ≡ (n + 1) % compared last this) × (c % compared last this ≡ taken % compared last this)
 same_counts true true l c n taken e f = (omega arith, omega arith)
@@ -37,7 +37,7 @@ same_counts true false l c n taken e f = (omega arith, omega arith)
 same_counts false true l c n taken e f = (omega arith, omega arith)
 same_counts false false l c n taken e f = (omega arith, omega arith)
 
--- Of the counts of frames in order it follows where none is missed.
+-- By the counts of frames in order it follows if none is missed.
 none_missed : (all : Bool) (n taken : ℕ) → taken ≡ n + 1 → (n + 1) % counts_of all ≡ taken % counts_of all
 none_missed all n taken e = ap (λ k. k % counts_of all) (sym e)
 

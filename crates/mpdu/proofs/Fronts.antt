@@ -8,7 +8,7 @@ pub keep-back : (b : Bool) (p : List ℕ) (ps : List (List ℕ)) → keep b p ps
 keep-back true p ps = refl
 keep-back false p ps = refl
 
--- what stands in front of a part, if two lists are one
+-- what stands before a part, if two lists are one
 pub front_of : {X : Type 0} → (a b c d : List X) → length a ≤ length c → a ++ b ≡ c ++ d → (n : ℕ) × (c ≡ a ++ take n b)
 front_of [] b c d h e = (length c, sym (ap (λ l. take (length c) l) e ∙ take_at c d (length c) refl))
 front_of (x ∷ a) b [] d h e = absurd (omega arith)
@@ -19,7 +19,7 @@ front_of (x ∷ a) b (y ∷ c) d h e =
     let same : c ≡ a ++ take ih.0 b = ih.1 in
     (ih.0, cc)
 
--- one packet more
+-- one more packet
 pub cut_more : (xs : List ℕ) (before all now then : List (List ℕ)) → 6 ≤ length xs → header_ok xs ≡ true → header_len xs ≤ length xs →
     before ++ all ≡ now ++ (scan (length xs) xs).out → then ≡ now ++ keep (not (is_idle (take (header_len xs) xs))) (take (header_len xs) xs) [] →
     before ++ all ≡ then ++ (scan (length (drop (header_len xs) xs)) (drop (header_len xs) xs)).out
@@ -29,7 +29,7 @@ cut_more xs before all now then long ok room is more =
     is ∙ ap (λ x. now ++ x.out) (scan_next xs long ok room) ∙ ap (λ l. now ++ l) (keep-back (not (is_idle p)) p r.out)
     ∙ sym (append_assoc now (keep (not (is_idle p)) p []) r.out) ∙ ap (λ l. l ++ r.out) (sym more)
 
--- a packet in front that isn't idle is handed out
+-- a packet at the front that isn't idle is handed out
 pub hands_first : (xs : List ℕ) → 6 ≤ length xs → header_ok xs ≡ true → header_len xs ≤ length xs → is_idle (take (header_len xs) xs) ≡ false →
     1 ≤ length (scan (length xs) xs).out
 hands_first xs long ok room busy =

@@ -1,4 +1,4 @@
--- How a zone is read behind the begun packet.
+-- How a zone is read after the begun packet.
 use Rattle.std.proofs.Common.{◌≡◌, ℕ, zero, suc, ◌+◌, ◌-◌, ◌<◌, ◌≤◌, ◌⊎◌, Bool, true, false, ◌&&◌, ◌==◌, not, nat_lt, min, List, [], ◌∷◌, ◌++◌, length, take, drop, refl, sym, ap, subst, ◌∙◌, inl, inr, arith, length-append, append_assoc}
 use Rattle.std.proofs.Math.Seq.{take-add, take-append-add}
 use Rattle.std.proofs.lemmas.Bool.{lt-ltb, le-ltb, cases_lt}
@@ -89,7 +89,7 @@ kept xs rest before other (inl none) = subst (λ l. IsSplit (l ++ rest) rest l b
 kept xs rest before other (inr (inl w)) = absurd (other w.long w.size)
 kept xs rest before other (inr (inr k)) = split_cut xs rest before k
 
--- The begun packet with what its header wants of the zone.
+-- The begun packet with what its header needs of the zone.
 same_head : (held octets front : List ℕ) → 6 ≤ length octets → front ≡ held ++ take (6 - length held) octets →
     (6 ≤ length front) × (take 6 front ≡ take 6 (held ++ octets))
 same_head held octets front room is =
@@ -136,7 +136,7 @@ begun_less held octets front begun is =
     omega (arith, begun c, ap header_len same) in
     elim (cases_lt (length held) 6) [ inl c ↦ omega (arith, header_len-long front) | inr c ↦ long c ]
 
--- Its header is whole then, and tells what it told before.
+-- Its header is whole then, and says what it said before.
 pub last_size : (held octets front last : List ℕ) (end : ℕ) → 6 ≤ length octets → front ≡ held ++ take (6 - length held) octets →
     last ≡ front ++ take (end - (6 - length held)) (drop (6 - length held) octets) → last ≡ held ++ take end octets → end ≤ length octets →
     (6 ≤ length last) × (take 6 last ≡ take 6 front) × (header_len last ≡ header_len front) × (length last ≡ length held + end)
@@ -167,7 +167,8 @@ heads_are held octets front last end room begun is ok more all within ends =
       | inr e ↦ inr (inr (record { version = λ c. ok2; begun = λ c. omega (arith, e.0, e.1); last = ap (λ n. drop n octets) (e.0) ∙ drop_all (length octets) octets (omega arith) }))
     ]
 
--- All of a zone behind what is held is read where the packet goes on, else what stands at the pointer.
+-- All of a zone after what is held is read if the packet goes on, otherwise what stands at the
+-- pointer.
 pub reads_on : (z at : ℕ) (held octets : List ℕ) → goes_on z held at octets ≡ true → to_read z held at octets ≡ held ++ octets
 reads_on z at held octets on = rw on refl
 
@@ -204,7 +205,7 @@ past z at held octets size room long ok none more =
       begun = λ c. less;
     }
 
--- What was told of the begun packet is how it stands at the zone.
+-- What was known of the begun packet is how it stands at the zone.
 pub told_is : (z at : ℕ) (held octets front seen : List ℕ) (k n : ℕ) (r : Bool) → 0 < length held → 6 ≤ length octets →
     n ≡ length held → k ≡ 6 - n → front ≡ held ++ take k octets → seen ≡ front →
     r ≡ (header_ok seen && (at == pointer_after z (header_len seen - n))) → r ≡ goes_on z held at octets
@@ -213,7 +214,7 @@ told_is z at held octets front seen k n r some room len part is same told =
     told ∙ ap (λ l. header_ok l && (at == pointer_after z (header_len l - n))) same
     ∙ ap (λ i. header_ok front && (at == pointer_after z (header_len front - i))) len ∙ sym (goes_on_is z at held octets front some room front_is)
 
--- What reading a zone gives, from what is read behind the begun packet.
+-- What reading a zone gives, from what is read after the begun packet.
 pub read_front : (text all rest part held : List ℕ) (before between out : List (List ℕ)) (n : ℕ) → all ≡ text → part ≡ rest → IsSplit all rest held before between →
     out ≡ between ++ take n (scan (length part) part).out → (m : ℕ) × (out ≡ before ++ take m (scan (length text) text).out)
 read_front text all rest part held before between out n is same s more = (
@@ -236,7 +237,7 @@ some_of (suc n) m is some = omega arith
 pub min_is : (m n e : ℕ) → e ≡ min m n → (e ≡ m) ⊎ ((e ≡ n) × (n < m))
 min_is m n e is = elim (cases_lt n m) [ inl c ↦ inr (omega arith, c) | inr c ↦ inl (omega arith) ]
 
--- what is handed out behind what is held is handed out of all
+-- what is handed out after what is held is handed out of all
 pub hands_behind : (text all rest part held : List ℕ) (before between : List (List ℕ)) → all ≡ text → part ≡ rest → IsSplit all rest held before between →
     1 ≤ length (scan (length part) part).out → 1 ≤ length (scan (length text) text).out
 hands_behind text all rest part held before between is same s some =

@@ -1,4 +1,5 @@
--- Exported: a packet that is sent later changes nothing of the octets, the zones and the survivors before it.
+-- Exported: a packet that is sent later changes nothing of the octets, the zones and the survivors
+-- before it.
 use Rattle.std.proofs.Common.{◌≡◌, ℕ, ◌+◌, ◌-◌, ◌*◌, ◌≤◌, ◌&&◌, not, nat_le, nat_lt, Bool, true, false, List, [], ◌∷◌, ◌++◌, length, take, drop, refl, sym, ap, ◌∙◌, arith, length-append, length-drop}
 use Rattle.std.proofs.lemmas.Bool.{le-ltb, le-leb, lt-leb}
 use Rattle.std.proofs.lemmas.List.{take-append-le, drop-append-le, append_assoc, append-nil}
@@ -15,7 +16,7 @@ pub ArePackets-push : (ps : List (List ℕ)) (q : List ℕ) → ArePackets ps �
 ArePackets-push [] q h hq = (hq, tt)
 ArePackets-push (p ∷ ps) q h hq = (h.0, ArePackets-push ps q h.1 hq)
 
--- a packet more behind the marks changes nothing of what was read
+-- one more packet after the marks changes nothing of what was read
 pub begun-push : (z : ℕ) (marks : List Bool) (a : ℕ) (ps : List (List ℕ)) (q : List ℕ) → IsPacket q → length marks * z ≤ a + length (stream ps) →
     begun z marks a (ps ++ q ∷ []) ≡ begun z marks a ps
 begun-push z marks a [] q hq h =

@@ -30,7 +30,7 @@ next_is_read ps marks held follows at octets lo hi is =
       bad = bad_is ps marks (held_at follows held) at octets lo hi is;
     }
 
--- A stream's pointers fit their field, and none is that of idle data.
+-- A stream's pointers fit their field, and none is the pointer of idle data.
 pub pointer_fits : (z e a : ℕ) (ps : List (List ℕ)) → z ≤ 2040 → first_header_pointer z e a ps < 2048
 pointer_fits z e a [] hi = omega arith
 pointer_fits z e a (p ∷ ps) hi =
@@ -51,7 +51,7 @@ pointer_fits z e a (p ∷ ps) hi =
 pub pointer_is_not_idle : (z e a : ℕ) (ps : List (List ℕ)) → z ≤ 2040 → (first_header_pointer z e a ps == 2046) ≡ false
 pointer_is_not_idle z e a ps hi = (usable z e a ps hi).1
 
--- A pointer that was written is read, and its zone stands behind it.
+-- A pointer that was written is read, and its zone stands after it.
 pub written_pointer : (at : ℕ) (zone : List ℕ) → at < 2048 → (pointer_of (pointer_octets at ++ zone) ≡ at) × (drop 2 (pointer_octets at ++ zone) ≡ zone)
 written_pointer at zone below = (
   field_of_octets [] zone 2 at 5 5 11 (omega arith) refl (omega arith) ∙ omega (arith, below),

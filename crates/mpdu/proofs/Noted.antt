@@ -63,7 +63,7 @@ joined ps marks held at octets lo is =
     let j2 : Joins z (begun z marks 0 ps) at octets = subst (λ (n : ℕ). Joins z (begun z marks 0 ps) n octets) (sym is.pointed) j1 in
     subst (λ (l : List ℕ). Joins z l at octets) (sym is.as_left) j2
 
--- A stream's pointers are usable, and none is that of idle data.
+-- A stream's pointers are usable, and none is the pointer of idle data.
 pub usable : (z e a : ℕ) (ps : List (List ℕ)) → z ≤ 2040 → (is_usable z (first_header_pointer z e a ps) ≡ true) × ((first_header_pointer z e a ps == 2046) ≡ false)
 usable z e a [] most = (rw (le-ltb 2047 z (omega arith)) refl, refl)
 usable z e a (p ∷ ps) most =
@@ -96,7 +96,7 @@ not_bad z [] at octets j = refl
 not_bad z (b ∷ bs) at octets (inl e) = absurd (cc)
 not_bad z (b ∷ bs) at octets (inr e) = ap not (first_of (header_ok (b ∷ bs ++ octets)) (at == pointer_after z (header_len (b ∷ bs ++ octets) - length (b ∷ bs))) e)
 
--- what is let go at a usable pointer: only what a lost zone cut
+-- what is discarded at a usable pointer: only what a lost zone cut
 let_go : (z : ℕ) (held : List ℕ) (follows : Bool) (at : ℕ) (octets : List ℕ) → Joins z (held_at follows held) at octets →
     (is_some held && not (goes_on z (held_at follows held) at octets || turns_bad (held_at follows held) octets)) ≡ (not follows && is_some held)
 let_go z held false at octets j = and_true (is_some held)

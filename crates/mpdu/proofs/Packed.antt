@@ -68,7 +68,8 @@ skip_start (suc n) z at e a xs (p ∷ ps) h le is rest room few =
     rw (t1, t2, len, t3) (skip_start n z (at + length p) e (a + length p) xs ps h.1 (omega arith) (omega arith) past_p room (omega arith)) in
     elim (cases_lt at z) [ inl c ↦ more c | inr c ↦ past c ]
 
--- From the place of the next start in what waits, going by the headers leads to the next start behind the zone.
+-- From the place of the next start in what waits, going by the headers leads to the next start
+-- after the zone.
 pub skip_next : (z e a : ℕ) (ps : List (List ℕ)) → ArePackets ps → a ≤ e → e + z ≤ a + length (stream ps) →
     skip z z (next_start e a ps) (drop (e - a) (stream ps)) - z ≡ next_start (e + z) a ps
 skip_next z e a [] h le room =
@@ -113,13 +114,13 @@ pointer_is z e a (p ∷ ps) room =
     rw f (pointer_is z e (a + length p) ps (omega (arith, length-append p (stream ps)))) in
     elim (cases_lt a e) [ inl b ↦ t b | inr c ↦ pointer_next z e a (p ∷ ps) c room ∙ ap (λ n. pointer_after z n) (sym (next_start-at e a (p ∷ ps) c)) ]
 
--- a packet more behind changes no start before it
+-- one more packet after them changes no start before it
 pub next_start-push : (e a : ℕ) (ps : List (List ℕ)) (q : List ℕ) → e ≤ a + length (stream ps) → next_start e a (ps ++ q ∷ []) ≡ next_start e a ps
 next_start-push e a [] q h = let le : e ≤ a = omega arith in rw (le-leb e a le) refl
 next_start-push e a (p ∷ ps) q h =
     rw (next_start-push e (a + length p) ps q (omega (arith, length-append p (stream ps)))) refl
 
--- The packer after a packet more, and after a zone taken.
+-- The packer after one more packet, and after a zone taken.
 pub pushed : (p : PackerState) (ps : List (List ℕ)) (taken : ℕ) (q : List ℕ) → IsPacket q → IsAt p ps taken → (f : Bool) →
     IsAt (record p { waiting = p.waiting ++ q; flushed = f }) (ps ++ q ∷ []) taken
 pushed p ps taken q hq h f =

@@ -18,7 +18,7 @@ either : (y x : ℕ) (xs : List ℕ) → Contains (y ∷ xs) x → (x ≡ y) ⊎
 either y x xs (zero, lt, is) = inl (sym is)
 either y x xs (suc k, lt, is) = inr (k, omega arith, is)
 
--- all starts lie at the first or behind it
+-- all starts lie at the first or after it
 starts-above : (a s : ℕ) (ps : List (List ℕ)) → Contains (starts a ps) s → a ≤ s
 starts-above a s [] h = absurd (none_starts s h)
 starts-above a s (p ∷ ps) h =

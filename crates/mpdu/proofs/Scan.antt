@@ -1,4 +1,4 @@
--- Exported: packets found in octets, one behind the other.
+-- Exported: packets found in octets, one after the other.
 use Rattle.std.proofs.Common.{◌≡◌, ℕ, zero, suc, ◌+◌, ◌-◌, ◌<◌, ◌≤◌, true, false, not, cond, nat_eq, nat_lt, nat_le, List, [], ◌∷◌, ◌++◌, length, take, drop, refl, sym, ap, ◌∙◌, inl, inr, arith, length-append, length-drop}
 use Rattle.std.proofs.lemmas.Bool.{lt-ltb, le-ltb, le-leb, lt-leb, cases_lt}
 use Rattle.std.proofs.lemmas.List.{take_at, drop_at, take-append-le, length-take-le, take-take}
@@ -92,7 +92,8 @@ scan_cut (suc n) k p h lt few =
     rw (t1, ok, hl, t2) refl in
     elim (cases_lt k 6) [ inl c ↦ short c | inr c ↦ long c ]
 
--- Reading the first k octets of a stream of packets gives those that lie in them whole, and what came of the next.
+-- Reading the first k octets of a stream of packets gives those that lie in them whole, and what
+-- came of the next.
 pub scan_stream : (n k : ℕ) (ps : List (List ℕ)) → ArePackets ps → k ≤ length (stream ps) → k ≤ n →
     scan n (take k (stream ps)) ≡ record { begun = part k ps; out = whole k ps; bad = false }
 scan_stream zero k [] h room few = refl

@@ -35,7 +35,7 @@ arrived-past z s [] a b h = let lt : s < b = omega arith in lt-leb b s lt
 arrived-past z s (m ∷ marks) a b h =
     rw (arrived-past z (s + z) marks a b (omega arith)) (ap (λ t. cond (meets s (s + z) a b) t false) (and_false m) ∙ cond_same (meets s (s + z) a b) false)
 
--- a range that starts behind the marks' end asks for none of them
+-- a range that starts after the marks' end asks for none of them
 pub arrived-behind : (z s : ℕ) (marks : List Bool) (a e : ℕ) → e ≡ s + length marks * z → e ≤ a → arrived z s marks a e ≡ true
 arrived-behind z s [] a e is h = let le : e ≤ s = omega arith in le-leb e s le
 arrived-behind z s (m ∷ marks) a e is h =
@@ -47,7 +47,7 @@ step_bools true true k x = refl
 step_bools true false k x = sym (and_false k)
 step_bools false m k x = refl
 
--- a range that ends in the next zone asks for that one, and for those before
+-- a range that ends in the next zone asks for that one, and for the zones before
 pub arrived-into : (z s : ℕ) (marks : List Bool) (k : Bool) (a b e : ℕ) → 0 < z → e ≡ s + length marks * z → e < b → b ≤ e + z → a < e + z →
     arrived z s (marks ++ k ∷ []) a b ≡ (k && arrived z s marks a e)
 arrived-into z s [] k a b e pos is h1 h2 h3 =

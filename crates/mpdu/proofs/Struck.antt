@@ -6,7 +6,7 @@ use Rattle.mpdu.proofs.Spans.{arrived-before, arrived-past, arrived-behind, arri
 use Rattle.mpdu.proofs.Scan.{packet_long}
 use Rattle.mpdu.proofs.Zone.{end_more}
 
--- a struck zone lets what is begun go
+-- a struck zone discards what is begun
 pub begun-struck : (z : ℕ) (marks : List Bool) (a : ℕ) (ps : List (List ℕ)) → 0 < z → begun z (marks ++ false ∷ []) a ps ≡ []
 begun-struck z marks a [] pos = refl
 begun-struck z marks a (p ∷ ps) pos =

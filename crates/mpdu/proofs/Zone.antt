@@ -17,13 +17,13 @@ keep-append : (b : Bool) (p : List ℕ) (ps qs : List (List ℕ)) → keep b p (
 keep-append true p ps qs = refl
 keep-append false p ps qs = refl
 
--- the end of one zone more
+-- the end of one more zone
 pub end_more : (z : ℕ) (marks : List Bool) (k : Bool) → length (marks ++ k ∷ []) * z ≡ length marks * z + z
 end_more z marks k =
     let e : length (marks ++ k ∷ []) ≡ length marks + 1 = length-append marks (k ∷ []) in
     ap (λ n. n * z) e ∙ (let f : (length marks + 1) * z ≡ length marks * z + z = omega arith in f)
 
--- of packets that end behind the marks none survives
+-- of packets that end after the marks none survives
 pub survivors-behind : (z : ℕ) (marks : List Bool) (a : ℕ) (ps : List (List ℕ)) → ArePackets ps → length marks * z ≤ a → survivors z marks a ps ≡ []
 survivors-behind z marks a [] h le = refl
 survivors-behind z marks a (p ∷ ps) h le =
@@ -31,7 +31,8 @@ survivors-behind z marks a (p ∷ ps) h le =
     let no : arrived z 0 marks a (a + length p) ≡ false = arrived-past z 0 marks a (a + length p) (omega arith) in
     keep_false (arrived z 0 marks a (a + length p)) p (survivors z marks (a + length p) ps) no ∙ survivors-behind z marks (a + length p) ps h.1 (omega arith)
 
--- Where the zone was delivered, and the zones before it that the first packet meets: what survives is what lies whole below the zone's end.
+-- If the zone was delivered, and the zones before it that the first packet meets: what survives is
+-- what lies whole below the zone's end.
 pub head_survives : (z : ℕ) (marks : List Bool) (a : ℕ) (p : List ℕ) (ps : List (List ℕ)) → 0 < z → IsPacket p → ArePackets ps →
     length marks * z < a + length p → arrived z 0 marks a (length marks * z) ≡ true →
     (a + length p ≤ length marks * z + z → survivors z (marks ++ true ∷ []) (a + length p) ps ≡ whole (length marks * z + z - (a + length p)) ps) →
@@ -133,7 +134,7 @@ part_none (p ∷ ps) h =
     let t : nat_le (length p) 0 ≡ false = lt-leb (length p) 0 (omega (arith, packet_long p h.0)) in
     rw t refl
 
--- what reading the next zone has to leave, and to give
+-- what reading the next zone must leave, and give
 pub record FedRight (z : ℕ) (marks : List Bool) (a : ℕ) (ps : List (List ℕ)) (r : Read) : Type 0 where
   pub held : r.begun ≡ begun z (marks ++ true ∷ []) a ps
   pub given : survivors z (marks ++ true ∷ []) a ps ≡ survivors z marks a ps ++ r.out

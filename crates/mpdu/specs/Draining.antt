@@ -7,7 +7,8 @@ use Rattle.mpdu.specs.Reading.{held_at}
 use Rattle.mpdu.specs.Packing.{PackerState, IsAt}
 use Rattle.mpdu.specs.Carrying.{marks_of}
 
--- So many frames were counted, the last `missed` of them struck, the one before those seen last.
+-- So many frames were counted; the last `missed` of them were struck, and the one before them was
+-- seen last.
 pub record IsCounted (struck : List Bool) (taken missed next : ℕ) (last : Option SeenCount)
     (held : List ℕ) : Type 0 where
   pub counted : next ≡ taken % frame_counts
@@ -16,7 +17,7 @@ pub record IsCounted (struck : List Bool) (taken missed next : ℕ) (last : Opti
   pub seen : IfSome last (λ l. (n : ℕ) × CountsFrame true n l × (taken ≡ n + 1 + missed))
   pub unseen : last ≡ None → held ≡ []
 
--- Of the stream of these packets all zones that were taken have been struck or read; `next` is the
+-- All zones that were taken of the stream of these packets have been struck or read; `next` is the
 -- count of the next frame, `last` the count seen last.
 pub record IsCarried (ps : List (List ℕ)) (struck : List Bool) (size : ℕ) (packer : PackerState)
     (held : List ℕ) (next : ℕ) (last : Option SeenCount) (sent : ℕ)

@@ -8,7 +8,7 @@ abbrev pub octets_of_each : List (Vec ℕ Global) → List (List ℕ)
 octets_of_each vs = map (λ v. v.items) vs
 
 -- This zone is the one after the marked ones of the stream, and the reassembler is as the delivered
--- ones of those left it.
+-- ones of them left it.
 pub record IsNext (ps : List (List ℕ)) (marks : List Bool) (held : List ℕ) (at : ℕ)
     (octets : List ℕ) : Type 0 where
   pub packets_whole : ArePackets ps

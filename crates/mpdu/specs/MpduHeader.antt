@@ -1,5 +1,5 @@
--- The M_PDU header in front of a packet zone (CCSDS 732.0-B-4, 4.1.4.2.2): 5 spare bits, and the
--- first header pointer.
+-- The M_PDU header before a packet zone (CCSDS 732.0-B-4, 4.1.4.2.2): 5 spare bits, and the first
+-- header pointer.
 use Rattle.std.specs.Prelude.{ℕ, List}
 use Rattle.cfd_bits.specs.Field.{field, octets}
 

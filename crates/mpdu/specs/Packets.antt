@@ -2,7 +2,7 @@
 use Rattle.std.specs.Prelude.{ℕ, zero, suc, Bool, ◌&&◌, not, nat_le, if◌then◌else◌, List, [], ◌∷◌, length, take, drop}
 use Rattle.mpdu.specs.Stream.{header_len, header_ok, is_idle, keep}
 
--- A whole packet stands in front: a header of version 000, and as many octets as it tells (CCSDS
+-- A whole packet stands at the front: a header of version 000, and as many octets as it says (CCSDS
 -- 133.0-B-2, 4.1.3).
 abbrev pub begins_with_packet : List ℕ → Bool
 begins_with_packet text = nat_le 6 (length text) && header_ok text

@@ -3,8 +3,8 @@ use Rattle.std.specs.Prelude.{◌≡◌, ℕ, zero, suc, ◌+◌, ◌-◌, ◌*�
 use Rattle.space_packet.specs.Packet.{packet_octets, idle}
 use Rattle.mpdu.specs.Stream.{header_len, ArePackets, stream, zone, first_header_pointer}
 
--- what a packer holds: the octets that wait, the place among them where the next packet starts, or
--- will, and whether the last to come was a flush's idle packet
+-- what a packer holds: the octets that wait, the index among them at which the next packet starts,
+-- or will, and whether the last to come was a flush's idle packet
 pub record PackerState : Type 0 where
   pub size : ℕ
   pub capacity : ℕ
@@ -12,12 +12,12 @@ pub record PackerState : Type 0 where
   pub first : ℕ
   pub flushed : Bool
 
--- how far behind octet e the next packet starts, or will
+-- how far after octet e the next packet starts, or will
 abbrev pub next_start : ℕ → ℕ → List (List ℕ) → ℕ
 next_start e a [] = a - e
 next_start e a (p ∷ ps) = if nat_le e a then a - e else next_start e (a + length p) ps
 
--- the first start at z or behind it, going by the headers from the start at
+-- the first start that is at least z, going by the headers from the start at
 abbrev pub skip : ℕ → ℕ → ℕ → List ℕ → ℕ
 skip zero z at xs = at
 skip (suc n) z at xs = if nat_lt at z && nat_le (at + 6) (length xs)
@@ -30,7 +30,7 @@ pub record IsAt (p : PackerState) (ps : List (List ℕ)) (taken : ℕ) : Type 0 
   pub rest : p.waiting ≡ drop (taken * p.size) (stream ps)
   pub start : p.first ≡ next_start (taken * p.size) 0 ps
 
--- the whole zone of the stream behind those taken, and its first header pointer
+-- the whole zone of the stream after the zones taken, and its first header pointer
 pub record ZoneOf (ps : List (List ℕ)) (taken size at : ℕ) (octets : List ℕ) : Type 0 where
   pub inside : taken * size + size ≤ length (stream ps)
   pub pointed : at ≡ first_header_pointer size (taken * size) 0 ps
@@ -40,12 +40,12 @@ pub record ZoneOf (ps : List (List ℕ)) (taken size at : ℕ) (octets : List �
 unfoldable pub idle_packet : ℕ → List ℕ
 idle_packet n = packet_octets (idle n)
 
--- the octets of the idle packet that fills this much free, or, where that is too little for one,
+-- the octets of the idle packet that fills so many free octets, or, if they are too few for one,
 -- the least
 abbrev pub idle_len : ℕ → ℕ
 idle_len free = if nat_le 7 free then free else 7
 
--- what a flush adds: nothing where no zone is begun, or none but by the last flush's rest, else the
+-- what a flush adds: nothing if no zone is begun, or only by the last flush's rest; otherwise the
 -- idle packet
 abbrev pub flush_of : PackerState → List (List ℕ)
 flush_of p = if p.flushed || (length p.waiting % p.size == 0) then []

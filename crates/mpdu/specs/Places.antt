@@ -11,7 +11,7 @@ starts a (p ∷ ps) = a ∷ starts (a + length p) ps
 abbrev pub IsInSpan : ℕ → ℕ → ℕ → ℕ → Type 0
 IsInSpan z a b f = (f * z < b) × (a < f * z + z)
 
--- of the starts the least that is not before octet `start` lies so many octets behind it, in the
+-- the least of the starts that is not before octet `start` lies so many octets after it, in the
 -- zone
 pub record IsFirstStart (z start : ℕ) (places : List ℕ) (at : ℕ) : Type 0 where
   pub inside : at < z

@@ -1,4 +1,4 @@
--- How any zone is read, also one of no stream.
+-- How any zone is read, also a zone of no stream.
 use Rattle.std.specs.Prelude.{ℕ, zero, suc, ◌+◌, ◌-◌, Bool, true, false, not, ◌&&◌, ◌||◌, ◌==◌, nat_lt, if◌then◌else◌, List, [], ◌∷◌, ◌++◌, length, take, drop}
 use Rattle.cfd_bits.specs.Field.{flag}
 use Rattle.mpdu.specs.Stream.{header_len, header_ok, is_idle, keep}
@@ -13,8 +13,8 @@ pub record Read : Type 0 where
 abbrev pub emit : List ℕ → Read → Read
 emit p r = record { begun = r.begun; out = keep (not (is_idle p)) p r.out; bad = r.bad }
 
--- Packets end to end from the front on, at most n of them. Behind a header of a wrong version
--- nothing is read.
+-- Packets end to end from the front on, at most n of them. If a header has a wrong version, nothing
+-- after it is read.
 abbrev pub scan : ℕ → List ℕ → Read
 scan zero xs = record { begun = []; out = []; bad = false }
 scan (suc n) xs =
@@ -40,7 +40,7 @@ abbrev pub turns_bad : List ℕ → List ℕ → Bool
 turns_bad [] octets = false
 turns_bad (b ∷ bs) octets = not (header_ok (b ∷ bs ++ octets))
 
--- what is read of a zone: all of it behind what is held, where that goes on, else what stands at
+-- what is read of a zone: all of it after what is held if that goes on, otherwise what stands at
 -- the pointer
 abbrev pub to_read : ℕ → List ℕ → ℕ → List ℕ → List ℕ
 to_read z held at octets = if goes_on z held at octets then held ++ octets else drop at octets
@@ -49,11 +49,11 @@ to_read z held at octets = if goes_on z held at octets then held ++ octets else 
 abbrev pub step : ℕ → List ℕ → ℕ → List ℕ → Read
 step z held at octets = scan (length (to_read z held at octets)) (to_read z held at octets)
 
--- what is held of a begun packet at a zone: nothing where the zone doesn't follow the last one read
+-- what is held of a begun packet at a zone: nothing if the zone doesn't follow the last one read
 abbrev pub held_at : Bool → List ℕ → List ℕ
 held_at follows held = if follows then held else []
 
--- the pointer is a place in the zone, or says that no packet starts there
+-- the pointer is an offset in the zone, or says that no packet starts there
 abbrev pub is_usable : ℕ → ℕ → Bool
 is_usable z at = nat_lt at z || (at == 2047)
 
@@ -61,9 +61,8 @@ abbrev pub is_some : List ℕ → Bool
 is_some [] = false
 is_some (x ∷ xs) = true
 
--- Whether a begun packet is discarded for another cause than its header, or the pointer is not
--- usable.
--- The pointer 2046, of a zone of idle data, says neither.
+-- true if a begun packet is discarded for another cause than its header, or the pointer is not
+-- usable. The pointer 2046, of a zone of idle data, is neither.
 abbrev pub resync : ℕ → List ℕ → Bool → ℕ → List ℕ → Bool
 resync z held follows at octets =
     not (at == 2046)

@@ -12,12 +12,12 @@ use aos_frame::{FRAME_COUNTS, VcCounter, VcMonitor};
 use octet_strings::OctetStrings;
 use std::alloc::{AllocError, Global};
 
-/// The capacity of the packer that [`carry`] uses: each packet fits, behind a zone that isn't
+/// The capacity of the packer that [`carry`] uses: each packet fits, even after a zone that isn't
 /// whole.
 const CARRY_CAPACITY: usize = 131_072;
 
-/// Whether the next frame is struck, and the place of the mark behind its own. A frame past the
-/// list's end isn't.
+/// Returns whether the next frame is struck, and the index of the mark after its own. A frame past
+/// the list's end isn't struck.
 fn next_mark(struck: &[bool], sent: usize) -> (bool, usize)
     requires { sent ≤ length struck.now }
     ensures lost { (n : ℕ) → sent ≡ min n (length struck.now) → get_or struck.now n false
@@ -40,9 +40,9 @@ struct Counts {
     monitor: VcMonitor,
 }
 
-/// Whether so few frames in a row are lost that the 28-bit frame counts tell each loss.
+/// Returns `true` if so few frames in a row are lost that the 28-bit frame counts show each loss.
 ///
-/// Fewer than 268,435,456 are. Frame n is lost where `struck[n]` is true.
+/// It holds if fewer than 268,435,456 are. Frame n is lost if `struck[n]` is true.
 pub fn are_few_in_a_row(struck: &[bool]) -> bool
     ensures { IsTrue result ↔ AreFewInARow struck.now }
 {
@@ -60,7 +60,7 @@ pub fn are_few_in_a_row(struck: &[bool]) -> bool
     true
 }
 
-/// Takes all whole zones out of the packer, and reads those that aren't struck.
+/// Takes all whole zones out of the packer, and reads each zone that isn't struck.
 fn drain(
     packer: &mut Packer,
     reassembler: &mut Reassembler,
@@ -100,16 +100,16 @@ fn drain(
     Ok(())
 }
 
-/// Sends packets over a channel that loses frames, and gives back those that come whole.
+/// Sends packets over a channel that loses frames, and returns the packets that come whole.
 ///
-/// Packs the packets into zones of `zone` octets (16 to 2,040), flushes, strikes frame n where
+/// Packs the packets into zones of `zone` octets (16 to 2,040), flushes, strikes frame n if
 /// `struck[n]` is true, and puts packets together again from the zones of the others, whose 28-bit
-/// frame counts tell where some are missing. A frame past the list's end is not struck.
+/// frame counts show if some are missing. A frame past the list's end is not struck.
 ///
-/// What comes back are exactly the packets that aren't idle and of which no frame was struck, in
-/// order. Each item of `packets` is one whole packet, which [`are_packets`](crate::are_packets)
-/// tests, and fewer than 268,435,456 frames in a row are struck, which [`are_few_in_a_row`] tests.
-/// `AllocError` comes only where a growth was refused.
+/// It returns exactly the packets that aren't idle and lost no frame, in order. Each
+/// item of `packets` must be one whole packet, which [`are_packets`](crate::are_packets) tests, and
+/// fewer than 268,435,456 frames in a row must be struck, which [`are_few_in_a_row`] tests.
+/// `AllocError` comes only if a growth was refused.
 pub fn carry(
     alloc: Global,
     packets: &[Vec<u8>],

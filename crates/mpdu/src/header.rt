@@ -1,14 +1,14 @@
-//! What a reassembler asks of the primary header in front of some octets (CCSDS 133.0-B-2, 4.1.3),
-//! also where its packet isn't all there.
+//! What a reassembler reads of the primary header before some octets (CCSDS 133.0-B-2, 4.1.3), also
+//! if its packet isn't all there.
 ghost use Rattle.std.specs.Prelude.{◌≡◌, ◌≤◌, ◌↔◌, IsTrue, length};
 ghost use Rattle.mpdu.specs.Stream.{IsPacket, ArePackets, header_len, header_ok, is_idle};
 ghost use Rattle.mpdu.specs.Feeding.{octets_of_each};
 
 use space_packet::{IDLE_APID, decode};
 
-/// Whether the octets are one whole space packet and nothing else.
+/// Returns `true` if the octets are one whole space packet and nothing else.
 ///
-/// An idle packet is one, too (CCSDS 133.0-B-2, 4.1).
+/// An idle packet is a packet, too (CCSDS 133.0-B-2, 4.1).
 pub fn is_packet(bytes: &[u8]) -> bool
     ensures { IsTrue result ↔ IsPacket bytes.now }
 {
@@ -18,7 +18,7 @@ pub fn is_packet(bytes: &[u8]) -> bool
     }
 }
 
-/// Whether each item is one whole space packet and nothing else.
+/// Returns `true` if each item is one whole space packet and nothing else.
 pub fn are_packets(packets: &[Vec<u8>]) -> bool
     ensures { IsTrue result ↔ ArePackets (octets_of_each packets.now) }
 {
@@ -30,7 +30,7 @@ pub fn are_packets(packets: &[Vec<u8>]) -> bool
     true
 }
 
-/// The octets of the packet that begins here, 7 to 65,542.
+/// Returns the number of octets of the packet that begins here, 7 to 65,542.
 pub(crate) fn packet_len(bytes: &[u8]) -> usize
     requires { 6 ≤ length bytes.now }
     ensures told { result ≡ header_len bytes.now }

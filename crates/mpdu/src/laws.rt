@@ -8,7 +8,7 @@ ghost use Rattle.mpdu.specs.Packets.{packets_of, begins_with_packet, busy};
 ghost use Rattle.mpdu.specs.Parts.{IsPartOf, AreAmong, CompletesMore};
 ghost use Rattle.mpdu.specs.Places.{IsInSpan, IsFirstStart, HasNoStart, starts};
 
-/// A packet arrives where each zone that carries a part of it does, and only there.
+/// A packet arrives exactly if each zone that carries a part of it does.
 ///
 /// It is the octets from a up to b of a stream that is cut into zones of z octets.
 pub fn a_packet_arrives_with_its_span()
@@ -17,23 +17,23 @@ pub fn a_packet_arrives_with_its_span()
         ((f : ℕ) → IsInSpan z a b f → slice_index_or marks f false ≡ true) }
 {}
 
-/// A first header pointer is the place in its zone where the first packet starts.
+/// A first header pointer is the offset in its zone at which the first packet starts.
 ///
-/// Where no packet starts in the zone it is 2047.
+/// If no packet starts in the zone, it is 2047.
 pub fn a_pointer_is_the_first_start()
     ensures { (z start : ℕ) (ps : List (List ℕ)) →
         IsFirstStart z start (starts 0 ps) (first_header_pointer z start 0 ps)
         ⊎ ((first_header_pointer z start 0 ps ≡ 2047) × HasNoStart z start (starts 0 ps)) }
 {}
 
-/// A first header pointer is read as it was written, and its zone stands behind it.
+/// A first header pointer is read as it was written, and its zone stands after it.
 pub fn a_written_pointer_is_read()
     ensures { (at : ℕ) (zone : List ℕ) → at < 2048 →
         (pointer_of (pointer_octets at ++ zone) ≡ at)
         × (drop 2 (pointer_octets at ++ zone) ≡ zone) }
 {}
 
-/// Octets are the packets that they spell, end to end, with a rest that begins no packet.
+/// Octets are the packets that they spell, end to end, and a rest that begins no packet.
 pub fn octets_are_their_packets()
     ensures whole { (text : List ℕ) → ArePackets (packets_of text) }
     ensures joined { (text : List ℕ) →
@@ -43,7 +43,7 @@ pub fn octets_are_their_packets()
 
 /// Packets that were laid end to end are read as the same packets.
 ///
-/// Whatever stands behind them, as long as no packet begins there.
+/// This holds whatever stands after them, if no packet begins there.
 pub fn packets_are_read_again()
     ensures before { (ps : List (List ℕ)) (rest : List ℕ) → ArePackets ps → begins_with_packet rest
         ≡ false →
@@ -51,11 +51,11 @@ pub fn packets_are_read_again()
     ensures alone { (ps : List (List ℕ)) → ArePackets ps → packets_of (stream ps) ≡ ps }
 {}
 
-/// Where fewer zones come, only a part of the packets comes that would come else.
+/// If fewer zones come, only a part of the packets comes that would otherwise come.
 ///
-/// Of a stream's packets those survive, in order, all of whose zones were delivered. Where fewer
-/// zones were, a part of these packets survives, and one zone more completes no packet that it
-/// would not complete else.
+/// Of a stream's packets those survive, in order, all of whose zones were delivered. If fewer zones
+/// were, a part of these packets survives, and one more zone completes no packet that it would not
+/// otherwise complete.
 pub fn fewer_zones_give_a_part()
     ensures sent { (z : ℕ) (marks : List Bool) (ps : List (List ℕ)) →
         IsPartOf (survivors z marks 0 ps) (busy ps) }
@@ -73,7 +73,7 @@ pub fn a_part_has_no_more()
         Contains whole x }
 {}
 
-/// A zone that is lost completes no packet, and of the packet that it cuts nothing is kept.
+/// A lost zone completes no packet, and nothing is kept of the packet that it cuts.
 pub fn a_struck_zone_completes_nothing()
     ensures survivors { (z : ℕ) (marks : List Bool) (ps : List (List ℕ)) → 0 < z → ArePackets ps →
         survivors z (marks ++ false ∷ []) 0 ps ≡ survivors z marks 0 ps }
@@ -83,7 +83,8 @@ pub fn a_struck_zone_completes_nothing()
 
 /// A packet that is sent later changes no zone that was full before.
 ///
-/// Nor does it change which packets the zones so far give, and what they leave of a begun one.
+/// It doesn't change either which packets the zones so far give, and what they leave of a begun
+/// one.
 pub fn a_later_packet_changes_nothing()
     ensures zone { (z start : ℕ) (ps : List (List ℕ)) (q : List ℕ) → start + z
         ≤ length (stream ps) →

@@ -2,11 +2,11 @@
 //!
 //! Packets lie end to end over the packet zones of the frames of a virtual channel. A zone's end
 //! may cut a packet, its header too, and each zone's first header pointer says where the first
-//! packet begins that starts in it. A [`Packer`] lays packets out so, a [`Reassembler`] gives back
-//! those all of whose zones came, and [`carry`] does both.
+//! packet begins that starts in it. A [`Packer`] lays packets out so, a [`Reassembler`] returns the
+//! packets all of whose zones came, and [`carry`] does both.
 //!
-//! A packer takes whole packets and lends zones, each with the first header pointer that goes in
-//! front of it in its M_PDU. A reassembler takes these and gives the packets:
+//! A packer takes whole packets and writes zones, each with the first header pointer that must go
+//! before it in its M_PDU. A reassembler takes these and gives the packets:
 //!
 //! ```
 //! let mut packer = Packer::new(alloc, 16, 1024)?;

@@ -28,14 +28,14 @@ const FLUSH_ROOM: usize = 2047;
 #[error("no room for the packet: take frames off first")]
 pub struct Full;
 
-/// One of the octets; 0 behind the last.
+/// Returns one of the octets; 0 if it is past the last.
 fn octet_at(octets: &HeapCircularBuffer<u8>, place: usize) -> u8
     ensures { result ≡ get_or octets.now.items place 0 }
 {
     octets.get(place).copied().unwrap_or(0)
 }
 
-/// The octets of the packet that begins at this place.
+/// Returns the number of octets of the packet that begins at this offset.
 fn packet_len_at(octets: &HeapCircularBuffer<u8>, place: usize) -> usize
     requires near { place < 2040 }
     requires inside { place + 6 ≤ length octets.now.items }
@@ -53,8 +53,8 @@ fn packet_len_at(octets: &HeapCircularBuffer<u8>, place: usize) -> usize
     ])
 }
 
-/// The first start at `size` or behind it, or whose header isn't whole there, going by the headers
-/// from the start `first`.
+/// Returns the first start that is at least `size`, or whose header isn't whole there, going by the
+/// headers from the start `first`.
 fn next_in_front(front: &[u8], first: usize, size: usize) -> usize
     requires { size ≤ 2040 }
     ensures { (behind : List ℕ) → skip size size first (front.now ++ behind)
@@ -67,8 +67,8 @@ fn next_in_front(front: &[u8], first: usize, size: usize) -> usize
     at
 }
 
-/// The first start at `size` or behind it, going by the headers from the start `first`, also where
-/// they lie at both ends of the ring. This is rare, so it stands apart.
+/// Returns the first start that is at least `size`, going by the headers from the start `first`,
+/// also if they lie at both ends of the ring. This is rare, so it is a function of its own.
 #[inline(never)]
 fn next_around(octets: &HeapCircularBuffer<u8>, first: usize, size: usize) -> usize
     requires { size ≤ 2040 }
@@ -81,8 +81,8 @@ fn next_around(octets: &HeapCircularBuffer<u8>, first: usize, size: usize) -> us
     at
 }
 
-/// The first start at `size` or behind it, going by the headers from the start `first`; `front` is
-/// what lies in one piece.
+/// Returns the first start that is at least `size`, going by the headers from the start `first`;
+/// `front` is what lies in one piece.
 fn next_first(octets: &HeapCircularBuffer<u8>, front: &[u8], first: usize, size: usize) -> usize
     requires near { size ≤ 2040 }
     requires front { (behind : List ℕ) × (front.now ++ behind ≡ octets.now.items) }
@@ -98,7 +98,8 @@ fn next_first(octets: &HeapCircularBuffer<u8>, front: &[u8], first: usize, size:
     at
 }
 
-/// Copies octets that lie in two pieces, as many as `out` has. This is rare, so it stands apart.
+/// Copies octets that lie in two pieces, as many as `out` has. This is rare, so it is a function of
+/// its own.
 #[inline(never)]
 fn copy_both(front: &[u8], behind: &[u8], out: &mut [u8])
     requires more { length front.now ≤ length out.old }
@@ -110,7 +111,7 @@ fn copy_both(front: &[u8], behind: &[u8], out: &mut [u8])
     right.copy_from_slice(&behind[..right.len()]);
 }
 
-/// Copies the first octets, as many as `out` has, and answers the first start behind them, going by
+/// Copies the first octets, as many as `out` has, and returns the first start after them, going by
 /// the headers from the start `first`.
 fn copy_zone(octets: &HeapCircularBuffer<u8>, first: usize, out: &mut [u8]) -> usize
     requires near { length out.old ≤ 2040 }
@@ -120,7 +121,7 @@ fn copy_zone(octets: &HeapCircularBuffer<u8>, first: usize, out: &mut [u8]) -> u
     ensures out { out.new ≡ take (length out.old) octets.now.items }
 {
     let (front, behind) = octets.as_slices();
-    // Mostly they lie in one piece: one copy is then faster than two, one of them of nothing.
+    // Mostly they lie in one piece: then one copy is faster than two if one of them is empty.
     if front.len() < out.len() {
         copy_both(front, behind, out);
     } else {
@@ -129,7 +130,7 @@ fn copy_zone(octets: &HeapCircularBuffer<u8>, first: usize, out: &mut [u8]) -> u
     next_first(octets, front, first, out.len())
 }
 
-/// Writes an idle packet of `len` octets behind what is there, where there is room for it.
+/// Writes an idle packet of `len` octets after what is there, if there is room for it.
 fn append_idle(octets: &mut HeapCircularBuffer<u8>, len: usize)
     requires least { 7 ≤ len }
     requires most { len ≤ 2040 }
@@ -145,8 +146,8 @@ fn append_idle(octets: &mut HeapCircularBuffer<u8>, len: usize)
 /// Cuts packets, laid end to end, into the zones of one size that frames carry.
 ///
 /// With each zone comes its first header pointer. All octets that wait lie in one ring, made with
-/// it: beside the capacity 2,047 octets for what `flush` adds. So no call takes memory, and none
-/// moves what waits.
+/// the packer: beside the capacity it has 2,047 octets for what `flush` adds. So no call takes
+/// memory, and none moves what waits.
 #[derive(Debug, Drop)]
 pub struct Packer {
     size: usize,
@@ -173,10 +174,10 @@ impl Model for Packer {
 }
 
 impl Packer {
-    /// A packer that holds no packet yet.
+    /// Returns a packer that holds no packet yet.
     ///
-    /// Its zones have `zone` octets, 16 to 2,040, and at most `capacity` octets wait in it, up to
-    /// 131,072. `AllocError` comes only where its buffer was refused.
+    /// Its zones have `zone` octets, which must be 16 to 2,040, and at most `capacity` octets wait
+    /// in it, which must be at most 131,072. `AllocError` comes only if its buffer was refused.
     pub fn new(alloc: Global, zone: usize, capacity: usize) -> Result<Self, AllocError>
         requires least { 16 ≤ zone }
         requires most { zone ≤ 2040 }
@@ -193,14 +194,15 @@ impl Packer {
         })
     }
 
-    /// How many octets of packets may wait in it.
+    /// Returns how many octets of packets may wait in it.
     pub fn capacity(&self) -> usize
         ensures { result ≡ self.now.capacity }
     {
         self.capacity
     }
 
-    /// How many octets wait in it: those of packets and flushes that no zone has taken yet.
+    /// Returns how many octets wait in it: octets of packets and flushes that no zone has taken
+    /// yet.
     pub fn waiting_len(&self) -> usize
         ensures len { result ≡ length self.now.waiting }
         ensures most { result ≤ self.now.capacity + 2047 }
@@ -210,17 +212,17 @@ impl Packer {
         self.waiting.len()
     }
 
-    /// How many octets a packet may have that there is room for.
+    /// Returns how many octets a packet may have so that there is room for it.
     pub fn room(&self) -> usize
         ensures { result ≡ self.now.capacity - length self.now.waiting }
     {
         self.capacity.saturating_sub(self.waiting.len())
     }
 
-    /// Puts a packet behind the others, or tells that there is no room for it.
+    /// Puts a packet after the others, or answers that there is no room for it.
     ///
-    /// The packet is a whole one, which [`is_packet`](crate::is_packet) tests. The answer is `Full`
-    /// where the waiting octets with its own pass the capacity, and then nothing changed.
+    /// The packet must be a whole one, which [`is_packet`](crate::is_packet) tests. The answer is
+    /// `Full` if the waiting octets with its own pass the capacity, and then nothing changed.
     pub fn push(&mut self, packet: &[u8]) -> Result<(), Full>
         requires { IsPacket packet.now }
         ensures full { IsErr result
@@ -240,11 +242,12 @@ impl Packer {
         self.push_pieces(header, body)
     }
 
-    /// Puts a packet behind the others that lies in two pieces, as its header and its body do, or
-    /// tells that there is no room for it.
+    /// Puts a packet after the others that lies in two pieces, such as its header and its body, or
+    /// answers that there is no room for it.
     ///
-    /// Both are a whole packet, which [`is_packet`](crate::is_packet) tests. The answer is `Full`
-    /// where the waiting octets with its own pass the capacity, and then nothing changed.
+    /// Both together must be a whole packet, which [`is_packet`](crate::is_packet) tests. The
+    /// answer is `Full` if the waiting octets with its own pass the capacity, and then nothing
+    /// changed.
     pub fn push_pieces(&mut self, front: &[u8], behind: &[u8]) -> Result<(), Full>
         requires { IsPacket (front.now ++ behind.now) }
         ensures full { IsErr result ↔ (self.old.capacity
@@ -281,16 +284,16 @@ impl Packer {
         Ok(())
     }
 
-    /// Writes the oldest zone that is full, and answers its first header pointer.
+    /// Writes the oldest zone that is full, and returns its first header pointer.
     ///
-    /// `out` has as many octets as a zone, and the zone is taken off. The answer is `None` where
+    /// `out` must have as many octets as a zone, and the zone is taken off. The answer is `None` if
     /// too few octets wait to fill one: then nothing changed.
     pub fn zone(&mut self, out: &mut [u8]) -> Option<u16>
         requires { length out.old ≡ self.old.size }
         ensures none { IsNone result ↔ (length self.old.waiting < self.old.size) }
         ensures kept { IfNone result ((self.new ≡ self.old) × (out.new ≡ out.old)) }
 
-        // It is the stream's zone behind those taken, and one more is taken then.
+        // It is the stream's zone after the zones taken, and then one more is taken.
         ensures stream { (ps : List (List ℕ)) (taken : ℕ) → IsAt self.old ps taken →
             IfSome result (λ at.
             ZoneOf ps taken self.old.size at out.new × IsAt self.new ps (taken + 1)) }
@@ -331,10 +334,10 @@ impl Packer {
         pointer
     }
 
-    /// Fills the begun zone by an idle packet, so that it can be sent.
+    /// Fills the begun zone with an idle packet, so that it can be sent.
     ///
-    /// Of r free octets the idle packet has r, or 7 where r is less: its rest opens the next zone
-    /// then. A zone that holds nothing, or only such a rest, isn't begun: a second flush adds
+    /// If r octets are free, the idle packet has r, or 7 if r is less: then its rest opens the next
+    /// zone. A zone that holds nothing, or only such a rest, isn't begun: a second flush adds
     /// nothing.
     pub fn flush(&mut self)
         // Its stream is then longer by the idle packet, or as it was.

@@ -18,13 +18,13 @@ use std::marker::Model;
 /// Octets of the longest packet.
 const MAX_PACKET: usize = 65_542;
 
-/// What was out of order in a zone: a packet that was cut off, or headers that are none.
+/// What was out of order in a zone: a packet that was cut off, or invalid headers.
 #[derive(Clone, Copy, Debug, PartialEq, Eq)]
 pub struct Notes {
     /// Whether a begun packet was discarded, or the first header pointer lies outside the zone.
     ///
-    /// False at the pointer [`ONLY_IDLE`](crate::ONLY_IDLE), and where the begun packet is one of
-    /// the bad ones.
+    /// False at the pointer [`ONLY_IDLE`](crate::ONLY_IDLE), and if the begun packet is one of the
+    /// bad ones.
     pub resync: bool,
     /// How many packet headers had another version than `000`: 0 to 2.
     pub bad: u8,
@@ -35,9 +35,9 @@ pub struct Notes {
 struct Joined {
     goes_on: bool,
     bad: bool,
-    // whether it ends in the zone
+    // true if it ends in the zone
     whole: bool,
-    // where in the zone the packets behind it are read
+    // where in the zone the packets after it are read
     from: usize,
 }
 
@@ -61,7 +61,7 @@ fn emit(packet: &[u8], out: &mut OctetStrings) -> Result<(), AllocError>
     out.push(packet)
 }
 
-/// Takes the whole packets off the front, and tells where the begun one starts.
+/// Takes the whole packets off the front, and returns where the begun one starts.
 fn cut(bytes: &[u8], out: &mut OctetStrings) -> Result<Front, AllocError>
     ensures end { IfOk result (λ c. c.end ≤ length bytes.now) }
     ensures held { IfOk result (λ c. drop c.end bytes.now
@@ -97,7 +97,7 @@ fn cut(bytes: &[u8], out: &mut OctetStrings) -> Result<Front, AllocError>
     })
 }
 
-/// Appends octets for which there is room.
+/// Appends octets. There must be room for them.
 fn append(held: &mut Vec<u8>, octets: &[u8])
     requires { length held.old.items + length octets.now ≤ vec_capacity held.old }
     ensures items { held.new.items ≡ held.old.items ++ octets.now }
@@ -108,8 +108,8 @@ fn append(held: &mut Vec<u8>, octets: &[u8])
     }
 }
 
-/// Whether the packet whose header these octets begin with goes on in a zone of `zone` octets, at
-/// which `held` octets of it are held.
+/// Returns `true` if the packet whose header these octets begin with goes on in a zone of `zone`
+/// octets, if `held` octets of it are held.
 fn fits(header: &[u8], held: usize, pointer: usize, zone: usize) -> bool
     requires { 6 ≤ length header.now }
     ensures { result ≡ (header_ok header.now
@@ -119,7 +119,7 @@ fn fits(header: &[u8], held: usize, pointer: usize, zone: usize) -> bool
     has_good_version(header) && pointer == if wants < zone { wants } else { 2047 }
 }
 
-/// Appends what a zone has of the begun packet, if that goes on there, else discards it.
+/// Appends what a zone has of the begun packet if that goes on there; otherwise discards it.
 fn join(held: &mut Vec<u8>, pointer: usize, zone: &[u8]) -> Joined
     requires zone { 6 ≤ length zone.now }
     requires begun { IsBegun held.old.items }
@@ -170,7 +170,7 @@ fn join(held: &mut Vec<u8>, pointer: usize, zone: &[u8]) -> Joined
     }
 }
 
-/// Hands out the packet that is held, where it is whole.
+/// Hands out the packet that is held, if it is whole.
 fn finish(held: &mut Vec<u8>, whole: bool, out: &mut OctetStrings) -> Result<(), AllocError>
     requires whole { whole ≡ true → (6 ≤ length held.old.items)
         × (header_len held.old.items ≡ length held.old.items) }
@@ -189,7 +189,7 @@ fn finish(held: &mut Vec<u8>, whole: bool, out: &mut OctetStrings) -> Result<(),
     Ok(())
 }
 
-/// Whether the packet that is begun takes all of a zone of `zone` octets, and more.
+/// Returns `true` if the begun packet takes all of a zone of `zone` octets, and more.
 fn goes_past(held: &[u8], pointer: usize, zone: usize) -> bool
     ensures long { result ≡ true → 6 ≤ length held.now }
     ensures version { result ≡ true → header_ok held.now ≡ true }
@@ -204,7 +204,7 @@ fn goes_past(held: &[u8], pointer: usize, zone: usize) -> bool
         && zone < packet_len(held).saturating_sub(held.len())
 }
 
-/// Takes the whole packets off what is read of a zone behind what is held, and tells whether a bad
+/// Takes the whole packets off what is read of a zone after what is held, and returns whether a bad
 /// header ended them.
 fn read_behind(
     held: &mut Vec<u8>,
@@ -232,7 +232,7 @@ fn read_behind(
     ensures begun { OnOk result (IsBegun held.new.items) }
     ensures capacity { vec_capacity held.old ≤ vec_capacity held.new }
 {
-    // Of a long packet's zones these are the most, and there is no more to read in them.
+    // Most zones of a long packet are such, and there is no more to read in them.
     if goes_past(held, pointer, zone.len()) {
         append(held, zone);
         let joined = Joined {
@@ -253,9 +253,9 @@ fn read_behind(
 
 /// Puts packets together again from the zones of one virtual channel, in the order sent.
 ///
-/// Its value is what it holds of the begun packet, the one that the last zone's end cut. That lies
-/// in one buffer, made with it, in which the longest packet has room. So only a packet that is
-/// handed out takes memory.
+/// Its value is what it holds of the begun packet, which the last zone's end cut. That lies in one
+/// buffer, made with it, in which the longest packet has room. So only a packet that is handed out
+/// takes memory.
 #[derive(Debug, Drop)]
 pub struct Reassembler {
     begun: Vec<u8>,
@@ -273,9 +273,9 @@ impl Model for Reassembler {
 }
 
 impl Reassembler {
-    /// A reassembler that has seen no zone yet.
+    /// Returns a reassembler that has seen no zone yet.
     ///
-    /// `AllocError` comes only where its buffer was refused.
+    /// `AllocError` comes only if its buffer was refused.
     pub fn new(alloc: Global) -> Result<Self, AllocError>
         ensures { IfOk result (λ r. r ≡ []) }
     {
@@ -284,14 +284,14 @@ impl Reassembler {
         })
     }
 
-    /// Lets go of the packet that is only begun, where there is one. It takes no memory.
+    /// Discards the packet that is only begun, if there is one. It takes no memory.
     pub fn let_go(&mut self)
         ensures { self.new ≡ [] }
     {
         self.begun.clear();
     }
 
-    /// Reads one zone; where memory is wanting nothing is held then.
+    /// Reads one zone; if memory runs out, nothing is held then.
     fn read_zone(
         &mut self,
         pointer: u16,
@@ -331,17 +331,17 @@ impl Reassembler {
         }
     }
 
-    /// Reads one zone, appends the packets that it completes, and says what was out of order.
+    /// Reads one zone, appends the packets that it completes, and returns what was out of order.
     ///
-    /// The zone has 16 to 2,040 octets, and `pointer` is its first header pointer. `follows` is
-    /// false where a frame since the last one fed was lost: the begun packet is discarded then. A
-    /// begun packet goes on from the zone's start if the pointer fits its length, else it is
-    /// discarded, and reading starts at the pointer. Idle packets are passed over. Behind a header
-    /// with another version than `000` the rest of the zone is discarded, save
-    /// where it is the begun packet's: then reading goes on at the pointer.
+    /// The zone must have 16 to 2,040 octets, and `pointer` must be its first header pointer.
+    /// `follows` must be false if a frame since the last one fed was lost: the begun packet is
+    /// discarded then. A begun packet goes on from the zone's start if the pointer fits its length;
+    /// otherwise it is discarded, and reading starts at the pointer. Idle packets are passed over.
+    /// After a header with another version than `000` the rest of the zone is discarded, except if
+    /// it is the begun packet's: then reading goes on at the pointer.
     ///
-    /// `AllocError` comes only where a growth was refused, at a zone that completes a packet: a front
-    /// of the packets that would have come was appended then, the begun packet and the rest of the
+    /// `AllocError` comes only if a growth was refused at a zone that completes a packet. Then a
+    /// front of the packets that would have come was appended, the begun packet and the rest of the
     /// zone are discarded, and the next zone is read from its pointer.
     pub fn feed(
         &mut self,
@@ -353,18 +353,18 @@ impl Reassembler {
         requires least { 16 ≤ length zone.now }
         requires most { length zone.now ≤ 2040 }
 
-        // Where it is as the zones of a stream so far left it, it is then as this one leaves it
-        // too, and the survivors that this one completes were appended.
+        // If it is as the zones of a stream so far left it, it is then as this one leaves it too,
+        // and the survivors that this one completes were appended.
         ensures stream { (ps : List (List ℕ)) (marks : List Bool) →
             IsNext ps marks (held_at follows self.old) pointer zone.now →
             OnOk result (IsTaken ps marks (length zone.now) self.new out.old out.new) }
 
-        // Of a stream no packet is bad, and none is discarded but by a zone that was lost.
+        // Of a stream no packet is bad, and none is discarded except by a lost zone.
         ensures in_order { (ps : List (List ℕ)) (marks : List Bool) →
             IsNext ps marks (held_at follows self.old) pointer zone.now →
             IfOk result (λ n. (n.resync ≡ (not follows && is_some self.old)) × (n.bad ≡ 0)) }
 
-        // Without memory a front of them was appended, and nothing is held.
+        // If memory runs out, a front of them was appended, and nothing is held.
         ensures cut_short { (ps : List (List ℕ)) (marks : List Bool) →
             IsNext ps marks (held_at follows self.old) pointer zone.now →
             OnErr result (IsFrontTaken ps marks (length zone.now) out.old out.new) }

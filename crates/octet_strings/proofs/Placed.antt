@@ -8,7 +8,7 @@ use Rattle.std.specs.List.{remove}
 use Rattle.octet_strings.specs.declared.Place.{Place}
 use Rattle.octet_strings.specs.Strings.{string_at, strings_at, AreWithin}
 
--- what is added behind changes no string
+-- what is added after them changes no string
 one_kept : (octets more : List ℕ) (p : Place) → p.from + p.len ≤ length octets → string_at (octets ++ more) p ≡ string_at octets p
 one_kept octets more p within =
     ap (λ l. take p.len l) (drop-append-le p.from octets more (omega (arith, within)))
@@ -20,7 +20,7 @@ all_kept octets more (p ∷ places) within =
     ap (λ s. s ∷ strings_at (octets ++ more) places) (one_kept octets more p (within 0 p (omega arith)))
     ∙ ap (λ l. string_at octets p ∷ l) (all_kept octets more places (λ k d inside. within (suc k) d (omega (arith, inside))))
 
--- one is added behind the others
+-- one is added after the others
 pub one_more : (octets more : List ℕ) (places : List Place) (p : Place) → AreWithin (length octets) places → p.from ≡ length octets → p.len ≡ length more →
     strings_at (octets ++ more) (places ++ p ∷ []) ≡ strings_at octets places ++ more ∷ []
 one_more octets more places p within from len =

@@ -1,8 +1,8 @@
-//! Octet strings, one behind the other in one buffer.
+//! Octet strings, one after the other in one buffer.
 //!
-//! A list of byte vectors takes memory for each of them. Where such a list is filled and cleared
-//! again and again, as that of the packets which a frame completes, an [`OctetStrings`] takes memory
-//! only until its buffer is as long as all of them were at once.
+//! A list of byte vectors takes memory for each of them. If such a list is filled and cleared again
+//! and again, for example with the packets that a frame completes, use an [`OctetStrings`]: it
+//! takes memory only until its buffer is as long as all of them were at once.
 //!
 //! ```
 //! let mut strings = OctetStrings::new(alloc);
@@ -23,35 +23,36 @@ ghost use Rattle.std.specs.List.{remove};
 use std::alloc::{AllocError, Global};
 use std::marker::Model;
 
-/// Where a string lies in the buffer.
+/// The place of a string in the buffer.
 #[derive(Clone, Copy, Debug)]
 struct Place {
     from: usize,
     len: usize,
 }
 
-/// A list of octet strings.
+/// A list of octet strings in one buffer.
 #[derive(Debug, Drop)]
 pub struct OctetStrings {
-    // No octet is moved: what is taken off a string's front, or was a string, stays here until no
-    // string is left.
+    // No octet is moved: if octets are taken off a string's front, or a string is removed, they
+    // stay here until no string is left.
     octets: Vec<u8>,
     places: Vec<Place>,
 }
 
 impl Model for OctetStrings {
     ghost use Rattle.std.specs.Prelude.{ℕ, List, length};
-    ghost use Rattle.octet_strings.specs.Strings.{AreWithin, strings_at};
+    ghost use Rattle.octet_strings.specs.Strings.{AreWithin, IsClear, strings_at};
 
     ghost Value = { List (List ℕ) };
 
     ghost view = { λ s. strings_at s.octets.items s.places.items };
 
-    ghost invariant = { λ s. AreWithin (length s.octets.items) s.places.items };
+    ghost invariant = { λ s. AreWithin (length s.octets.items) s.places.items
+        × IsClear s.octets.items s.places.items };
 }
 
 impl OctetStrings {
-    /// No string. It takes no memory; `alloc` serves what is added later.
+    /// Returns a list of no string. It takes no memory; `alloc` serves what is added later.
     pub fn new(alloc: Global) -> Self
         ensures { result ≡ [] }
     {
@@ -61,21 +62,21 @@ impl OctetStrings {
         }
     }
 
-    /// How many there are.
+    /// Returns how many strings there are.
     pub fn len(&self) -> usize
         ensures { result ≡ length self.now }
     {
         self.places.len()
     }
 
-    /// Whether there is none.
+    /// Returns `true` if there is no string.
     pub fn is_empty(&self) -> bool
         ensures { IsTrue result ↔ (self.now ≡ []) }
     {
         self.places.is_empty()
     }
 
-    /// The one at a place, counted from 0.
+    /// Returns the string at an index, counted from 0. There must be one.
     pub fn get(&self, place: usize) -> &[u8]
         requires { place < length self.now }
         ensures { result.now ≡ slice_index_or self.now place [] }
@@ -84,11 +85,11 @@ impl OctetStrings {
         &self.octets[from..from + len]
     }
 
-    /// Adds one behind the others.
+    /// Adds a string after the others.
     ///
     /// # Errors
     ///
-    /// `AllocError` only where the memory for it was refused. Nothing changed then.
+    /// `AllocError` only if the memory for it was refused. Nothing changed then.
     pub fn push(&mut self, octets: &[u8]) -> Result<(), AllocError>
         ensures ok { OnOk result (self.new ≡ self.old ++ octets.now ∷ []) }
         ensures err { OnErr result (self.new ≡ self.old) }
@@ -98,11 +99,15 @@ impl OctetStrings {
             len: octets.len(),
         };
         self.octets.extend_from_slice(octets)?;
-        self.places.push(place)?;
+        if let Err(refused) = self.places.push(place) {
+            self.octets.truncate(place.from);
+            return Err(refused.into());
+        }
         Ok(())
     }
 
-    /// Takes one out. Those behind it come one place to the front.
+    /// Removes the string at an index, which must be there. The index of each string after it is
+    /// then less by one.
     pub fn remove(&mut self, place: usize)
         requires { place < length self.old }
         ensures { self.new ≡ remove self.old place }
@@ -113,7 +118,7 @@ impl OctetStrings {
         }
     }
 
-    /// Takes so many octets off the front of one, or all where it has fewer.
+    /// Removes so many octets from the front of a string, or all if it has fewer.
     pub fn drop_front(&mut self, place: usize, count: usize)
         requires { place < length self.old }
         ensures { self.new ≡ slice_set self.old place
@@ -125,7 +130,7 @@ impl OctetStrings {
         it.len -= count;
     }
 
-    /// Takes all out. The memory is kept for others.
+    /// Removes all strings. The memory is kept for others.
     pub fn clear(&mut self)
         ensures { self.new ≡ [] }
     {

@@ -1,10 +1,16 @@
--- A put, and a call on another transaction, leave this one as it is.
-use Rattle.std.proofs.Common.{◌≡◌, ◌≢◌, ℕ, zero, suc, true, false, List, length, slice_get, Option, Some, None, inr, refl, sym, ap, subst, ◌∙◌}
+-- A put, a call on another transaction, and a tick by which none of its timers expires leave a
+-- transaction as it is.
+use Rattle.std.proofs.Common.{◌≡◌, ◌≢◌, ℕ, zero, suc, true, false, List, [], ◌∷◌, length, slice_get, Option, Some, None, inr, refl, sym, ap, subst, ◌∙◌}
+use Rattle.std.specs.List.{IsDistinct}
+use Rattle.std.specs.Map.{keys_of}
+use Rattle.std.specs.Prelude.{Contains}
 use Rattle.std.proofs.lemmas.Bool.{false_from_ne_true}
 use Rattle.cfdp_header.specs.declared.value.TransactionId.{TransactionId}
 use Rattle.cfdp_header.specs.Ids.{same_id}
 use Rattle.cfdp_directives.specs.User.Put.{Put}
 use Rattle.cfdp_store.specs.Files.{octets_in}
+use Rattle.cfdp_timers.specs.declared.kind.Kind.{Kind}
+use Rattle.cfdp_timers.specs.Order.{Timer}
 use Rattle.cfdp_sender.specs.declared.transfer.Transfer.{Transfer}
 use Rattle.cfdp_entity.specs.declared.request.Request.{Request}
 use Rattle.cfdp_entity.specs.Entity.{EntityState}
@@ -14,10 +20,10 @@ use Rattle.cfdp_entity.specs.Refusing.{called_in}
 use Rattle.cfdp_entity.specs.Seen.{Sends}
 use Rattle.cfdp_entity.specs.Steps.{After}
 use Rattle.cfdp_entity.specs.Steps as steps
-use Rattle.cfdp_entity.specs.Table.{Entry, TableState, place_of, record_of, step_of}
+use Rattle.cfdp_entity.specs.Table.{Entry, TableState, all_expired, at_time, expired, place_of, record_of, step_of}
 use Rattle.cfdp_entity.proofs.CallerLemmas.{push-other, same_id-true, step-other}
 use Rattle.cfdp_entity.proofs.Histories.{key-at, no-record}
-use Rattle.cfdp_entity.proofs.Timing.{key-there}
+use Rattle.cfdp_entity.proofs.Timing.{distinct-fired, key-there}
 use Rattle.station_pair.specs.declared.refusal.Refusal.TheVariants as refusal
 use Rattle.station_pair.specs.declared.side.Side.{Side}
 use Rattle.station_pair.specs.Stations.{other}
@@ -30,16 +36,20 @@ use Rattle.link_sim.specs.Runs.{Exchange, Runs, TellsMore}
 use Rattle.link_sim.specs.Sound.{IsSound}
 use Rattle.link_sim.specs.Waiting.{one_tells}
 use Rattle.link_sim.specs.World.State.{WorldState, arriving_from, entity_at}
-use Rattle.link_sim.specs.World.Steps.{Calls, KeepsLinks, Puts}
+use Rattle.link_sim.specs.World.Steps.{Calls, KeepsLinks, Puts, TellsTime}
 use Rattle.link_sim.proofs.Events.Keeping.{both}
 use Rattle.link_sim.proofs.Events.Moving.{apart}
 use Rattle.link_sim.proofs.Found.Exchanges.{has-exchange, spelled-same}
+use Rattle.link_sim.proofs.Found.ExpiresWorld.{ExpiresOther, kinds-other, kinds-own, kinds_of, other-fired, told-grows}
 use Rattle.link_sim.proofs.Lanes.Same.{same-arriving}
 use Rattle.link_sim.proofs.Lanes.Ways.{back-kept, forth-kept}
-use Rattle.outages.proofs.Timers.{told-grows}
+use Rattle.link_sim.proofs.Stages.Rounds.{contains-first}
+use Rattle.outages.specs.Spared.{IsUndue}
+use Rattle.outages.specs.Tries.{time_told}
+use Rattle.outages.proofs.Fired.{undue-apart}
 use Rattle.outages.proofs.Tracking.{IsReached, receiver-in, sender-in}
 
--- At a station the record of this transaction is as it was, and what was told of it stays.
+-- At a station the record of this transaction is as it was, and what was indicated of it stays.
 pub record Stays (id : TransactionId) (old new : TableState) : Type 0 where
   pub same : record_of id new.records ≡ record_of id old.records
   pub told : one_tells (tells_complete id) old.told ≡ true → one_tells (tells_complete id) new.told ≡ true
@@ -122,8 +132,28 @@ call-aside id of apart_so old new (did.Refused (refusal.Call by)) T c h = aside-
 call-aside id of apart_so old new (did.Refused refusal.LossRunTooLong) T c h = absurd h
 call-aside id of apart_so old new (did.Refused refusal.NotDamaged) T c h = absurd h
 
+-- ---- the time, if none of its timers is due
+fired-stays : (id : TransactionId) (ts : List Timer) (st : TableState) → IsDistinct same_id (keys_of st.records) → ((k : Kind) → Contains (kinds_of id ts) k → ⊥) → Stays id st (all_expired ts st)
+unfolding all_expired
+fired-stays id [] st apart_so none = record { same = refl; told = λ t. t }
+fired-stays id (t ∷ ts) st apart_so none = elim (same_id id t.0) as (λ b. same_id id t.0 ≡ b → Stays id st (all_expired ts (expired t st))) [
+  | true ↦ λ is. absurd (none t.1 (subst (λ l. Contains l t.1) (sym (kinds-own id t ts is)) (contains-first t.1 (kinds_of id ts))))
+  | false ↦ λ differs. (
+      let o : ExpiresOther id st (expired t st) = other-fired id t st apart_so differs in
+      let rest : Stays id (expired t st) (all_expired ts (expired t st)) = fired-stays id ts (expired t st) (distinct-fired t ts st apart_so)
+      (λ k c. none k (subst (λ l. Contains l k) (sym (kinds-other id t ts differs)) c)) in
+      record { same = rest.same ∙ o.same; told = λ was. rest.told (told-grows (tells_complete id) st.told o.more (expired t st).told o.told was) })
+] refl
+
+pub tick-aside : (id : TransactionId) (T : Side) (now : ℕ) (old new : WorldState) → IsSound old → TellsTime T now old new → IsUndue id T now old → GoesAside id old new
+tick-aside id T now old new sound h undue =
+    let st : TableState = (entity_at T old).table in
+    let stays : Stays id (at_time now st) (all_expired h.ticked.fired (at_time now st)) = fired-stays id h.ticked.fired (at_time now st) (sound T).entity.once.distinct
+    (λ k. undue-apart st.armed id k (time_told T now old) h.ticked.fired h.ticked.are (undue k)) in
+    aside-at id T old new h.links (subst (λ (x : TableState). Stays id st x) (sym h.ticked.ticked) (record { same = stays.same; told = stays.told }))
+
 -- ---- what it comes to
--- more was told, of whatever transaction
+-- more was indicated, of whatever transaction
 module _ (s : Side) (put : Put) (old new : WorldState) (next : IsReached new) (own : IsPutOf s put new) (e : Exchange) (has : HasExchange s put old e) (g : GoesAside put.id old new) where
   aside-more : (d : Exchange) → HasExchange s put new d → TellsMore e d
   aside-more d then_ = record {

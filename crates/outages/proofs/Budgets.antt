@@ -18,7 +18,7 @@ use Rattle.link_sim.proofs.Stages.Keep.{ExchangeKeeps, ReceiverKeeps, SenderKeep
 use Rattle.link_sim.proofs.Stages.Rest.{answered-waits, closed-sender-waits}
 use Rattle.link_sim.proofs.Stages.Runs.{OpensWell, opened-by, opened-well, runs-course}
 
--- ---- a sender that needs no more tries: it is closed, or, where `strict` isn't set, its EOF was
+-- ---- a sender that needs no more tries: it is closed, or, if `strict` isn't set, its EOF was
 -- answered
 abbrev pub is_done : (strict : Bool) → SenderState → Bool
 is_done true x = not (is_open_sender x.phase)

@@ -1,4 +1,4 @@
--- A transaction of which twice nothing was lost after an expiry is complete.
+-- A transaction is complete if twice nothing of it was lost after an expiry.
 use Rattle.std.proofs.Common.{◌≡◌, inl, inr, ℕ, suc, ◌+◌, true, false, List, subst, arith}
 use Rattle.std.proofs.lemmas.Bool.{both_ways}
 use Rattle.cfdp_header.specs.declared.value.TransactionId.{TransactionId}

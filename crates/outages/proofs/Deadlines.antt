@@ -1,4 +1,4 @@
--- The deadlines of a table: one that is set lies a whole wait behind the time at which it is set.
+-- The deadlines of a table: one that is set lies a whole wait after the time at which it is set.
 use Rattle.std.proofs.Common.{◌≡◌, ◌⊎◌, inl, inr, ℕ, ◌≤◌, Bool, true, false, cond, List, [], ◌∷◌, ◌++◌, length, slice_get, max, Option, Some, None, refl, sym, ap, subst, ◌∙◌, arith}
 use Rattle.std.specs.Prelude.{nat_lt}
 use Rattle.std.specs.FinMap as map
@@ -125,7 +125,7 @@ opens-timed begun stored times files large v a = by (closing v)
     by None = by-begun begun
 
 -- ---- a deadline
--- It was set at a time between these, a whole wait behind it.
+-- It was set at a time between these, a whole wait after it.
 pub record IsSet (from upto wait deadline : ℕ) : Type 0 where
   pub at : ℕ
   pub after : from ≤ at
@@ -243,7 +243,7 @@ module _ (id : TransactionId) (k : Kind) where
   pub ticks-later : (now : ℕ) (old new : TableState) → Ticks now old new → Later old new
   ticks-later now old new h = subst (Later old) (sym h.ticked) (later-both old (at_time now old) (all_expired h.fired (at_time now old)) (told-later now old) (fired-later h.fired (at_time now old)))
 
-  -- where it was due, a deadline was set since
+  -- if it was due, a deadline was set since
   pub due-later : (now : ℕ) (old new : TableState) → Ticks now old new → is_due old.armed (max old.now now) (id, k) ≡ true → (max old.now now ≤ new.now)
       × ((d : ℕ) → map.get new.armed (id, k) ≡ Some d → IsSet (max old.now now) new.now (time_of old.policy.times k) d)
   due-later now old new h due =

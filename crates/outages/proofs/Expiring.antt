@@ -43,7 +43,7 @@ abbrev pub occurs : Kind → List Kind → ℕ
 occurs k [] = 0
 occurs k (j ∷ ks) = one k j + occurs k ks
 
--- ---- where Inactivity isn't among them, nobody asks what is done about it
+-- ---- if Inactivity isn't among them, nobody asks what is done about it
 abbrev pub ignoring : Policy → Policy
 ignoring p = record p { handlers = record p.handlers { inactivity = Ignore } }
 
@@ -103,7 +103,7 @@ ignored-receiver policy put (k ∷ ks) e e1 h x =
     )
 
 -- ---- a sender
--- What its timers leave of it: the count, and that its EOF is due. So many of them are to come.
+-- What its timers leave of it: the count, and that its EOF is due. So many of them are still due.
 pub record Counts (limit : ℕ) (strict : Bool) (rest : ℕ) (x : SenderState) (n : ℕ) (y : SenderState) : Type 0 where
   pub count : ℕ
   pub due : Bool
@@ -169,7 +169,7 @@ module _ (policy : Policy) (ignores : policy.handlers.inactivity ≡ Ignore) (st
   all-steps put (k ∷ ks) e c =
       all-steps put ks (let a = sender_expires k policy e.sender in record e { sender = a.sender; told = told_then put e.told a.told }) (one-step k (occurs EofAck ks) e.sender c)
 
--- its course then, whatever was told
+-- its course then, whatever was indicated
 pub counted-course : (put : Put) (e : Exchange) (count : ℕ) (due told : Bool) → IsActiveCourse put e → (e.sender.eof_due ≡ true → due ≡ true) → (e.told ≡ true → told ≡ true)
     → IsActiveCourse put (record e { sender = record e.sender { count = count; eof_due = due }; told = told })
 counted-course put e count due told c still stays =

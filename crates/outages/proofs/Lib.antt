@@ -1,16 +1,18 @@
 mod Lost
 mod Budgets
 mod Expiring
-mod Timers
 mod Fired
-mod Tracking
+pub mod Tracking
 mod Ticking
 mod Aside
 mod Outlasting
 mod Ends
-mod Waiting
+pub mod Waiting
+pub mod Quiet
 mod Through
 mod Completing
 mod Deadlines
 mod Lasting
 mod InTime
+pub mod Rising
+mod Rounds

@@ -1,4 +1,5 @@
--- A frame that is lost: what will arrive then is what was to arrive without a front of its lane.
+-- A frame that is lost: what will arrive then is what would have arrived, without a front of its
+-- lane.
 use Rattle.std.proofs.Common.{◌≡◌, ℕ, ◌+◌, ◌*◌, ◌<◌, ◌≤◌, ◌==◌, ◌&&◌, Bool, true, false, nat_le, nat_lt, if◌then◌else◌, List, [], ◌∷◌, ◌++◌, length, inl, inr, refl, sym, ap, ◌∙◌, arith}
 use Rattle.std.proofs.lemmas.Bool.{cases_lt, le-leb, lt-leb, lt-ltb, le-ltb, ne_eqb}
 use Rattle.aos_frame.specs.Frame.{other_lane}
@@ -23,7 +24,7 @@ use Rattle.link_sim.proofs.Lanes.Ways.{back-loses, strikes-loses}
 use Rattle.link_sim.proofs.Ways.Sending.{pdus_more}
 
 -- ---- packets
--- the second list is what stands behind a front of the first one
+-- the second list is what stands after a front of the first one
 pub record IsCut (all left : List (List ℕ)) : Type 0 where
   pub gone : List (List ℕ)
   pub is : all ≡ gone ++ left
@@ -34,7 +35,7 @@ cut-none xs = record { gone = []; is = refl }
 cut-first : (p : List ℕ) (xs ys : List (List ℕ)) → IsCut xs ys → IsCut (p ∷ xs) ys
 cut-first p xs ys c = record { gone = p ∷ c.gone; is = ap (λ l. p ∷ l) c.is }
 
--- where one may be left out in front
+-- if one may be left out at the beginning
 cut-maybe : (t : Bool) (p : List ℕ) (ps : List (List ℕ)) → IsCut (p ∷ ps) (if t then ps else p ∷ ps)
 cut-maybe true p ps = cut-first p ps ps (cut-none ps)
 cut-maybe false p ps = cut-none (p ∷ ps)
@@ -126,7 +127,7 @@ damages s l octets old new h =
           (ap (λ (r : LinkReceiverState). r.begun) h.counted) (ap (λ (r : LinkReceiverState). r.begun) h.other_up);
     }
 
--- What will arrive from a station is some of what was to arrive, of each lane in order.
+-- What will arrive from a station is some of what would have arrived, of each lane in order.
 pub record IsLeft (all left : List (List ℕ)) : Type 0 where
   pub gone : List (List ℕ)
   pub swaps : IsSwapped all (gone ++ left)

@@ -1,6 +1,6 @@
 -- An expiry after which nothing of a transaction is lost: it answers the sender, or it completes the
 -- transaction.
-use Rattle.std.proofs.Common.{◌≡◌, ◌≢◌, ◌⊎◌, inl, inr, ℕ, suc, ◌+◌, ◌≤◌, not, Bool, true, false, List, [], ◌∷◌, Option, Some, None, is_some, refl, sym, ap, subst, ◌∙◌, arith}
+use Rattle.std.proofs.Common.{◌≡◌, ◌≢◌, ◌⊎◌, inl, inr, ℕ, suc, ◌+◌, ◌≤◌, not, Bool, true, false, List, [], ◌∷◌, Option, Some, None, refl, sym, ap, subst, ◌∙◌, arith}
 use Rattle.std.specs.Prelude.{Contains}
 use Rattle.std.proofs.lemmas.Bool.{false≢true, and_parts, both_ways}
 use Rattle.cfdp_directives.specs.declared.user.limits.Limits.{Limits}
@@ -36,21 +36,22 @@ use Rattle.link_sim.specs.World.State.{WorldState, entity_at}
 use Rattle.link_sim.specs.World.Steps.{Steps, TellsTime}
 use Rattle.link_sim.proofs.Clean.Settles.{CleanLaws}
 use Rattle.link_sim.proofs.Events.Keeping.{both, other-other}
-use Rattle.link_sim.proofs.Found.Ends.{settled-rests}
 use Rattle.link_sim.proofs.Found.Exchanges.{has-exchange}
 use Rattle.link_sim.proofs.Recovery.Along.{told-time}
 use Rattle.link_sim.proofs.Recovery.Records.{its-receiver, its-sender}
 use Rattle.link_sim.proofs.Runs.Places.{runs-both}
 use Rattle.link_sim.proofs.Runs.World.{puts-kept, runs-on-same, settles-run}
+use Rattle.link_sim.proofs.Stages.Rest.{rest-runs, rests-told}
 use Rattle.link_sim.proofs.Stages.Rounds.{sender-round}
 use Rattle.link_sim.proofs.Stages.RoundsThere.{receiver-round}
 use Rattle.outages.specs.Outage.{Happening}
 use Rattle.outages.specs.Spared.{AreSparing, GetsThrough, IsSparing, SparesIt}
 use Rattle.outages.specs.Tries.{one_if}
-use Rattle.outages.proofs.Aside.{aside-run, call-aside, put-aside}
+use Rattle.outages.proofs.Aside.{aside-run, call-aside, put-aside, tick-aside}
 use Rattle.outages.proofs.Budgets.{HoldsThere, waits-undone}
 use Rattle.outages.proofs.Expiring.{ignored-receiver, ignored-sender, ignoring}
-use Rattle.outages.proofs.Outlasting.{entities-same, fewer, runs-hold}
+use Rattle.outages.proofs.Outlasting.{entities-same, fewer, limits-so, runs-hold}
+use Rattle.outages.proofs.Quiet.{quiet-rests}
 use Rattle.outages.proofs.Ticking.{Expired, all-due, due, expired-some, ignored, kinds, ticks-here, ticks-there, told-here, waited}
 use Rattle.outages.proofs.Tracking.{Comes, HasLost, Holds, IsReached, damage-lost, onward-both, policy-next, reached-next, spared-same, strike-lost}
 
@@ -76,7 +77,7 @@ one-most : (b : Bool) → one_if b ≤ 1
 one-most true = omega arith
 one-most false = omega arith
 
--- a run that begins where more was told
+-- a run that begins after more was indicated
 told-run : (n : ℕ) (put : Put) (a b c : Exchange) → TellsMore a b → Runs n put b c → (k : ℕ) × Runs k put a c
 unfolding Runs
 told-run n put a b c more runs = runs-both 1 n put a b c (a, (refl, inr (inr (inr (inr (inr (inr (inr (inr (inr more)))))))))) runs
@@ -110,7 +111,7 @@ module _ (all : CleanLaws) where
     sparing-run (event.Suspend t of) d is h short = aside-run s put old mid r1 own1 e has (call-aside put.id of is old mid d t calls.Suspend h)
     sparing-run (event.Resume t of) d is h short = aside-run s put old mid r1 own1 e has (call-aside put.id of is old mid d t calls.Resume h)
     sparing-run (event.Prompt t of keep_alive) d is h short = aside-run s put old mid r1 own1 e has (call-aside put.id of is old mid d t (calls.Prompt keep_alive) h)
-    sparing-run (event.Tick t now) d is h short = absurd is
+    sparing-run (event.Tick t now) d is h short = aside-run s put old mid r1 own1 e has (tick-aside put.id t now old mid r.sound (told-time t now d old mid h) is)
 
   passes : (s : Side) (put : Put) (hs : List Happening) (old new : WorldState) → IsReached old → IsPutOf s put old → (e : Exchange) → HasExchange s put old e → AreSparing put.id hs old new →
       Passes s put e old new
@@ -152,9 +153,13 @@ module _ (all : CleanLaws) where
   closed-holds there nak finished None closed = absurd (false≢true closed)
   closed-holds there nak finished (Some r) closed = λ open_. absurd (both_ways (is_closed r) open_ closed)
 
-  module _ (a b : WorldState) (r : IsReached a) (eof nak finished : ℕ) (put : Put) (g : GetsThrough put.id a b) where
+  -- from its expiry on
+  module _ (old b : WorldState) (eof nak finished : ℕ) (put : Put) (g : GetsThrough put.id old b) (r : IsReached g.held) where
+    abbrev a : WorldState
+    a = g.held
+
     abbrev GainsAt : (s : Side) → Type 0
-    GainsAt s = (own : IsPutOf s put a) (e : Exchange) (has : HasExchange s put a e)
+    GainsAt s = (own : IsPutOf s put a) (e : Exchange) (has : HasExchange s put a e) → IsAtRest e
         → Holds false (policy_at s a).limits (policy_at (other s) a).limits put (suc eof) (suc nak) (suc finished) e → Gains s put eof nak finished a b e
 
     abbrev pol : Policy
@@ -179,12 +184,12 @@ module _ (all : CleanLaws) where
     due-now k = due g.side g.now a g.ticked r r1 h put k
 
     expired-now : Contains ks g.kind
-    expired-now = all-due g.side g.now a g.ticked r r1 h put g.kind g.deadline g.armed g.is_due
+    expired-now = all-due g.side g.now a g.ticked r r1 h put g.kind g.expires
 
     -- it stood still before
-    stands : (s : Side) (e : Exchange) (has : HasExchange s put a e) → Holds false (policy_at s a).limits (policy_at (other s) a).limits put (suc eof) (suc nak) (suc finished) e
+    stands : (s : Side) (e : Exchange) (has : HasExchange s put a e) → IsAtRest e → Holds false (policy_at s a).limits (policy_at (other s) a).limits put (suc eof) (suc nak) (suc finished) e
         → Stands (policy_at s a).limits (policy_at (other s) a).limits put e
-    stands s e has holds = record {
+    stands s e has rests holds = record {
       course = holds.course;
       below = record {
         sender = λ phase none. (
@@ -192,12 +197,12 @@ module _ (all : CleanLaws) where
             omega (arith, low));
         receiver = below-there (policy_at (other s) a).limits nak finished e.receiver holds.receiver;
       };
-      rests = settled-rests s put a r.sound e has g.rests r.rested;
+      rests = rests;
     }
 
     -- a timer of its sender
     gains-here : GainsAt g.side
-    gains-here own e has holds =
+    gains-here own e has at_rest holds =
         let here : Limits = pol.limits in
         let there : Limits = (policy_at (other g.side) a).limits in
         let own1 : IsPutOf g.side put g.ticked = own-then g.side own in
@@ -215,8 +220,8 @@ module _ (all : CleanLaws) where
         let runs = told-run pass.run.steps put (expire_sender pol put ks e) d end more pass.run.runs in
         let its : IsItsSender put e.sender = its-sender a r.sound g.side put e own has in
         let waits_so : AreWaitedBySender e.sender ks = λ k c. sym (ap (waits_for k) has.is.is_sender) ∙ waited g.side g.now a g.ticked r r1 h put k c in
-        let rests : IsAtRest end = settled-rests g.side put b pass.reached.sound end pass.run.is_end g.settled pass.reached.rested in
-        let round = sender-round here there (ignoring pol) runs.0 put e end ks refl refl its (stands g.side e has holds) waits_so
+        let rests : IsAtRest end = quiet-rests g.side put b end pass.run.is_end g.quiet in
+        let round = sender-round here there (ignoring pol) runs.0 put e end ks refl refl its (stands g.side e has at_rest holds) waits_so
         (subst (λ m. Runs runs.0 put m end) (sym (ignored-sender pol put ks e (ignored g.side g.now a g.ticked r r1 h put g.calm))) runs.1) rests in
         let is_eof : g.kind ≡ eofs.EofAck = eof-only g.kind e.sender g.answerable (waits_so g.kind expired-now) in
         let answered : is_answered end.sender ≡ true = round.1.1.1 (subst (λ j. Contains ks j) is_eof expired-now) in
@@ -236,7 +241,7 @@ module _ (all : CleanLaws) where
 
     -- one of its receiver
     gains-there : GainsAt (other g.side)
-    gains-there own e has holds = by e.receiver refl (record_of put.id (entity_at g.side a).table.records) refl receiver-was ((r.sound g.side).entity.timed.waited put.id g.kind (ap is_some g.armed))
+    gains-there own e has at_rest holds = by e.receiver refl (record_of put.id (entity_at g.side a).table.records) refl receiver-was (waited g.side g.now a g.ticked r r1 h put g.kind expired-now)
       where
         s : Side
         s = other g.side
@@ -266,9 +271,9 @@ module _ (all : CleanLaws) where
             let runs = told-run pass.run.steps put found.expired d end found.more pass.run.runs in
             let its : IsItsSender put e.sender = its-sender a r.sound (other g.side) put e own has in
             let waits_so : (k : Kind) → Contains ks k → waits k r0 ≡ true = λ k c. sym (ap (waits_for k) at) ∙ waited g.side g.now a g.ticked r r1 h put k c in
-            let rests : IsAtRest end = settled-rests (other g.side) put b pass.reached.sound end pass.run.is_end g.settled pass.reached.rested in
+            let rests : IsAtRest end = quiet-rests (other g.side) put b end pass.run.is_end g.quiet in
             let round = receiver-round here there (ignoring pol) runs.0 put e found.expired end ks (sym (ap (λ (u : Side). (policy_at u a).limits) (other-other g.side))) refl its
-            (stands (other g.side) e has holds) (λ q same. its-receiver a r.sound r.kept (other g.side) put e q has same)
+            (stands (other g.side) e has at_rest holds) (λ q same. its-receiver a r.sound r.kept (other g.side) put e q has same)
             (subst (λ o. AreWaitedByReceiver o ks) (sym is) waits_so)
             (ignored-receiver pol put ks e found.expired (ignored g.side g.now a g.ticked r r1 h put g.calm) found.expires) runs.1 rests in
             let closed : maybe is_closed end.receiver ≡ true = elim (nak-or-finished g.kind r0 g.answerable (waits_so g.kind expired-now)) [
@@ -296,5 +301,32 @@ module _ (all : CleanLaws) where
         by (Some r0) is (Some (Sends x)) at here waits = absurd here
         by (Some r0) is (Some (Receives u m)) at here waits = some r0 is m (at ∙ ap (λ (q : ReceiverState). Some (Receives q m)) (sym here))
 
-    pub gains : (s : Side) → GainsAt s
-    gains = both GainsAt g.side gains-here gains-there
+    gains-at : (s : Side) → GainsAt s
+    gains-at = both GainsAt g.side gains-here gains-there
+
+  -- and with the events before it, in which the transaction stays as it is
+  pub gains : (a b : WorldState) → IsReached a → (eof nak finished : ℕ) (put : Put) → GetsThrough put.id a b → (s : Side) → (own : IsPutOf s put a) (e : Exchange) (has : HasExchange s put a e)
+      → Holds false (policy_at s a).limits (policy_at (other s) a).limits put (suc eof) (suc nak) (suc finished) e → Gains s put eof nak finished a b e
+  gains a b r eof nak finished put g s own e has holds =
+      let p : Passes s put e a g.held = passes s put g.before a g.held r own e has g.spare_before in
+      let at_rest : IsAtRest e = quiet-rests s put a e has g.rests in
+      let d : Exchange = p.run.end in
+      let more : TellsMore e d = rest-runs p.run.steps put e d at_rest p.run.runs in
+      let k = runs-hold false (policy_at s a).limits (policy_at (other s) a).limits put (suc eof) (suc nak) (suc finished) p.run.steps e d (its-sender a r.sound s put e own has) p.run.runs holds in
+      let t : Gains s put eof nak finished g.held b d = gains-at a b eof nak finished put g p.reached s p.own d p.run.is_end (rests-told e d more at_rest)
+      (limits-so false put (suc eof) (suc nak) (suc finished) s a g.held d p.policy k.0) in
+      record {
+        reached = t.reached;
+        own = t.own;
+        policy = λ u. t.policy u ∙ p.policy u;
+        comes = record {
+          end = t.comes.end;
+          has = t.comes.has;
+          holds = limits-so false put (suc eof) (suc nak) (suc finished) s g.held a t.comes.end (λ u. sym (p.policy u)) t.comes.holds;
+          onward = onward-both e d t.comes.end k.1 t.comes.onward;
+        };
+        gained = elim t.gained [
+          | inl closed ↦ inl closed
+          | inr answered ↦ inr (sym (ap (λ (x : Exchange). is_answered x.sender) more.is) ∙ answered.0, answered.1)
+        ];
+      }

@@ -1,9 +1,6 @@
--- The time is told at a station: what becomes of a put's transaction that may try again.
-use Rattle.std.proofs.Common.{◌≡◌, ◌⊎◌, inl, inr, ℕ, ◌+◌, ◌≤◌, Bool, true, false, List, max, Option, Some, None, is_some, refl, sym, ap, subst, ◌∙◌, arith}
-use Rattle.std.specs.Prelude.{Contains, nat_le}
-use Rattle.std.specs.Option.{option_map_or}
-use Rattle.std.proofs.lemmas.Bool.{le-leb}
-use Rattle.std.specs.FinMap as map
+-- The time is given at a station: what becomes of a put's transaction that may try again.
+use Rattle.std.proofs.Common.{◌≡◌, ◌⊎◌, inl, inr, ℕ, ◌+◌, ◌≤◌, Bool, true, false, List, Option, Some, None, refl, sym, ap, subst, ◌∙◌, arith}
+use Rattle.std.specs.Prelude.{Contains}
 use Rattle.cfdp_directives.specs.declared.user.handler.Handler.TheVariants.{Ignore}
 use Rattle.cfdp_directives.specs.declared.user.limits.Limits.{Limits}
 use Rattle.cfdp_directives.specs.declared.user.policy.Policy.{Policy}
@@ -12,7 +9,6 @@ use Rattle.cfdp_store.specs.Staged.{OctetMap}
 use Rattle.cfdp_timers.specs.declared.kind.Kind.{Kind}
 use Rattle.cfdp_timers.specs.declared.kind.Kind.TheVariants.{EofAck, Nak, FinishedAck, Inactivity}
 use Rattle.cfdp_timers.specs.Due.{is_due}
-use Rattle.cfdp_timers.proofs.CallerLemmas.{deadline-fired}
 use Rattle.cfdp_sender.specs.State.{SenderState}
 use Rattle.cfdp_receiver.specs.State.{ReceiverState}
 use Rattle.cfdp_entity.specs.Entity.{EntityState}
@@ -32,7 +28,7 @@ use Rattle.link_sim.specs.World.Steps.{TellsTime}
 use Rattle.link_sim.proofs.Course.All.{course-laws}
 use Rattle.link_sim.proofs.Events.Keeping.{other-other}
 use Rattle.link_sim.proofs.Found.Exchanges.{spelled-same}
-use Rattle.link_sim.proofs.Found.ExpiresWorld.{SendsIn, StaysNone, expired-rest, fired-none}
+use Rattle.link_sim.proofs.Found.ExpiresWorld.{SendsIn, StaysNone, expired-rest, fired-kind, fired-none, fired-receiver, fired-sender, fired-waited, kinds_of}
 use Rattle.link_sim.proofs.Found.ExpiresWorld as world
 use Rattle.link_sim.proofs.Lanes.Same.{same-arriving}
 use Rattle.link_sim.proofs.Lanes.Ways.{back-kept, forth-kept}
@@ -40,9 +36,7 @@ use Rattle.link_sim.proofs.Recovery.Records.{its-receiver, its-sender}
 use Rattle.outages.specs.Tries.{one_if, time_told}
 use Rattle.outages.proofs.Budgets.{HoldsHere, HoldsThere, done-same, fewer-there}
 use Rattle.outages.proofs.Expiring.{Counts, IsIgnored, Received, all-received, all-steps, counted-course, ignored-receiver, ignored-sender, ignoring, occurs}
-use Rattle.outages.proofs.Fired.{due-there, kind-there, occurs-due, undue-apart}
-use Rattle.outages.proofs.Timers.{fired-receiver, fired-sender}
-use Rattle.outages.proofs.Timers as timers
+use Rattle.outages.proofs.Fired.{occurs-due, undue-apart}
 use Rattle.outages.proofs.Tracking.{Comes, Holds, IsReached, Onward, receiver-in, sender-in}
 
 module _ (T : Side) (now : ℕ) (old new : WorldState) (reached : IsReached old) (next : IsReached new) (h : TellsTime T now old new) where
@@ -71,7 +65,7 @@ module _ (T : Side) (now : ℕ) (old new : WorldState) (reached : IsReached old)
   due put k = one_if (is_due st.armed (time_told T now old) (put.id, k))
 
   abbrev pub kinds : Put → List Kind
-  kinds put = timers.kinds put.id h.ticked.fired
+  kinds put = kinds_of put.id h.ticked.fired
 
   few-kinds : (put : Put) (k : Kind) → occurs k (kinds put) ≤ due put k
   few-kinds put k = occurs-due st.armed put.id k (time_told T now old) h.ticked.fired h.ticked.are
@@ -84,15 +78,10 @@ module _ (T : Side) (now : ℕ) (old new : WorldState) (reached : IsReached old)
   ignored put (inr undue) = inr (undue-apart st.armed put.id Inactivity (time_told T now old) h.ticked.fired h.ticked.are undue)
 
   pub waited : (put : Put) (k : Kind) → Contains (kinds put) k → waits_for k (record_of put.id st.records) ≡ true
-  waited put k c =
-      let d = deadline-fired st.armed (max st.now now) h.ticked.fired h.ticked.are (put.id, k) (kind-there put.id h.ticked.fired k c) in
-      (reached.sound T).entity.timed.waited put.id k (ap is_some d.1)
+  waited put k c = fired-waited now st st1 h.ticked (reached.sound T).entity.timed put.id k c
 
-  pub all-due : (put : Put) (k : Kind) (deadline : ℕ) → map.get st.armed (put.id, k) ≡ Some deadline → deadline ≤ now → Contains (kinds put) k
-  all-due put k deadline armed low =
-      let early : deadline ≤ max st.now now = omega (arith, low) in
-      due-there st.armed put.id k (max st.now now) h.ticked.fired h.ticked.are
-      (ap (λ o. option_map_or (λ d. nat_le d (max st.now now)) o false) armed ∙ le-leb deadline (max st.now now) early)
+  pub all-due : (put : Put) (k : Kind) → is_due st.armed (time_told T now old) (put.id, k) ≡ true → Contains (kinds put) k
+  all-due put k is = fired-kind put.id h.ticked.fired k (h.ticked.are.all (put.id, k) ∙ is)
 
   -- ---- a put of this station
   module _ (strict : Bool) (put : Put) (e : Exchange) (has : HasExchange T put old e) (d : Exchange) (has_then : HasExchange T put new d) (eof nak finished : ℕ) (calm : Calm put)
@@ -143,7 +132,7 @@ module _ (T : Side) (now : ℕ) (old new : WorldState) (reached : IsReached old)
     same : d ≡ counted
     same = λ i. record { sender = same-sender i; receiver = same-receiver i; forth = same-forth i; back = same-back i; told = d.told; told_there = same-told-there i }
 
-    -- these timers expired, and more was told
+    -- these timers expired, and more was indicated
     pub told-here : TellsMore after d
     told-here =
         let rest = expired-rest pol put (kinds put) e in
@@ -258,7 +247,7 @@ module _ (T : Side) (now : ℕ) (old new : WorldState) (reached : IsReached old)
         (omega (arith, naks)) (omega (arith, finisheds))
         (subst (λ (l : Limits). HoldsThere l (due put Nak + nak) (due put FinishedAck + finished) e.receiver) limits-there holds.receiver)
 
-    -- Its receiver, if there is one: these timers of it expired, and more was told.
+    -- Its receiver, if there is one: these timers of it expired, and more was indicated.
     pub record Expired : Type 0 where
       pub expired : Exchange
       pub expires : ReceiverExpires pol put (kinds put) e expired

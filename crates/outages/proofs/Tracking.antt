@@ -108,7 +108,7 @@ receiver-in (Some (Sends x)) (Some s) b h k = absurd h
 receiver-in (Some (Sends x)) None b h k = absurd h
 
 -- ---- PDUs of it that are lost
--- of what was to arrive, some is left
+-- of what would have arrived, some is left
 record IsLeftOf (id : TransactionId) (before after : List Content) : Type 0 where
   gone : List Content
   swaps : IsSwapped before (gone ++ after)
@@ -148,7 +148,7 @@ module _ (put : Put) (x : SenderState) (o : Option ReceiverState) (b c : Bool) w
       let less : IsCourse put false false false false x o forth1 back1 b c = drop-back forth1 k.gone back1 (drop-forth f.gone forth1 (k.gone ++ back1) quiet) in
       record { truth = less.truth; active = λ _. h.active refl; ack_comes = less.ack_comes; file_comes = less.file_comes; end_comes = less.end_comes }
 
--- ---- two worlds of which both entities are the same, but for what arrives
+-- ---- two worlds of which both entities are the same, except for what arrives
 module _ (s : Side) (put : Put) (old new : WorldState) (e : Exchange) (has : HasExchange s put old e) (d : Exchange) (has_then : HasExchange s put new d)
     (entities : (t : Side) → entity_at t new ≡ entity_at t old) where
   mine : EntityState
@@ -188,7 +188,7 @@ module _ (s : Side) (put : Put) (old new : WorldState) (e : Exchange) (has : Has
       } in
       subst (λ (m : Exchange). Holds strict here there put eof nak finished m × Onward e m) (sym but-ways) (holds, record { answered = λ t. t; closed = λ t. t })
 
-  -- where nothing of it was lost
+  -- if nothing of it was lost
   pub spared-same : d.forth ≡ e.forth → d.back ≡ e.back → d ≡ e
   spared-same f k = but-ways ∙ (λ i. record e { forth = f i; back = k i })
 

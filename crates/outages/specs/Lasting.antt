@@ -26,8 +26,8 @@ time_of times Inactivity = times.inactivity
 abbrev pub wait_at : Side → Kind → WorldState → ℕ
 wait_at s k w = time_of (policy_at s w).times k
 
--- When a timer of the transaction may expire first: at its deadline, or where it isn't armed, a
--- whole wait from now on.
+-- When a timer of the transaction may expire first: at its deadline, or if it isn't armed, a whole
+-- wait from now on.
 abbrev pub earlier : Option ℕ → ℕ → ℕ
 earlier None later = later
 earlier (Some deadline) later = min deadline later
@@ -35,7 +35,7 @@ earlier (Some deadline) later = min deadline later
 abbrev pub earliest : TransactionId → Side → Kind → WorldState → ℕ
 earliest id s k w = earlier (map.get (armed_at s w) (id, k)) (clock_at s w + wait_at s k w)
 
--- A machine that tried so often may try again; and one wait after this time of the clock comes
+-- A machine that tried so often may try again; and one wait after this time of the clock must come
 -- before the end of all waits that its other tries have, the first of which ends at the earliest
 -- expiry. (A clock doesn't run past its greatest time.)
 pub record IsInTime (id : TransactionId) (s : Side) (k : Kind) (count limit clock : ℕ)
@@ -53,7 +53,7 @@ IsInTimeFor id s clock w (Some (Receives r m)) = is_open (Some (Receives r m)) �
 IsInTimeFor id s clock w None = IsInTime id s Nak 0 (policy_at s w).limits.nak clock w
     × IsInTime id s FinishedAck 0 (policy_at s w).limits.finished clock w
 
--- When the outage ends, it is in time for each record at either station.
+-- When the outage ends, it must be in time for each record at either station.
 abbrev pub IsShort : TransactionId → (old new : WorldState) → Type 0
 IsShort id old new = (s : Side)
     → IsInTimeFor id s (clock_at s new) old (record_of id (entity_at s old).table.records)

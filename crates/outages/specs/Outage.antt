@@ -9,8 +9,8 @@ use Rattle.link_sim.specs.World.State.{WorldState}
 use Rattle.link_sim.specs.World.Steps.{Steps}
 
 -- ---- an outage
--- Stations send, frames arrive, are lost or come damaged, the time is told, and users put files and
--- make calls, but none on this transaction.
+-- Stations send, frames arrive, are lost or come damaged, the time is given, and users put files
+-- and make calls, but none on this transaction.
 abbrev pub IsOfOutage : TransactionId → Event → Type 0
 IsOfOutage id (event.Poll s) = Unit {0}
 IsOfOutage id (event.Flush s) = Unit {0}

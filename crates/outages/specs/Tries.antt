@@ -18,7 +18,7 @@ use Rattle.link_sim.specs.World.State.{WorldState, entity_at}
 use Rattle.outages.specs.Outage.{Happening}
 
 -- ---- timers that expire
--- the time at a station once it is told: a clock doesn't run back
+-- the time at a station once it is given: a clock doesn't run back
 abbrev pub time_told : Side → ℕ → WorldState → ℕ
 time_told s now w = max (entity_at s w).table.now now
 
@@ -42,7 +42,7 @@ abbrev pub expiries : TransactionId → WorldState → List Happening → Side �
 expiries id w [] s k = 0
 expiries id w (h ∷ hs) s k = one_if (expires_at s id k w h.event) + expiries id h.after hs s k
 
--- None of its timers expires at either station, those of Inactivity apart.
+-- None of its timers expires at either station, except those of Inactivity.
 abbrev pub NoneExpires : TransactionId → WorldState → List Happening → Type 0
 NoneExpires id w hs = (s : Side) (k : Kind) → k ≢ Inactivity → expiries id w hs s k ≡ 0
 

@@ -5,4 +5,6 @@
 
 mod laws;
 
-pub use laws::{a_transfer_outlives_its_losses, three_tries_last_thirty_units};
+pub use laws::{
+    a_transfer_outlives_its_losses, rounds_of_a_recovery_get_through, three_tries_last_thirty_units,
+};

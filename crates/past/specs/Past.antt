@@ -4,7 +4,7 @@ use Rattle.past.specs.declared.Latest.{Latest}
 use Rattle.past.specs.declared.Latest.TheVariants.{Nothing, Put}
 
 module _ {T : Type 0} where
-  -- the latest value stands behind those before it
+  -- the latest value stands after those before it
   abbrev pub list_of : Latest T → List T
   list_of Nothing = []
   list_of (Put value before) = before.value ++ value.value ∷ []

@@ -3,7 +3,7 @@ ghost use Rattle.std.specs.Prelude.{◌≡◌, ◌+◌, ◌<◌, ◌^◌, [], �
 use crate::Past;
 use std::marker::Model;
 
-/// What was put on a list, the latest last. The program keeps how many there were, and no more.
+/// A list of what was put on it, the latest last. The program keeps its length, and no more.
 #[derive(Drop)]
 pub struct Counted<T> {
     past: Past<T>,
@@ -21,7 +21,7 @@ impl<T> Model for Counted<T> {
 }
 
 impl<T> Counted<T> {
-    /// Nothing was put on it.
+    /// Returns a list on which nothing was put.
     pub fn new() -> Self
         ensures { result ≡ [] }
     {
@@ -31,14 +31,15 @@ impl<T> Counted<T> {
         }
     }
 
-    /// How many there were.
+    /// Returns how many values were put on it.
     pub fn count(&self) -> u64
         ensures { result ≡ length self.now }
     {
         self.count
     }
 
-    /// Puts values on it, in turn, which 64 bits can count together with those before.
+    /// Puts values on it, in turn. 64 bits must be able to count them together with the values
+    /// before.
     pub fn put_all(&mut self, values: &[T])
         requires { length self.old + length values.now < 2 ^ 64 }
         ensures { self.new ≡ self.old ++ values.now }

@@ -1,8 +1,8 @@
-//! Lists that only clauses see: what was put on one takes no memory.
+//! Lists that only clauses see: they take no memory for what was put on them.
 //!
-//! A clause speaks of what a program has done since it began, as of each file that it took. To keep
-//! that list takes memory without end, and no code reads it. On a `Past` the list is there for
-//! clauses, and the program keeps one octet of it.
+//! A clause speaks of what a program has done since it began, for example of each file that it
+//! took. If the program kept that list, it would take memory without end, and no code reads it. On
+//! a `Past` the list is there for clauses, and the program keeps one octet of it.
 //!
 //! ```text
 //! let mut past = Past::new();
@@ -23,7 +23,7 @@ use std::fmt::{self, Debug, Formatter};
 use std::marker::Model;
 use std::snapshot::Snapshot;
 
-/// What was put on a list, the latest last. It takes one octet, however much that is.
+/// A list of what was put on it, the latest last. It takes one octet, however much was put on it.
 #[derive(Drop)]
 #[cycle(past)]
 pub struct Past<T> {
@@ -54,7 +54,7 @@ impl<T> Model for Past<T> {
 }
 
 impl<T> Past<T> {
-    /// Nothing was put on it.
+    /// Returns a list on which nothing was put.
     pub fn new() -> Self
         ensures { result ≡ [] }
     {
@@ -63,7 +63,7 @@ impl<T> Past<T> {
         }
     }
 
-    /// A list of these values.
+    /// Returns a list of these values, the latest last; empty if there are none.
     pub fn of(values: &[T]) -> Self
         ensures { result ≡ values.now }
     {
@@ -92,7 +92,7 @@ impl<T> Past<T> {
     }
 }
 
-/// Of what was put on it nothing is known.
+/// Nothing is known of what was put on it.
 impl<T> Debug for Past<T> {
     fn fmt<W: fmt::Write>(&self, f: &mut Formatter<W>) -> fmt::Result {
         f.write_str("Past")

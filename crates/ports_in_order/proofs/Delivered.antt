@@ -1,4 +1,5 @@
--- What a sender that was told complete knows of the other station's files, where one put was made.
+-- What a sender that indicated its put complete knows of the other station's files, if one put was
+-- made.
 use Rattle.std.proofs.Common.{◌≡◌, ◌⊎◌, ℕ, zero, suc, List, [], ◌∷◌, Option, Some, None, Contains, cond, if◌then◌else◌, refl, sym, ap, subst, ◌∙◌, inl, inr, arith, eq-eqb}
 use Rattle.std.proofs.lemmas.Bool.{cases_Bool}
 use Rattle.std.proofs.lemmas.Cmp.{eq_by_cmp_equiv, nat_list_cmp_total}
@@ -44,7 +45,7 @@ module _ (w : WorldState) (put : AcceptedPut) (only : w.puts ≡ put ∷ []) whe
         cc)
   ]
 
-  -- its file, where the first station made it
+  -- its file, if the first station made it
   its_file : (p : Put) → put.id.source ≡ w.one.entity.state.config.entity → put_of (seen w) put.id ≡ Some p →
       with_octets w.one.entity.state.config.checksum_kind put (get w.one.entity.state.table.sources put.source) ≡ Some p
   its_file p own is =

@@ -1,2 +1,3 @@
-mod OrderLemmas
+pub mod Aside
+pub mod OrderLemmas
 mod Delivered

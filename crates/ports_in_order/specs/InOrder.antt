@@ -25,8 +25,8 @@ taken_to Data count taken Directives = taken Directives
 taken_to Data count taken Data = count
 
 -- Of the frames that were sent in each lane, `taken` were lost or came before. These came now, each
--- in the order of its lane; those of the lane between them are lost, fewer in a row than there are
--- frame counts. `then_taken` of each lane were lost or came by then.
+-- in the order of its lane; those of the lane between them are lost, which must be fewer in a row
+-- than there are frame counts. `then_taken` of each lane were lost or came by then.
 abbrev pub ComeInOrder : (sent : Lane → List (List ℕ)) → (taken : Lane → ℕ)
     → (came : List (List ℕ)) → (then_taken : Lane → ℕ) → Type 0
 ComeInOrder sent taken [] then_taken = then_taken ≡ taken
@@ -53,7 +53,7 @@ nothing_passed = record {
 }
 
 module _ {W : Type 0} (Steps : W → WireCall → W → Type 0) where
-  -- What passed in one turn behind what had passed before: what came to each station came in order
+  -- What passed in one turn, after what had passed before: what came to each station came in order
   -- of what had left the other one in its lane.
   pub record PassesInOrder (now : ℕ) (old new : PairState W)
       (turn : TakesTurn Steps now old new) (before after : Passage) : Type 0 where

@@ -40,8 +40,9 @@ pub fn turns_are_of_a_world<W: Wire>()
     cfdp_entity::an_entity_goes_on();
 }
 
-/// A sender that is told complete over such wires can rely on it: the other station has published,
-/// under the name that the put asked for, the very file that lies in the sender's outbox.
+/// A sender that indicates its put complete over such wires can rely on it: the other station has
+/// published, under the name that the put asked for, the very file that lies in the sender's
+/// outbox.
 pub fn told_complete_is_published()
     ensures { (c : WorldConfig) (outboxes inboxes : FileMap × FileMap) (put : AcceptedPut)
         (passed : Passage) (one two : StationState)

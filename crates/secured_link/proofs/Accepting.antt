@@ -1,4 +1,4 @@
--- Octets of which none was forged are accepted, and so is what was sealed.
+-- Octets none of which was forged are accepted, and so is what was sealed.
 use Rattle.std.proofs.Common.{◌≡◌, ◌⊎◌, inl, inr, ℕ, ◌+◌, ◌<◌, ◌≤◌, ◌^◌, Bool, true, false, Option, Some, None, IfSome, List, [], ◌∷◌, ◌++◌, length, take, drop, map, refl, sym, ap, ap₂, subst, ◌∙◌, arith, length-append}
 use Rattle.std.specs.List.{Contains}
 use Rattle.std.proofs.lemmas.List.{length-take-le, take-append-drop}
@@ -24,7 +24,7 @@ few_by : (last : Option ℕ) (n : ℕ) → ((before : ℕ) → last ≡ Some bef
 few_by None n h = tt
 few_by (Some before) n h = h before refl
 
--- the frame of which these octets are
+-- the frame that these octets are of
 numbered_of : (all : List Numbered) (x : SealedIn) → Contains (map (λ (y : Numbered). y.sealed) all) x → (y : Numbered) × Contains all y × (y.sealed ≡ x)
 numbered_of [] x (k, lt, is) = absurd (omega (arith, lt))
 numbered_of (z ∷ all) x at = by (λ more. numbered_of all x more) (contains_cases z.sealed (map (λ (y : Numbered). y.sealed) all) x at) where
@@ -54,7 +54,7 @@ module _ (theirs : EndKept) (all : List Numbered) (next : ℕ) (kept : AreKept a
     by x (inl up) = inl (omega (arith, le, up))
     by x (inr e) = inr e
 
-  -- What is to be shown of octets that arrived.
+  -- What must be shown of octets that arrived.
   record Takes (o : OpenerState) (a : Arrival) (r : Option Refusal) (old : EndKept) : Type 0 where
     new : EndKept
     accepts : AcceptsBy all o a.octets r a.handed_on old new

@@ -1,4 +1,4 @@
--- What comes over a secured wire is what its opener accepts of what arrived.
+-- Exported: what comes over a secured wire is what its opener accepts of what arrived.
 use Rattle.std.proofs.Common.{◌≡◌, ◌≢◌, ◌⊎◌, inl, inr, ℕ, zero, suc, ◌<◌, true, Option, Some, None, Ok, Err, List, [], ◌∷◌, ◌++◌, refl, sym, ap, ap₂, ◌∙◌, append_assoc}
 use Rattle.cfdp_station.specs.Transmitting.{Times}
 use Rattle.frame_fields.specs.Fields.{bare_in}

@@ -1,4 +1,4 @@
--- What comes over a secured wire comes in the order of each lane.
+-- Exported: what comes over a secured wire comes in the order of each lane.
 use Rattle.std.proofs.Common.{◌≡◌, ◌⊎◌, inl, inr, ℕ, suc, ◌+◌, ◌-◌, ◌<◌, ◌≤◌, Bool, true, false, Option, Some, None, List, [], ◌∷◌, ◌++◌, length, drop, get_or, refl, sym, ap, subst, ◌∙◌, arith, append_assoc, append-nil, length-append, length-drop}
 use Rattle.std.specs.List.{Contains}
 use Rattle.std.proofs.lemmas.List.{drop-drop, drop_at, get_or-drop, get_or_at, drop-append-le}
@@ -9,21 +9,22 @@ use Rattle.aos_frame.specs.declared.config.Lane.TheVariants.{Directives, Data}
 use Rattle.frame_fields.specs.Fields.{bare_in}
 use Rattle.frame_security.specs.declared.opening.Refusal.{Refusal}
 use Rattle.frame_security.specs.Frames.{frame_in, number_in, secured}
-use Rattle.frame_security.specs.Lives.{AreSomeOf, IsAuthenticAt, Sealed}
+use Rattle.frame_security.specs.Lives.{AreSomeOf, Sealed}
 use Rattle.frame_security.specs.Opening.{OpenerState, after, after_by, refusal}
 use Rattle.frame_security.proofs.RoundTrip.{frame_of_secured, number_of_secured}
 use Rattle.frame_security.proofs.Taken.{Rise, accepted, contains_more, find, rise_behind}
 use Rattle.cfdp_port.specs.Passing.{in_lane}
 use Rattle.ports_in_order.specs.InOrder.{ComeInOrder, taken_to}
 use Rattle.secured_wire.specs.Direction.{Arrival, NoneForgedOf, SealedIn, bares_in, frames_of_all, frames_by, opener_then}
+use Rattle.secured_link.specs.Turns.{WereSealed}
 
 -- ---- some of a list
--- what is behind one element
+-- what is after one element
 behind_one : {A : Type 0} (all lost : List A) (x : A) (rest : List A) → all ≡ lost ++ x ∷ rest → drop (length lost + 1) all ≡ rest
 behind_one all lost x rest is =
     ap (drop (length lost + 1)) (is ∙ sym (append_assoc lost (x ∷ []) rest)) ∙ drop_at (lost ++ x ∷ []) rest (length lost + 1) (length-append lost (x ∷ []))
 
--- some, of which the first ones are left out
+-- some, with the first ones left out
 skip : {A : Type 0} (all xs ys : List A) → AreSomeOf all (xs ++ ys) → (n : ℕ) × (n ≤ length all) × AreSomeOf (drop n all) ys
 skip all [] ys h = (0, omega arith, h)
 skip all (x ∷ xs) ys (lost, rest, is, h) =
@@ -42,19 +43,19 @@ next_at d all y ys (lost, rest, is, h) =
       subst (λ l. AreSomeOf l ys) (sym (behind_one all lost y rest is)) h,
     )
 
--- some of what is behind other elements
+-- some of what is after other elements
 further : {A : Type 0} (all more others : List A) → AreSomeOf more others → AreSomeOf (all ++ more) others
 further all more [] h = tt
 further all more (x ∷ others) (lost, rest, is, h) = (all ++ lost, rest, ap (λ l. all ++ l) is ∙ sym (append_assoc all lost (x ∷ rest)), h)
 
--- some of one list, and some of another one behind it
+-- some of one list, and some of another one after it
 pub some_and_some : {A : Type 0} (all some more others : List A) → AreSomeOf all some → AreSomeOf more others → AreSomeOf (all ++ more) (some ++ others)
 some_and_some all [] more others h k = further all more others k
 some_and_some all (x ∷ some) more others (lost, rest, is, h) k =
     (lost, rest ++ more, ap (λ l. l ++ more) is ∙ append_assoc lost (x ∷ rest) more, some_and_some rest some more others h k)
 
 -- ---- one lane
--- Of the frames that left so many were lost or came, and of those behind them these may still come.
+-- Of the frames that left so many were lost or came, and of those after them these may still come.
 pub record InLane (from : List (List ℕ)) (taken : ℕ) (some : List (List ℕ)) : Type 0 where
   pub past : ℕ
   pub at : taken ≤ past
@@ -121,7 +122,7 @@ abbrev pub of : SealedIn → Sealed
 of x = x.frame
 
 -- ---- both lanes
--- Of all that was sealed, behind the frame of this number the rest may still come, in each lane in
+-- Of all that was sealed, after the frame of this number the rest may still come, in each lane in
 -- order; `next` is the number of the next one that is sealed.
 pub record Stands (all : List SealedIn) (next last : ℕ) (from : Lane → List (List ℕ)) (taken : Lane → ℕ) : Type 0 where
   pub first : ℕ
@@ -132,6 +133,19 @@ pub record Stands (all : List SealedIn) (next last : ℕ) (from : Lane → List 
   pub has : (z : SealedIn) → Contains all z → last < z.frame.number → Contains rest z
   pub lanes : (lane : Lane) → InLane (from lane) (taken lane) (bares_in lane rest)
 
+-- ---- what is accepted
+keeps : (all : List SealedIn) (r : Option Refusal) (n : ℕ) (o : OpenerState) (a : Arrival) (came : List Arrival) → NoneForgedOf o all (a ∷ came) → NoneForgedOf (after_by r n o) all came
+keeps all None n o a came none = λ b at. none b (contains_more a came b at)
+keeps all (Some cause) n o a came none = λ b at. none b (contains_more a came b at)
+
+-- If none was forged, all that is accepted was sealed.
+pub were_sealed : (all : List SealedIn) (o : OpenerState) (came : List Arrival) → NoneForgedOf o all came → WereSealed o all came
+were_sealed all o [] none = tt
+were_sealed all o (a ∷ came) none =
+    let number : ℕ = number_in (bare_in o.security.fields a.octets) in
+    (λ e. none a (0, omega arith, refl) (accepted o a.octets e).0, were_sealed all (after o a.octets) came (keeps all (refusal o a.octets) number o a came none))
+
+-- ---- both lanes, one frame after another
 module _ (all : List SealedIn) (next : ℕ) (from : Lane → List (List ℕ)) where
   -- a number is used up
   later : (taken : Lane → ℕ) (last number : ℕ) → last ≤ number → Stands all next last from taken → Stands all next number from taken
@@ -145,7 +159,7 @@ module _ (all : List SealedIn) (next : ℕ) (from : Lane → List (List ℕ)) wh
     lanes = s.lanes;
   }
 
-  -- the lanes, where a frame of one of them came
+  -- the lanes, if a frame of one of them came
   lanes_by : (its : Lane) (count : ℕ) (frame : List ℕ) (taken : Lane → ℕ) (lost rest : List SealedIn) → InLane (from its) count (bares_in its rest) →
       ((lane : Lane) → InLane (from lane) (taken lane) (bares_in lane lost ++ (in_lane lane its frame ++ bares_in lane rest))) →
       (lane : Lane) → InLane (from lane) (taken_to its count taken lane) (bares_in lane rest)
@@ -201,7 +215,7 @@ module _ (all : List SealedIn) (next : ℕ) (from : Lane → List (List ℕ)) wh
       }
 
   -- ---- octets that come
-  -- what comes of one arrival, whatever comes behind it
+  -- what comes of one arrival, whatever comes after it
   record ComesOf (taken : Lane → ℕ) (frames : List (List ℕ)) (last : ℕ) : Type 0 where
     now : Lane → ℕ
     in_order : (more : List (List ℕ)) (end : Lane → ℕ) → ComeInOrder from now more end → ComeInOrder from taken (frames ++ more) end
@@ -209,7 +223,7 @@ module _ (all : List SealedIn) (next : ℕ) (from : Lane → List (List ℕ)) wh
     near : AreNear now
 
   step : (o : OpenerState) (a : Arrival) (taken : Lane → ℕ) → AreNear taken → o.security.mac_len ≤ 32 → Stands all next o.last from taken →
-      (IsAuthenticAt o a.octets → (x : SealedIn) × Contains all x
+      (refusal o a.octets ≡ None → (x : SealedIn) × Contains all x
       × (bare_in o.security.fields a.octets ≡ secured o.security x.frame.key x.frame.spi x.frame.number x.frame.bare)) →
       (r : Option Refusal) (room : Bool) → refusal o a.octets ≡ r →
       ComesOf taken (frames_by room r (frame_in o.security (bare_in o.security.fields a.octets))) (after_by r (number_in (bare_in o.security.fields a.octets)) o).last
@@ -218,7 +232,7 @@ module _ (all : List SealedIn) (next : ℕ) (from : Lane → List (List ℕ)) wh
   step o a taken short most s none None room e =
       let octets : List ℕ = bare_in o.security.fields a.octets in
       let is_taken = accepted o a.octets e in
-      let was = none is_taken.0 in
+      let was = none e in
       let y : SealedIn = was.0 in
       let can = (find of s.first all y (subst (Rise of s.first) (append-nil all) (s.rises_all [] tt)) was.1).can in
       let number : number_in octets ≡ y.frame.number = ap number_in was.2 ∙ number_of_secured o.security y.frame.key y.frame.spi y.frame.number y.frame.bare can.1 can.0 in
@@ -235,22 +249,18 @@ module _ (all : List SealedIn) (next : ℕ) (from : Lane → List (List ℕ)) wh
           near = near_on y.lane (taken y.lane + c.lost + 1) taken (omega arith) short;
         }
 
-  keeps : (r : Option Refusal) (n : ℕ) (o : OpenerState) (a : Arrival) (came : List Arrival) → NoneForgedOf o all (a ∷ came) → NoneForgedOf (after_by r n o) all came
-  keeps None n o a came none = λ b at. none b (contains_more a came b at)
-  keeps (Some cause) n o a came none = λ b at. none b (contains_more a came b at)
-
   keeps_size : (r : Option Refusal) (n : ℕ) (o : OpenerState) → o.security.mac_len ≤ 32 → (after_by r n o).security.mac_len ≤ 32
   keeps_size None n o most = most
   keeps_size (Some cause) n o most = most
 
   -- What comes of all that comes, comes in the order of each lane.
-  pub hears : (o : OpenerState) (came : List Arrival) (taken : Lane → ℕ) → AreNear taken → o.security.mac_len ≤ 32 → Stands all next o.last from taken → NoneForgedOf o all came →
+  pub hears : (o : OpenerState) (came : List Arrival) (taken : Lane → ℕ) → AreNear taken → o.security.mac_len ≤ 32 → Stands all next o.last from taken → WereSealed o all came →
       (end : Lane → ℕ) × ComeInOrder from taken (frames_of_all o came) end × Stands all next (opener_then o came).last from end
   hears o [] taken short most s none = (taken, refl, s)
-  hears o (a ∷ came) taken short most s none =
+  hears o (a ∷ came) taken short most s (none, others) =
       let number : ℕ = number_in (bare_in o.security.fields a.octets) in
-      let one = step o a taken short most s (none a (0, omega arith, refl)) (refusal o a.octets) a.handed_on refl in
-      let more = hears (after o a.octets) came one.now one.near (keeps_size (refusal o a.octets) number o most) one.stands (keeps (refusal o a.octets) number o a came none) in
+      let one = step o a taken short most s none (refusal o a.octets) a.handed_on refl in
+      let more = hears (after o a.octets) came one.now one.near (keeps_size (refusal o a.octets) number o most) one.stands others in
       (more.0, one.in_order (frames_of_all (after o a.octets) came) more.0 more.1, more.2)
 
 -- More was sealed, and left in each lane.

@@ -1,6 +1,6 @@
-mod Lanes
-mod Arriving
-mod Turns
+pub mod Lanes
+pub mod Arriving
+pub mod Turns
 mod Copies
 mod Accepting
 mod Keeping

@@ -24,7 +24,8 @@ rises_by from [] h = tt
 rises_by from (x ∷ xs) (up, small, six, h) = (up, (small, six), rises_by (x.number + 1) xs h)
 
 module _ (all : List Sealed) (first : ℕ) (rising_all : Rise itself first all) where
-  -- Behind the frame that was handed on last, with this number, all that have a greater one are left.
+  -- After the frame that was handed on last, with this number, all that have a greater one are
+  -- left.
   record Left (noted : ℕ) (rest : List Sealed) : Type 0 where
     from : ℕ
     rises : Rise itself from rest

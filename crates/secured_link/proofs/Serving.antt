@@ -176,7 +176,7 @@ module _ {W : Type 0} (Steps : W → WireCall → W → Type 0) (Calls : KeeperC
       }
 
   -- ---- what arrives
-  -- what holds where a station heard what arrived
+  -- what holds if a station heard what arrived
   record Heard (link : LinkConfig) (theirs old : SecuredEnd W) (mid : SecuredState W) (heard : EndKept) (came : List (List ℕ)) : Type 0 where
     comes : passing.Comes link came theirs.served.kept old.served.kept heard
     kept : AreKeptIn old.sealed mid.sealer.next heard.before heard.latest
@@ -209,7 +209,7 @@ module _ {W : Type 0} (Steps : W → WireCall → W → Type 0) (Calls : KeeperC
     mac = subst (λ (c : Security). c.mac_len ≤ 32) (sym on.security) h.mac;
   }
 
-  -- ---- what leaves behind that
+  -- ---- what leaves after that
   sends_on : (link : LinkConfig) (theirs old new : SecuredEnd W) (heard : EndKept) (came : List (List ℕ)) (count : ℕ) (from last : PortState (SecuredState W)) (sent : Times (SendsNext (Secures Steps Calls)) count from last) (later : SecuredState W) (station : StationState) →
       Heard link theirs old from.wire heard came → GoesOn last.wire later →
       new.served.kept ≡ record heard { station = station; latest = with_sent (Secures Steps Calls) count from last sent heard.latest } → new.wire ≡ later → new.sealed ≡ old.sealed ++ sealed_of Steps Calls count from last sent heard.latest → Moves theirs old new
@@ -430,7 +430,7 @@ module _ {W : Type 0} (Steps : W → WireCall → W → Type 0) (Calls : KeeperC
     one_mac : FitsMac w.one.wire
     two_mac : FitsMac w.two.wire
 
-  -- the other station, where nothing was done at it
+  -- the other station, if nothing was done at it
   kept_there : (old new : SecuredEnd W) → new ≡ old → AreKept old.sealed old.wire.sealer.next old.served.kept → AreKept new.sealed new.wire.sealer.next new.served.kept
   kept_there old new same h = subst (λ (e : SecuredEnd W). AreKept e.sealed e.wire.sealer.next e.served.kept) (sym same) h
 

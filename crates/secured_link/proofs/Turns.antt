@@ -1,4 +1,5 @@
--- Over secured wires each lane keeps its order, whatever the network does.
+-- Exported: over secured wires each lane keeps its order, whatever the network does; `sent` and
+-- `direction` for turns of any kind.
 use Rattle.std.proofs.Common.{◌≡◌, inl, inr, ℕ, zero, suc, ◌+◌, ◌≤◌, Result, List, [], ◌∷◌, ◌++◌, length, refl, sym, ap, subst, ◌∙◌, arith, append_assoc, append-nil}
 use Rattle.aos_frame.specs.Counts.{frame_counts}
 use Rattle.aos_frame.specs.declared.config.Lane.{Lane}
@@ -16,19 +17,19 @@ use Rattle.cfdp_port.specs.Port.{PortState}
 use Rattle.cfdp_port.specs.Turn.{SendsFrame}
 use Rattle.cfdp_port.specs.declared.wire.WireFault.{WireFault}
 use Rattle.secured_wire.specs.Passing.{arrivals, sealed_by_call, sealed_in}
-use Rattle.secured_link.specs.Turns.{BothBegin, FewLost, NoneForgedIn, left_one, left_two, sealed_one, sealed_two}
+use Rattle.secured_link.specs.Turns.{BothBegin, FewLost, NoneForgedIn, WereSealed, left_one, left_two, sealed_one, sealed_two}
 use Rattle.secured_wire.specs.Keeping.{KeeperCall}
-use Rattle.secured_wire.specs.Direction.{Arrival, NoneForgedOf, SealedIn, bares_in, opener_then}
+use Rattle.secured_wire.specs.Direction.{Arrival, SealedIn, bares_in, opener_then}
 use Rattle.secured_wire.specs.Secured.{Secures, SecuredState}
 use Rattle.secured_link.proofs.Arriving.{Hears, ended, heard_by_all, then_security}
-use Rattle.secured_link.proofs.Lanes.{Stands, bares-append, begins, hears, of, sends, some_and_some}
+use Rattle.secured_link.proofs.Lanes.{Stands, bares-append, begins, hears, of, sends, some_and_some, were_sealed}
 
 module _ {W : Type 0} (Steps : W → WireCall → W → Type 0) (Calls : KeeperCall → Type 0) where
   -- ---- what leaves in a turn
-  record Leaves (old new : SecuredState W) (left : Lane → List (List ℕ)) (sealed : List SealedIn) : Type 0 where
-    rise : (others : List SealedIn) → Rise of new.sealer.next others → Rise of old.sealer.next (sealed ++ others)
-    opener : new.opener ≡ old.opener
-    some : (lane : Lane) → AreSomeOf (left lane) (bares_in lane sealed)
+  pub record Leaves (old new : SecuredState W) (left : Lane → List (List ℕ)) (sealed : List SealedIn) : Type 0 where
+    pub rise : (others : List SealedIn) → Rise of new.sealer.next others → Rise of old.sealer.next (sealed ++ others)
+    pub opener : new.opener ≡ old.opener
+    pub some : (lane : Lane) → AreSomeOf (left lane) (bares_in lane sealed)
 
   all_of : {A : Type 0} (xs : List A) → AreSomeOf xs xs
   all_of [] = tt
@@ -49,7 +50,7 @@ module _ {W : Type 0} (Steps : W → WireCall → W → Type 0) (Calls : KeeperC
     some = λ its. tt;
   }
 
-  sent : (count : ℕ) (old new : PortState (SecuredState W)) (steps : Times (SendsFrame (Secures Steps Calls)) count old new) →
+  pub sent : (count : ℕ) (old new : PortState (SecuredState W)) (steps : Times (SendsFrame (Secures Steps Calls)) count old new) →
       Leaves old.wire new.wire (λ lane. frames_left (Secures Steps Calls) lane count old new steps) (sealed_in Steps Calls count old new steps)
   sent zero old new same = record {
     rise = λ others h. subst (λ (p : PortState (SecuredState W)). Rise of p.wire.sealer.next others) same h;
@@ -69,17 +70,17 @@ module _ {W : Type 0} (Steps : W → WireCall → W → Type 0) (Calls : KeeperC
       }
 
   -- ---- one direction, in a turn
-  -- What is to be shown of it: what came did so in order, and the rest may still come.
-  record Passes (all : List SealedIn) (next last : ℕ) (from : Lane → List (List ℕ)) (taken : Lane → ℕ) (came : List (List ℕ)) : Type 0 where
-    now : Lane → ℕ
-    in_order : ComeInOrder from taken came now
-    stands : Stands all next last from now
+  -- What must be shown of it: what came did so in order, and the rest may still come.
+  pub record Passes (all : List SealedIn) (next last : ℕ) (from : Lane → List (List ℕ)) (taken : Lane → ℕ) (came : List (List ℕ)) : Type 0 where
+    pub now : Lane → ℕ
+    pub in_order : ComeInOrder from taken came now
+    pub stands : Stands all next last from now
 
   -- one station sent, and the other one took what came
-  direction : (all more : List SealedIn) (from gone then_from : Lane → List (List ℕ)) (taken : Lane → ℕ) (sender sent_by sender_new : SecuredState W) (hearer : SecuredState W) (heard_by last new : PortState (SecuredState W))
+  pub direction : (all more : List SealedIn) (from gone then_from : Lane → List (List ℕ)) (taken : Lane → ℕ) (sender sent_by sender_new : SecuredState W) (hearer : SecuredState W) (heard_by last new : PortState (SecuredState W))
       (came : List (List ℕ)) (arrived : List Arrival) → Stands all sender.sealer.next hearer.opener.last from taken → Leaves sender sent_by gone more → ((lane : Lane) → then_from lane ≡ from lane ++ gone lane) →
       heard_by.wire.opener ≡ hearer.opener → hearer.opener.security.mac_len ≤ 32 → Hears Steps Calls heard_by last came arrived → new.wire.opener ≡ last.wire.opener → sender_new.sealer ≡ sent_by.sealer →
-      ((lane : Lane) → length (then_from lane) ≤ taken lane + frame_counts) → NoneForgedOf heard_by.wire.opener (all ++ more) arrived →
+      ((lane : Lane) → length (then_from lane) ≤ taken lane + frame_counts) → WereSealed heard_by.wire.opener (all ++ more) arrived →
       Passes (all ++ more) sender_new.sealer.next new.wire.opener.last then_from taken came
   direction all more from gone then_from taken sender sent_by sender_new hearer heard_by last new came arrived s leaves grown same size h at_end kept short none =
       let grew : Stands (all ++ more) sent_by.sealer.next hearer.opener.last then_from taken =
@@ -140,13 +141,17 @@ module _ {W : Type 0} (Steps : W → WireCall → W → Type 0) (Calls : KeeperC
         (λ lane. left_one Steps Calls id count first mid before lane ++ frames_left (Secures Steps Calls) lane turn.one_sends.sends.count _ _ turn.one_sends.sends.sent)
         o.one mid.one.wire turn.one.wire now.one.wire mid.two.wire turn.two turn.two_hears.last now.two
         (frames_came (Secures Steps Calls) turn.two_hears.count _ _ turn.two_hears.heard) (arrivals Steps Calls turn.two_hears.count _ _ turn.two_hears.heard)
-        o.from_one s1 (λ lane. refl) s2.opener o.size_two h2 e2.0 (e1.1 ∙ h1.sealer) (λ lane. (close lane).0) to_two in
+        o.from_one s1 (λ lane. refl) s2.opener o.size_two h2 e2.0 (e1.1 ∙ h1.sealer) (λ lane. (close lane).0)
+        (were_sealed (sealed_one Steps Calls id count first mid before ++ sealed_in Steps Calls turn.one_sends.sends.count _ _ turn.one_sends.sends.sent) turn.two.wire.opener
+        (arrivals Steps Calls turn.two_hears.count _ _ turn.two_hears.heard) to_two) in
         let d2 = direction (sealed_two Steps Calls id count first mid before) (sealed_in Steps Calls turn.two_sends.sends.count _ _ turn.two_sends.sends.sent)
         (λ lane. left_two Steps Calls id count first mid before lane) (λ lane. frames_left (Secures Steps Calls) lane turn.two_sends.sends.count _ _ turn.two_sends.sends.sent)
         (λ lane. left_two Steps Calls id count first mid before lane ++ frames_left (Secures Steps Calls) lane turn.two_sends.sends.count _ _ turn.two_sends.sends.sent)
         o.two mid.two.wire turn.two.wire now.two.wire mid.one.wire turn.one turn.one_hears.last now.one
         (frames_came (Secures Steps Calls) turn.one_hears.count _ _ turn.one_hears.heard) (arrivals Steps Calls turn.one_hears.count _ _ turn.one_hears.heard)
-        o.from_two s2 (λ lane. refl) s1.opener o.size_one h1 e1.0 (e2.1 ∙ h2.sealer) (λ lane. (close lane).1) to_one in
+        o.from_two s2 (λ lane. refl) s1.opener o.size_one h1 e1.0 (e2.1 ∙ h2.sealer) (λ lane. (close lane).1)
+        (were_sealed (sealed_two Steps Calls id count first mid before ++ sealed_in Steps Calls turn.two_sends.sends.count _ _ turn.two_sends.sends.sent) turn.one.wire.opener
+        (arrivals Steps Calls turn.one_hears.count _ _ turn.one_hears.heard) to_one) in
         record {
           one = d1.now;
           two = d2.now;

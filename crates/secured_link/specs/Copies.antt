@@ -38,7 +38,7 @@ pub record IsMade (x : Numbered) (lives : List LifeKept) : Type 0 where
 
 -- All that was sealed, with sequence numbers less than the next one, are frames that a station made
 -- in these lives before or in the latest one. In each lane a frame that was sealed later has a
--- greater number, which is less than that of the next frame of its lane.
+-- greater number, which is less than the number of the next frame of its lane.
 pub record AreKeptIn (all : List Numbered) (next : ℕ) (before : List LifeKept) (latest : LifeKept)
     : Type 0 where
   pub each : (x : Numbered) → Contains all x → IsMade x (before ++ latest ∷ [])
@@ -56,8 +56,8 @@ AreKept all next k = AreKeptIn all next k.before k.latest
 -- ---- what is accepted
 -- The frame in octets that arrived was accepted and handed on. **None was forged**: the octets were
 -- sealed by the other station, whatever the fields of the link are. **Few were lost in a row**: the
--- number of the frame is at most 2^28 greater than that of the frame of its lane that was handed on
--- before it in this life. It is the last number of its lane from now on.
+-- number of the frame is at most 2^28 greater than the number of the frame of its lane that was
+-- handed on before it in this life. It is the last number of its lane from now on.
 pub record IsAccepted (all : List Numbered) (o : OpenerState) (octets : List ℕ) (old new : EndKept)
     : Type 0 where
   pub one : Numbered
@@ -82,8 +82,8 @@ Accepts all o (a ∷ came) old new =
     (mid : EndKept) × AcceptsBy all o a.octets (refusal o a.octets) a.handed_on old mid
     × Accepts all (after o a.octets) came mid new
 
--- The last number of a lane is that of a frame which was sealed, under this sequence number or one
--- before it.
+-- The last number of a lane is the number of a frame that was sealed, under this sequence number or
+-- one before it.
 abbrev pub TookLast : (all : List Numbered) → (last : ℕ) → EndKept → Type 0
 TookLast all last k = (lane : Lane) (before : ℕ) → last_at lane k ≡ Some before
     → (x : Numbered) × Contains all x × (x.sealed.lane ≡ lane) × (x.number ≡ before)

@@ -33,9 +33,9 @@ last_noted before o (a ∷ came) =
     let number = number_in (bare_in o.security.fields a.octets) in
     last_noted (noted_by a.handed_on (refusal o a.octets) number before) (after o a.octets) came
 
--- **What was noted outlasts a restart**: each life begins with a last number that is at least that
--- of the frame that was handed on last. Nothing is asked of a frame that was accepted and not
--- handed on, since its number may not have been noted.
+-- **What was noted outlasts a restart**: each life begins with a last number that is at least the
+-- number of the frame that was handed on last. Nothing is asked of a frame that was accepted and
+-- not handed on, since its number may not have been noted.
 abbrev pub NotesOutlast : (before : ℕ) → List Receiving → Type 0
 NotesOutlast before [] = ⊤
 NotesOutlast before (life ∷ lives) =

@@ -1,6 +1,6 @@
--- Two stations in service over secured wires, either of which may start anew: what is done at them,
--- whatever arrives. Nothing is asked of the link but that no frame was forged, and that few were
--- lost in a row (`IsAccepted`).
+-- Two stations in service over secured wires, either of which may restart: what is done at them,
+-- whatever arrives. Nothing is asked of the link, except that no frame was forged, and that few
+-- were lost in a row (`IsAccepted`).
 use Rattle.std.specs.Prelude.{◌≡◌, ◌⊎◌, ◌≤◌, ℕ, zero, suc, List, [], ◌++◌, Ok, None}
 use Rattle.cfdp_header.specs.Files.{FileMap}
 use Rattle.cfdp_directives.specs.User.Put.{Put}
@@ -45,7 +45,7 @@ stations_of w = record { one = w.one.served; two = w.two.served; puts = w.puts }
 abbrev pub FitsMac : {W : Type 0} → SecuredState W → Type 0
 FitsMac wire = wire.opener.security.mac_len ≤ 32
 
--- Between two turns the wire may be asked whether it is silent. So the wire behind may go on; both
+-- Between two turns the wire may be asked whether it is silent. So the wire below may go on; both
 -- ends of the secured wire stay as they are.
 pub record Rests {W : Type 0} (old new : SecuredState W) : Type 0 where
   pub sealer : new.sealer ≡ old.sealer
@@ -134,8 +134,8 @@ module _ {W : Type 0} (Steps : W → WireCall → W → Type 0) (Calls : KeeperC
         ⊎ SendsSecured files mid heard old.sealed new
 
   -- ---- what is done
-  -- A station starts anew, with any wire whose sequence numbers go on: the next one is at least
-  -- the next one before. Of the number that it accepted last nothing is asked.
+  -- A station restarts, with any wire whose sequence numbers go on: the next one is at least the
+  -- next one before. Nothing is asked of the number that it accepted last.
   pub record StartsSecured (first number : ℕ) (c : StationConfig) (old new : SecuredEnd W)
       : Type 0 where
     pub starts : StartsAnew first number c old.served new.served

@@ -1,5 +1,5 @@
 -- Two ports with secured wires, in turns: what each sealed, and what is asked of the network.
-use Rattle.std.specs.Prelude.{ℕ, zero, suc, ◌+◌, ◌≤◌, ⊤, List, [], ◌++◌, length}
+use Rattle.std.specs.Prelude.{◌≡◌, ℕ, zero, suc, ◌+◌, ◌≤◌, ⊤, None, List, [], ◌∷◌, ◌++◌, Contains, length}
 use Rattle.aos_frame.specs.Counts.{frame_counts}
 use Rattle.aos_frame.specs.declared.config.Lane.{Lane}
 use Rattle.cfdp_header.specs.declared.value.TransactionId.{TransactionId}
@@ -7,7 +7,10 @@ use Rattle.cfdp_port.specs.Calls.{WireCall}
 use Rattle.cfdp_port.specs.Pair.{PairState, Turns}
 use Rattle.cfdp_port.specs.Passing.{frames_left}
 use Rattle.ports_in_order.specs.InOrder.{PassInOrder, Passage}
-use Rattle.secured_wire.specs.Direction.{NoneForgedOf, SealedIn}
+use Rattle.frame_fields.specs.Fields.{bare_in}
+use Rattle.frame_security.specs.Frames.{secured}
+use Rattle.frame_security.specs.Opening.{OpenerState, after, refusal}
+use Rattle.secured_wire.specs.Direction.{Arrival, NoneForgedOf, SealedIn}
 use Rattle.secured_wire.specs.Keeping.{KeeperCall}
 use Rattle.secured_wire.specs.Passing.{arrivals, sealed_in}
 use Rattle.secured_wire.specs.Secured.{Secures, SecuredState}
@@ -16,6 +19,16 @@ use Rattle.secured_wire.specs.Secured.{Secures, SecuredState}
 abbrev pub BothBegin : {W : Type 0} → PairState (SecuredState W) → Type 0
 BothBegin first = (first.one.wire.opener.security.mac_len ≤ 32)
     × (first.two.wire.opener.security.mac_len ≤ 32)
+
+-- **All that is accepted was sealed**: this opener accepts none of these arrivals, one after
+-- another, except those that were sealed so. Nothing is asked of what it refuses, such as what
+-- comes twice.
+abbrev pub WereSealed : OpenerState → (all : List SealedIn) → List Arrival → Type 0
+WereSealed o all [] = ⊤
+WereSealed o all (a ∷ came) = (refusal o a.octets ≡ None → (x : SealedIn) × Contains all x
+    × (bare_in o.security.fields a.octets
+    ≡ secured o.security x.frame.key x.frame.spi x.frame.number x.frame.bare))
+    × WereSealed (after o a.octets) all came
 
 module _ {W : Type 0} (Steps : W → WireCall → W → Type 0) (Calls : KeeperCall → Type 0)
     (id : TransactionId) where

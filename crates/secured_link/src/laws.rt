@@ -49,10 +49,10 @@ use secured_wire::{Keeper, SecuredWire};
 /// Over secured wires each lane keeps its order, whatever the network does and whoever else sends:
 /// what each of two stations receives in their turns is in the order in which it left the other
 /// station, and nothing else is received. It is the premise of
-/// [`turns_are_of_a_world`](ports_in_order::turns_are_of_a_world) on the wires. It is asked that no
-/// octets that arrived were forged (`NoneForgedIn`), and that in no lane as many frames were lost
-/// in a row as there are frame counts, 2^28 (`FewLost`). What was sealed before these turns counts
-/// as forged, so the keys must be new.
+/// [`turns_are_of_a_world`](ports_in_order::turns_are_of_a_world) on the wires. This holds if no
+/// octets that arrived were forged (`NoneForgedIn`), and if in no lane as many frames were lost in
+/// a row as there are frame counts, 2^28 (`FewLost`). What was sealed before these turns counts as
+/// forged, so the keys must be new.
 pub fn secured_wires_keep_the_order<W: Wire, K: Keeper>()
     ensures { (id : TransactionId) (count : ℕ) (first last : PairState (SecuredState W))
         (turns : Turns (Secures W.steps K.calls) id count first last) → BothBegin first
@@ -64,7 +64,7 @@ pub fn secured_wires_keep_the_order<W: Wire, K: Keeper>()
 /// Two stations that take turns over secured wires are the stations of a world in which the same
 /// frames left and arrived, if the files that they send stood still to the end. So all promises of
 /// a world hold for them, though the network loses, alters, repeats, delays and invents whatever it
-/// likes. For example, a sender that is told complete can rely on it
+/// likes. For example, a sender that indicates its put complete can rely on it
 /// ([`told_complete_is_published`](ports_in_order::told_complete_is_published)).
 pub fn secured_turns_are_of_a_world<W: Wire, K: Keeper>()
     ensures { (c : WorldConfig) (outboxes inboxes : FileMap × FileMap)
@@ -89,10 +89,10 @@ pub fn secured_turns_are_of_a_world<W: Wire, K: Keeper>()
 }
 
 /// **Only what was sealed is handed on over a secured wire, in the same order, and nothing twice**,
-/// over all lives of its receiving end, whatever octets arrive. It is asked that each number which
-/// its keeper noted outlasts a restart (`NotesOutlast`); a frame that the keeper couldn't note is
-/// lost, and nothing is asked of its number. It is asked, too, that no octets were forged
-/// (`NoneForgedOver`), and that the sequence numbers of what was sealed rise (`NumbersRise`).
+/// over all lives of its receiving end, whatever octets arrive. This holds if each number that its
+/// keeper noted outlasts a restart (`NotesOutlast`), if no octets were forged (`NoneForgedOver`),
+/// and if the sequence numbers of what was sealed rise (`NumbersRise`). A frame that the keeper
+/// couldn't note is lost, and nothing is asked of its number.
 pub fn only_what_was_sealed_is_handed_on()
     ensures { (all : List Sealed) (receivers : List Receiving) → NumbersRise 1 all
         → NotesOutlast 0 receivers → NoneForgedOver all receivers
@@ -100,7 +100,7 @@ pub fn only_what_was_sealed_is_handed_on()
 {}
 
 /// What a station seals over a secured wire are the frames that it makes, in their order: while
-/// frames leave it, and if it starts anew with a sequence number that goes on.
+/// frames leave it, and if it restarts with a sequence number that goes on.
 pub fn what_is_sealed_are_the_frames_of_a_station<W: Wire, K: Keeper>()
     ensures sent { (count : ℕ) (old new : PortState (SecuredState W))
         (sent : Times (SendsNext (Secures W.steps K.calls)) count old new) (all : List Numbered)
@@ -115,9 +115,9 @@ pub fn what_is_sealed_are_the_frames_of_a_station<W: Wire, K: Keeper>()
 
 /// What a station in service receives over a secured wire are copies of frames that the other
 /// station made in any of its lives, each near the one of its lane before it, whatever the network
-/// does and whoever else sends. It is the premise of [`any_link`] on what arrives (`Comes`). It is
-/// asked that what was accepted was not forged, and that few frames were lost in a row (`Accepts`);
-/// and that what was sealed are frames of the other station in their order (`AreKept`), as
+/// does and whoever else sends. It is the premise of [`any_link`] on what arrives (`Comes`). This
+/// holds if what was accepted was not forged, if few frames were lost in a row (`Accepts`), and if
+/// what was sealed are frames of the other station in their order (`AreKept`), as
 /// [`what_is_sealed_are_the_frames_of_a_station`] shows. `TookLast` holds if nothing was received
 /// yet, and goes on.
 pub fn secured_wires_bring_copies<W: Wire, K: Keeper>()
@@ -132,10 +132,10 @@ pub fn secured_wires_bring_copies<W: Wire, K: Keeper>()
 {}
 
 /// Two stations in service over secured wires are two stations in service over any link, and go on
-/// to be: whatever arrives, and whichever station starts anew. So all that [`any_link`] promises
-/// holds for them. Nothing is asked of the datagrams that arrive but what `IsAccepted` says of
-/// those that are accepted. A station that starts anew must go on with its sequence numbers;
-/// nothing is asked of the number that it accepted last.
+/// to be: whatever arrives, and whichever station restarts. So all that [`any_link`] promises holds
+/// for them. Nothing is asked of the datagrams that arrive, except what `IsAccepted` says of those
+/// that are accepted. A station that restarts must go on with its sequence numbers; nothing is
+/// asked of the number that it accepted last.
 pub fn service_over_secured_wires_is_service<W: PeerWire, K: Keeper>()
     ensures so_far { (c : Setup) (files : Side → FileMap) (now : SecuredPair W)
         → HaveServedSecured W.steps K.calls c files now
@@ -172,8 +172,9 @@ pub fn what_is_not_forged_is_accepted()
 {}
 
 /// A frame that was sealed with a key of the receiver is accepted as it must be (`Accepts`), if its
-/// sequence number is greater than the last one, and its number is at most 2^28 greater than that
-/// of the frame of its lane before it. So an undisturbed link meets what is asked of what arrives.
+/// sequence number is greater than the last one, and its number is at most 2^28 greater than the
+/// number of the frame of its lane before it. So an undisturbed link meets what is asked of what
+/// arrives.
 pub fn what_is_sealed_is_accepted()
     ensures { (s : SealerState) (o : OpenerState) (control : ℕ) (all : List Numbered)
         (x : Numbered) (old : EndKept) → IsSecurity s.security → o.security ≡ s.security
@@ -188,12 +189,12 @@ pub fn what_is_sealed_is_accepted()
 {}
 
 /// Two stations in service over secured wires keep the promise of delivery, whatever arrives and
-/// whichever station starts anew: each inbox is the first one, overwritten by the files of the puts
-/// that its station completed, in that order. It is asked that no octets that arrived were forged
-/// and few frames were lost in a row (`IsAccepted`), that a station that starts anew goes on with
-/// its sequence numbers, and of the files to send what
+/// whichever station restarts: each inbox is the first one, overwritten by the files of the puts
+/// that its station completed, in that order. This holds if no octets that arrived were forged and
+/// few frames were lost in a row (`IsAccepted`), if a station that restarts goes on with its
+/// sequence numbers, and if the files to send are as
 /// [`stations_keep_the_promise_in_any_order`](any_link::stations_keep_the_promise_in_any_order)
-/// asks of them. Nothing is asked of what the network does.
+/// asks. Nothing is asked of what the network does.
 pub fn stations_over_secured_wires_keep_the_promise<W: PeerWire, K: Keeper>()
     ensures { (c : Setup) (files : Side → FileMap) (now : SecuredPair W) → AreJoined c
         → HaveServedSecured W.steps K.calls c files now → KeepPromise c files (stations_of now) }
@@ -204,7 +205,7 @@ pub fn stations_over_secured_wires_keep_the_promise<W: PeerWire, K: Keeper>()
 
 /// What left a spool as sent lies in the inbox of the other station, over secured wires: at any
 /// moment of any life of its station, and at each later one, whatever arrives and whichever station
-/// starts anew. What is asked is said at [`stations_over_secured_wires_keep_the_promise`].
+/// restarts. What is asked is said at [`stations_over_secured_wires_keep_the_promise`].
 pub fn what_left_the_spool_lies_beyond_secured_wires<S: Spool, W: PeerWire, K: Keeper>()
     ensures { (c : Setup) (files : Side → FileMap) (mid now : SecuredPair W) (more : ℕ)
         → AreJoined c → HaveServedSecured W.steps K.calls c files mid

@@ -1,6 +1,6 @@
 //! No code; laws of stations over secured wires: two ports in turns are the stations of a world;
 //! two stations in service keep the promise of delivery, whatever arrives and whichever of them
-//! starts anew.
+//! restarts.
 //!
 //! These laws say nothing about code of their own, so nothing tests them.
 #![tactic(auto)]

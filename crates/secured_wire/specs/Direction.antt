@@ -19,7 +19,7 @@ abbrev pub bares_in : Lane → List SealedIn → List (List ℕ)
 bares_in lane [] = []
 bares_in lane (x ∷ more) = in_lane lane x.lane x.frame.bare ++ bares_in lane more
 
--- Octets that arrived over the wire behind, and whether an accepted frame in them is handed on: the
+-- Octets that arrived over the wire below, and whether an accepted frame in them is handed on: the
 -- keeper noted its number, and the caller had room for it.
 pub record Arrival : Type 0 where
   pub octets : List ℕ

@@ -3,8 +3,9 @@ use Rattle.std.specs.Prelude.{◌≡◌, ⊤, ℕ, Bool, true, Option, None}
 use Rattle.frame_security.specs.declared.keys.LinkKeys.{LinkKeys}
 use Rattle.frame_security.specs.declared.opening.Refusal.{Refusal}
 
--- It was told that the frame with this sequence number is accepted, and answered whether it noted
--- that; it brought new keys, or none; or it was told that octets were refused for this cause.
+-- It was reported that the frame with this sequence number is accepted, and the keeper answered
+-- whether it noted that; the keeper brought new keys, or none; or it was reported that octets were
+-- refused for this cause.
 pub data KeeperCall : Type 0 where
   Keeps : (number : ℕ) (answer : Bool) → KeeperCall
   Brings : (keys : Option LinkKeys) → KeeperCall

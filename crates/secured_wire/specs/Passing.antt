@@ -1,5 +1,5 @@
 -- What passes a secured wire in the steps of a port's turn: what was sealed, and what arrived over
--- the wire behind.
+-- the wire below.
 use Rattle.std.specs.Prelude.{ℕ, zero, suc, true, false, List, [], ◌∷◌, ◌++◌, Some, None, Result, Ok, Err}
 use mathlib.Core.Logic.{inl, inr}
 use Rattle.aos_frame.specs.declared.config.Lane.{Lane}
@@ -13,7 +13,7 @@ use Rattle.secured_wire.specs.Direction.{Arrival, SealedIn}
 use Rattle.secured_wire.specs.Keeping.{KeeperCall}
 use Rattle.secured_wire.specs.Secured.{Came, Opens, Secures, SecuredState}
 
--- the octets that the wire behind answered, and whether an accepted frame in them is handed on
+-- the octets that the wire below answered, and whether an accepted frame in them is handed on
 abbrev pub arrival_of : (Calls : KeeperCall → Type 0) → (room : ℕ) → (behind came : Came)
     → (old new : OpenerState) → Opens Calls room behind came old new → List Arrival
 arrival_of Calls room (Ok (Some octets)) came old new (is, inl opened) =

@@ -1,4 +1,4 @@
--- A wire that secures what is sent over the wire behind it, and verifies what arrives there. Its
+-- A wire that secures what is sent over the wire below it, and verifies what arrives there. Its
 -- keeper notes the numbers of accepted frames, and brings keys.
 use Rattle.std.specs.Prelude.{◌≡◌, ◌⊎◌, ◌+◌, ◌-◌, ◌^◌, ◌<◌, ◌≤◌, ℕ, true, false, List, length, Option, Some, None, Result, Ok, Err}
 use Rattle.frame_fields.specs.Fields.{bare_in}
@@ -12,7 +12,7 @@ use Rattle.cfdp_port.specs.Calls.{WireCall, Sent, Asked, Readied, Timed, Rested}
 use Rattle.cfdp_port.specs.declared.wire.WireFault.{WireFault}
 use Rattle.secured_wire.specs.Keeping.{Brings, Keeps, KeeperCall, Refuses}
 
--- the wire behind it, both ends, and the octets of the longest bare frame that can be sent
+-- the wire below it, both ends, and the octets of the longest bare frame that can be sent
 pub record SecuredState (W : Type 0) : Type 0 where
   pub wire : W
   pub sealer : SealerState
@@ -32,8 +32,8 @@ abbrev pub opened : OpenerState → (frame : List ℕ) → Came
 opened o frame = opened_by (refusal o frame) (frame_in o.security (bare_in o.security.fields frame))
 
 module _ (Calls : KeeperCall → Type 0) where
-  -- Octets that arrived were verified. If they are refused, the keeper was told the cause. If they
-  -- aren't, the keeper noted their number, and the caller's buffer has room for the frame.
+  -- Octets that arrived were verified. If they are refused, the cause was reported to the keeper.
+  -- If they aren't, the keeper noted their number, and the caller's buffer has room for the frame.
   abbrev pub IsHandedOn : (room : ℕ) → Option Refusal → (number : ℕ) → (bare : List ℕ) → Type 0
   IsHandedOn room None number bare = Calls (Keeps number true) × (length bare ≤ room)
   IsHandedOn room (Some cause) number bare = Calls (Refuses cause)
@@ -45,7 +45,7 @@ module _ (Calls : KeeperCall → Type 0) where
       Calls (Keeps number false) ⊎ (Calls (Keeps number true) × (room < length bare))
   IsNotHandedOn room (Some cause) number bare = ⊥
 
-  -- What arrived over the wire behind was verified, and that is the answer to a caller whose buffer
+  -- What arrived over the wire below was verified, and that is the answer to a caller whose buffer
   -- has room for so many octets; or an accepted frame is lost.
   abbrev pub Opens : (room : ℕ) → (behind came : Came) → (old new : OpenerState) → Type 0
   Opens room (Ok (Some frame)) came old new =
@@ -70,8 +70,8 @@ opener_after (Some keys) o = opener_with keys o
 
 module _ {W : Type 0} (Steps : W → WireCall → W → Type 0) (Calls : KeeperCall → Type 0) where
   -- ---- what is sent
-  -- A frame was sealed under the next sequence number, and the wire behind sent it with this
-  -- answer. The frame has a header, and the number was not the last one.
+  -- A frame was sealed under the next sequence number, and the wire below sent it with this answer.
+  -- The frame has a header, and the number was not the last one.
   pub record SendsSecured (frame : List ℕ) (answer : Result (Unit {0}) WireFault)
       (old new : SecuredState W) : Type 0 where
     pub header : 6 ≤ length frame
@@ -90,7 +90,7 @@ module _ {W : Type 0} (Steps : W → WireCall → W → Type 0) (Calls : KeeperC
     pub same : new ≡ old
 
   -- ---- the calls
-  -- The wire behind was asked what arrived, and that was verified, for a caller whose buffer has
+  -- The wire below was asked what arrived, and that was verified, for a caller whose buffer has
   -- room for so many octets.
   pub record AsksBehind (room : ℕ) (came : Came) (old new : SecuredState W) : Type 0 where
     pub behind : Came
@@ -99,14 +99,14 @@ module _ {W : Type 0} (Steps : W → WireCall → W → Type 0) (Calls : KeeperC
     pub sealer : new.sealer ≡ old.sealer
     pub most : new.most ≡ old.most
 
-  -- Another call is a call of the wire behind.
+  -- Another call is a call of the wire below.
   pub record CallsBehind (call : WireCall) (old new : SecuredState W) : Type 0 where
     pub called : Steps old.wire call new.wire
     pub sealer : new.sealer ≡ old.sealer
     pub opener : new.opener ≡ old.opener
     pub most : new.most ≡ old.most
 
-  -- The wire behind was asked what time it is. Before that, the keeper brought new keys, or none:
+  -- The wire below was asked what time it is. Before that, the keeper brought new keys, or none:
   -- both ends have these from now on. Their sequence numbers and counts stay.
   pub record ChangesKeys (call : WireCall) (old new : SecuredState W) : Type 0 where
     pub keys : Option LinkKeys

@@ -5,8 +5,8 @@ use frame_security::{LinkKeys, Refusal};
 
 /// What keeps the sequence numbers of a secured wire over restarts, and brings its keys.
 pub trait Keeper: Drop {
-    /// What is true of a call with its arguments and its answer. A keeper says by it what is true
-    /// of this keeper alone, or nothing.
+    /// What is true of a call with its arguments and its answer. Here a keeper may say what is true
+    /// of this keeper alone.
     ghost calls: { KeeperCall → Type 0 } = { λ _. Unit {0} };
 
     /// Notes, so that it outlasts a restart, that the frame with this sequence number is accepted:
@@ -25,8 +25,8 @@ pub trait Keeper: Drop {
         ensures { calls (Refuses cause) };
 }
 
-/// A keeper that notes nothing and brings no keys. Use it only where no key outlasts a restart:
-/// after one, frames that were accepted before would be accepted again.
+/// A keeper that notes nothing and brings no keys. Use it only if no key outlasts a restart: after
+/// one, frames that were accepted before would be accepted again.
 ///
 /// # Examples
 ///

@@ -1,6 +1,6 @@
 //! A wire whose frames are secured: what a station receives over it was sent by its peer, in the
 //! same order and at most once, whatever the network does and whoever else sends datagrams. Use it
-//! where others can send datagrams to a station.
+//! if others can send datagrams to a station.
 //!
 //! It stands between a port and any other wire. The station of the port makes and takes bare
 //! frames, so its links must have no fields; the fields of the link are made here.

@@ -14,7 +14,7 @@ use frame_security::{Opener, Refused, Sealer};
 use std::alloc::{AllocError, Global};
 use std::marker::Model;
 
-/// A wire that secures each frame that is sent over the wire behind it. Of what arrives there it
+/// A wire that secures each frame that is sent over the wire below it. Of what arrives there it
 /// answers only frames that the peer sealed, each at most once, in the order in which the peer sent
 /// them. Its keeper notes each number before the frame is answered. It has no `Debug`, so that no
 /// key is printed.
@@ -116,7 +116,7 @@ impl<W: Wire, K: Keeper> SecuredWire<W, K> {
     ///
     /// # Errors
     ///
-    /// `WireFault` if the wire behind couldn't be asked, if what arrived is refused, if the keeper
+    /// `WireFault` if the wire below couldn't be asked, if what arrived is refused, if the keeper
     /// can't note the frame, or if the buffer has no room for it.
     pub fn receive_frame(&mut self, buffer: &mut [u8]) -> Result<Option<usize>, WireFault>
         ensures asked { AsksBehind W.steps K.calls (length buffer.old) (brought result buffer.new)

@@ -11,9 +11,9 @@ ghost use Rattle.link_sim.specs.declared.event.Event.{Event};
 ghost use Rattle.station_pair.specs.declared.world_config.WorldConfig.{WorldConfig};
 ghost use Rattle.settling_bounds.specs.Events.{done_count};
 
-/// Polls, flushes and deliveries that did something are no more than `world_work` tells of the
-/// world before them, and what it tells of the world behind them is as much less. So it is from
-/// every world to which calls led, in whatever order such events come.
+/// Polls, flushes and deliveries that did something are at most as many as `world_work` says of the
+/// world before them, and what it says of the world after them is as much less. So it is from every
+/// world, if calls led to it, in whatever order such events come.
 pub fn a_settling_has_few_events()
     ensures { (c : WorldConfig) (outboxes inboxes : FileMap × FileMap)
         (first old new : WorldState) (steps : List (Event × Applied)) → IsWorldConfig c

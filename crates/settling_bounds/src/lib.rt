@@ -1,4 +1,4 @@
-//! How many events a settling may have, told before it begins.
+//! How many events a settling may have at most, known before it begins.
 //!
 //! Tested by nothing yet: what it promises is proved.
 #![tactic(auto)]

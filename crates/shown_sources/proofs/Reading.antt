@@ -1,4 +1,5 @@
--- What a PDU says, and what its sender is afterwards, where the octets of its file come from another map of files.
+-- What a PDU says, and what its sender is afterwards, if the octets of its file come from another
+-- map of files.
 use Rattle.std.proofs.Common.{◌≡◌, ℕ, ◌+◌, ◌-◌, Bool, List, [], Option, Some, None, length, take, drop, min, refl, sym, ap, ◌∙◌}
 use Rattle.std.specs.Prelude.{unwrap_or}
 use Rattle.std.specs.FinMap.{get}

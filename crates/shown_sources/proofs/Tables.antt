@@ -169,7 +169,7 @@ accepts_sending files source destination id old new long a = record {
 pub accepts_keeps : (source destination : List ℕ) (id : TransactionId) (old new : EntityState) → Accepts source destination id old new → new.table.sources ≡ old.table.sources
 accepts_keeps source destination id old new a = ap (λ (x : EntityState). x.table.sources) a.opened
 
--- ---- records that are let go
+-- ---- records that are discarded
 forgets_sending : (files : FileMap) (id : TransactionId) (old new : EntityState) → Forgets id old new → Forgets id (entity_sending files old) (entity_sending files new)
 forgets_sending files id old new f = record { place = f.place; seen = f.seen; at = f.at; allowed = f.allowed; forgot = ap (λ (x : EntityState). entity_sending files x) f.forgot }
 

@@ -16,7 +16,7 @@ use Rattle.cfdp_station.specs.declared.polled.Polled.TheVariants.{Moved, Nothing
 use Rattle.cfdp_station.specs.declared.polled.Polled.TheVariants.{SourceFailed}
 
 -- ---- other files
--- Each name has a file in both or in neither, and both files are as long.
+-- Each name must have a file in both or in neither, and both files must be as long.
 abbrev pub AreAsLong : (files others : FileMap) → Type 0
 AreAsLong files others = (name : List ℕ)
     → option_map length (get others name) ≡ option_map length (get files name)
@@ -40,8 +40,8 @@ abbrev pub carried_by : (file : List ℕ) → Option SenderDue → List ℕ
 carried_by file (Some d) = carried file d
 carried_by file None = []
 
--- The octets of these files that the PDU carries which a record has due, the record at a place, or
--- the one whose turn it is: octets of the file that a sender sends, and else none.
+-- The octets of these files that the PDU carries which a record has due, the record at an index, or
+-- the one whose turn it is: octets of the file that a sender sends, otherwise none.
 abbrev pub read_of : FileMap → Seen → List ℕ
 read_of files (Sends x) = carried_by (octets_in files x.source) (sender_due x)
 read_of files (Receives r m) = []

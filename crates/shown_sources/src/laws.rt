@@ -18,11 +18,11 @@ ghost use Rattle.shown_sources.specs.Shown.{AreAsLong, ReadsAs, entity_sending, 
 ghost use Rattle.shown_sources.specs.Shown.{table_sending};
 
 /// Of the files that a station sends only two things count: how long each is, and which octets are
-/// read of it. So a station does the same with other files that are as long, as if they stood: a
-/// poll does, if the octets that it read are those that the other files have there; a put is
+/// read of it. So a station does the same if it has other files that are as long, as if they stood:
+/// a poll does, if the octets that it read are those that the other files have there; a put is
 /// accepted, or refused by the same cause; and a frame that comes, a request, the time, and a
-/// record that is let go don't ask for the files at all. From then on, the other files are still as
-/// long.
+/// record that is discarded don't ask for the files at all. From then on, the other files are still
+/// as long.
 pub fn only_what_is_read_of_files_counts()
     ensures polls { (files : FileMap) (answer : Polled) (old new : StationState) →
         PollsOnce answer old new → AreAsLong old.entity.state.table.sources files

@@ -1,5 +1,5 @@
 //! What a station does with the files that it sends: it asks how long each is, and reads octets of
-//! them. So with other files, as long, of which the same octets are read, it does the same.
+//! them. So if other files are as long, and the same octets of them are read, it does the same.
 //!
 //! Tested by nothing: what it promises is proved.
 #![tactic(auto)]

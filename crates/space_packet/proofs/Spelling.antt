@@ -1,5 +1,5 @@
--- Exported: the written octets of a packet, and of an idle one, spell it; `written_packet_is_read` and `idle_is_writable` for callers.
--- What the octets of a packet determine, and what is written.
+-- Exported: the written octets of a packet, and of an idle one, spell it; `written_packet_is_read`
+-- and `idle_is_writable` for callers. What the octets of a packet determine, and what is written.
 use Rattle.std.proofs.Common.{◌≡◌, ℕ, zero, suc, ◌+◌, ◌-◌, ◌*◌, ◌/◌, ◌%◌, ◌^◌, ◌<◌, ◌≤◌, Bool, true, false, nat_eq, List, [], ◌++◌, length, take, drop, refl, sym, ap, subst, ◌∙◌, arith, append_assoc, length-append, length-drop, lit<, replicate}
 use Rattle.std.proofs.lemmas.List.{take_at, drop_at, length-take-le, take-append-drop, drop-drop, length-replicate}
 use Rattle.cfd_bits.specs.Field.{field, octets, flag}
@@ -21,7 +21,7 @@ pub flag_below : (b : Bool) → flag b < 2
 flag_below true = omega arith
 flag_below false = omega arith
 
--- the bits of a type, and of flags, tell which they are
+-- the bits of a type, and of flags, determine which they are
 pub same_type : (a b : PacketType) → type_bit a ≡ type_bit b → a ≡ b
 same_type Telemetry Telemetry e = refl
 same_type Telecommand Telecommand e = refl
@@ -95,7 +95,7 @@ unique p q t a b =
     (same_flag p.has_secondary_header q.has_secondary_header (sym a.secondary_header ∙ b.secondary_header))
     (same_flags p.sequence_flags q.sequence_flags (sym a.sequence_flags ∙ b.sequence_flags)) (sym a.count ∙ b.count) (sym a.body ∙ b.body)
 
--- a packet in front of octets: the whole begins with its header, which tells how long it is
+-- a packet at the front of octets: the whole begins with its header, which gives its length
 pub record IsInFront (text front behind : List ℕ) : Type 0 where
   pub same : (at w : ℕ) → at + w ≤ 48 → field text at w ≡ field front at w
   pub long : 7 + field text 32 16 ≡ length front

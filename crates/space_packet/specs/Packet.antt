@@ -18,7 +18,7 @@ pub record Parts : Type 0 where
   pub count : ℕ
   pub body : List ℕ
 
--- the parts of a packet whose body is lent
+-- the parts of a packet whose body is borrowed
 abbrev pub view : Packet → Parts
 view p = record {
   apid = p.apid;
@@ -45,7 +45,7 @@ flag_bits Unsegmented = 3
 abbrev pub packet_len : Parts → ℕ
 packet_len p = 6 + length p.body
 
--- The fields of the primary header in front of octets (4.1.3), by their first bit and their width.
+-- The fields of the primary header before octets (4.1.3), by their first bit and their width.
 -- 4.1.3.2, the packet version number
 abbrev pub version_field : List ℕ → ℕ
 version_field text = field text 0 3
@@ -71,7 +71,7 @@ count_field text = field text 18 14
 abbrev pub length_field : List ℕ → ℕ
 length_field text = field text 32 16
 
--- The octets are this packet, and no more. Its data field has one octet more than the data length
+-- The octets are this packet, and no more. Its data field has one more octet than the data length
 -- field says, so that none is empty.
 pub record SpellsPacket (p : Parts) (text : List ℕ) : Type 0 where
   pub version : version_field text ≡ 0
@@ -117,7 +117,7 @@ idle len = record {
   body = replicate (len - 6) 0;
 }
 
--- why octets begin with no packet, or none
+-- why octets begin with no packet, or none if they do
 abbrev pub fault : List ℕ → Option PacketError
 fault text =
     if nat_lt (length text) 6 then Some Short

@@ -3,7 +3,7 @@ ghost use Rattle.std.specs.Prelude.{◌≡◌, ◌+◌, ◌%◌, ◌<◌, Some, 
 
 use std::marker::Model;
 
-/// The numbers that a sequence count can be, 0 to 16,383. Behind the last comes 0.
+/// The numbers that a sequence count can be, 0 to 16,383. The count after the last is 0.
 pub const SEQUENCE_COUNTS: u16 = 16_384;
 
 /// The sequence counts of the packets of one identifier, in order: 0, 1, .. 16,383, 0, ..
@@ -23,14 +23,14 @@ impl Model for Counter {
 }
 
 impl Counter {
-    /// A counter that has given no count yet.
+    /// Returns a counter that has given no count yet.
     pub fn new() -> Self
         ensures { result ≡ 0 }
     {
         Counter { next: 0 }
     }
 
-    /// The next count, 0 to 16,383.
+    /// Returns the next count, 0 to 16,383.
     pub fn next(&mut self) -> u16
         ensures count { result ≡ self.old }
         ensures below { result < 16384 }
@@ -42,7 +42,7 @@ impl Counter {
     }
 }
 
-/// Tells how many packets are missing between those that come.
+/// Counts the packets that are missing between the packets that come.
 #[derive(Clone, Debug, Default, Drop)]
 pub struct Watch {
     last: Option<u16>,
@@ -60,15 +60,16 @@ impl Model for Watch {
 }
 
 impl Watch {
-    /// A watch that has seen no packet yet.
+    /// Returns a watch that has seen no packet yet.
     pub fn new() -> Self
         ensures { result ≡ None }
     {
         Watch { last: None }
     }
 
-    /// How many packets are missing between the last one seen and one with this count, modulo
-    /// [`SEQUENCE_COUNTS`]; 0 at the first. The count is below that, as `decode` answers it.
+    /// Returns how many packets are missing between the last one seen and one with this count,
+    /// modulo [`SEQUENCE_COUNTS`]; 0 if no packet was seen before. The count must be below that, as
+    /// a count that `decode` answers is.
     pub fn see(&mut self, count: u16) -> u16
         requires { count < 16384 }
         ensures first { self.old ≡ None → result ≡ 0 }

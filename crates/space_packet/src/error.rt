@@ -1,4 +1,4 @@
-//! Why no packet stands in front.
+//! Why octets begin with no packet.
 ghost use Rattle.std.specs.Prelude.{◌≡◌};
 ghost use Rattle.space_packet.specs.Packet.{refusal_number, refusal_name};
 
@@ -16,7 +16,7 @@ pub enum PacketError {
 }
 
 impl PacketError {
-    /// The number that stands for this refusal in reports.
+    /// Returns the number of this refusal in reports.
     pub fn number(self) -> u8
         ensures { result ≡ refusal_number self }
     {
@@ -26,7 +26,7 @@ impl PacketError {
         }
     }
 
-    /// The name of this refusal in reports.
+    /// Returns the name of this refusal in reports.
     pub fn name(self) -> &'static str
         ensures { result.now ≡ refusal_name self }
     {

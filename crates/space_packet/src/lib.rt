@@ -1,9 +1,10 @@
 //! Space packets (CCSDS 133.0-B-2): their octets, their counts, and the counts that are missing.
 //!
 //! None of these calls takes memory: a packet's body is borrowed from the octets that it was read
-//! from, or that it is to be written from.
+//! from, or that it will be written from.
 //!
-//! A packet is written into octets of the caller's, and read from them; behind it may stand more:
+//! A packet is written into octets of the caller's, and read from them; more octets may stand after
+//! it:
 //!
 //! ```
 //! let packet = Packet {
@@ -43,10 +44,10 @@ use header::HEADER_LEN;
 pub use laws::{a_packet_has_one_spelling, no_packet_begins_another, written_packet_is_read};
 pub use packet::{IDLE_APID, Packet, PacketType, SequenceFlags, is_packet_len};
 
-/// The packet in front, and the octets behind it.
+/// Returns the packet at the front, and the octets after it.
 ///
-/// `Short` where there are fewer than 6 octets, or fewer than the length field says; `Version`
-/// where the version number is not 0. With at least 6 octets `Version` is told first.
+/// `Short` if there are fewer than 6 octets, or fewer than the length field says; `Version` if the
+/// version number is not 0. If there are at least 6 octets, `Version` is reported first.
 pub fn decode(bytes: &[u8]) -> Result<(Packet<'_>, &[u8]), PacketError>
     ensures found { IfOk result (λ x. SpellsPacket (view x.0)
         (take (packet_len (view x.0)) bytes.now)) }
@@ -54,7 +55,7 @@ pub fn decode(bytes: &[u8]) -> Result<(Packet<'_>, &[u8]), PacketError>
     ensures only { (p : Parts) (front behind : List ℕ) → SpellsPacket p front → bytes.now ≡ front
         ++ behind → IsOkAnd result (λ x. (view x.0 ≡ p) × (x.1.now ≡ behind)) }
 
-    // The same, of a front that is told by its length.
+    // The same of a front, if it is given by its length.
     ensures front { (p : Parts) (n : ℕ) → SpellsPacket p (take n bytes.now) →
         IsOkAnd result (λ x. (view x.0 ≡ p) × (x.1.now ≡ drop n bytes.now)) }
     ensures refused { result_err result ≡ fault bytes.now }
@@ -81,8 +82,8 @@ pub fn decode(bytes: &[u8]) -> Result<(Packet<'_>, &[u8]), PacketError>
     Ok((packet, rest))
 }
 
-/// Writes the packet, which [`Packet::is_writable`] tests, into the first octets, and says how many
-/// they are: 6 and those of its body. The octets behind stay.
+/// Writes the packet into the first octets, and returns how many they are: 6 and the octets of its
+/// body. [`Packet::is_writable`] must hold. The octets after them stay as they were.
 pub fn encode(packet: &Packet<'_>, out: &mut [u8]) -> usize
     requires writable { IsWritable (view packet.now) }
     requires room { packet_len (view packet.now) ≤ length out.old }
@@ -97,8 +98,8 @@ pub fn encode(packet: &Packet<'_>, out: &mut [u8]) -> usize
     put_bytes(front, at, packet.body)
 }
 
-/// The primary header of the packet, which [`Packet::is_writable`] tests. The packet is these octets
-/// and its body behind them: so a body needn't be copied to be written.
+/// Returns the primary header of the packet, which must be [writable](Packet::is_writable). The
+/// packet is these octets with its body after them, so that a body needn't be copied to be written.
 pub fn header_of(packet: &Packet<'_>) -> [u8; HEADER_LEN]
     requires writable { IsWritable (view packet.now) }
     ensures len { length result ≡ 6 }
@@ -110,8 +111,9 @@ pub fn header_of(packet: &Packet<'_>) -> [u8; HEADER_LEN]
     header
 }
 
-/// Writes an idle packet of `len` octets (7 to 65,542, which [`is_packet_len`] tests) into the
-/// first octets: sequence flags `11`, count 0, data octets 0. The octets behind stay.
+/// Writes an idle packet of `len` octets into the first octets: sequence flags `11`, count 0, data
+/// octets 0. The length must be 7 to 65,542, which [`is_packet_len`] tests. The octets after them
+/// stay as they were.
 pub fn encode_idle(len: usize, out: &mut [u8])
     requires least { 7 ≤ len }
     requires most { len ≤ 65542 }
@@ -133,7 +135,7 @@ pub fn encode_idle(len: usize, out: &mut [u8])
     front[at..].fill(0);
 }
 
-/// Writes the primary header of a packet with so many octets of data, and says where it ends.
+/// Writes the primary header of a packet with so many octets of data, and returns where it ends.
 fn put_header(packet: &Packet<'_>, data_octets: usize, out: &mut [u8]) -> usize
     requires apid { packet.now.apid < 2048 }
     requires count { packet.now.count < 16384 }

@@ -1,4 +1,4 @@
-//! A packet, over octets that are lent.
+//! A packet, over octets that are borrowed.
 ghost use Rattle.std.specs.Prelude.{◌≡◌, ◌↔◌, IsTrue};
 ghost use Rattle.space_packet.specs.Packet.{IsWritable, IsPacketLen, flag_bits, type_bit, view};
 
@@ -14,12 +14,12 @@ pub const IDLE_APID: u16 = 2047;
 pub enum PacketType {
     /// From the spacecraft: it reports.
     Telemetry,
-    /// To the spacecraft: it asks.
+    /// To the spacecraft: it commands.
     Telecommand,
 }
 
 impl PacketType {
-    /// The bit of the packet type field, 0 or 1.
+    /// Returns the bit of the packet type field, 0 or 1.
     pub fn bit(self) -> u8
         ensures { result ≡ type_bit self }
     {
@@ -44,7 +44,7 @@ pub enum SequenceFlags {
 }
 
 impl SequenceFlags {
-    /// The two bits of the sequence flags field, 0 to 3.
+    /// Returns the two bits of the sequence flags field, 0 to 3.
     pub fn bits(self) -> u8
         ensures { result ≡ flag_bits self }
     {
@@ -57,7 +57,7 @@ impl SequenceFlags {
     }
 }
 
-/// A space packet; its body lies in octets that are lent.
+/// A space packet; its body lies in octets that are borrowed.
 #[derive(Clone, Copy, Debug, PartialEq, Eq)]
 pub struct Packet<'a> {
     /// The application process identifier, 0 to 2,047.
@@ -75,15 +75,15 @@ pub struct Packet<'a> {
 }
 
 impl Packet<'_> {
-    /// Whether this is an idle packet.
+    /// Returns `true` if this is an idle packet.
     pub fn is_idle(&self) -> bool
         ensures { IsTrue result ↔ (self.now.apid ≡ IDLE_APID) }
     {
         self.apid == IDLE_APID
     }
 
-    /// Whether each part fits its field, as `encode` asks: so it is of each packet that `decode`
-    /// answers.
+    /// Returns `true` if each part fits its field, as `encode` requires. It holds of each packet
+    /// that `decode` answers.
     pub fn is_writable(&self) -> bool
         ensures { IsTrue result ↔ IsWritable (view self.now) }
     {
@@ -93,7 +93,7 @@ impl Packet<'_> {
     }
 }
 
-/// Whether a packet can have so many octets, its header among them: 7 to 65,542.
+/// Returns `true` if a packet can have so many octets, its header among them: 7 to 65,542.
 pub fn is_packet_len(len: usize) -> bool
     ensures { IsTrue result ↔ IsPacketLen len }
 {

@@ -1,4 +1,4 @@
--- What each field of a configuration has to be, so that a world can be set up so.
+-- What each field of a configuration must be, so that a world can be set up so.
 use Rattle.std.specs.Prelude.{◌≡◌}
 use Rattle.cfdp_station.specs.Fields as station
 use Rattle.station_pair.specs.declared.world_config.WorldConfig.{WorldConfig}

@@ -1,4 +1,4 @@
--- The two stations of a world, and how they may be set up.
+-- The two stations of a world, and what their set-up must be.
 use Rattle.std.specs.Prelude.{ℕ, ◌≡◌}
 use Rattle.station_pair.specs.declared.side.Side.{Side}
 use Rattle.station_pair.specs.declared.side.Side.TheVariants.{One, Two}
@@ -19,8 +19,8 @@ abbrev pub station_of : Side → WorldConfig → StationConfig
 station_of One c = c.one
 station_of Two c = c.two
 
--- Each station can be set up so. They mirror each other: each is the other's peer, and receives
--- the frames that the other sends.
+-- Each station can be set up so. They must mirror each other: each is the other's peer, and
+-- receives the frames that the other sends.
 pub record IsWorldConfig (c : WorldConfig) : Type 0 where
   pub one : IsStationConfig c.one
   pub two : IsStationConfig c.two

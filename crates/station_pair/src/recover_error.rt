@@ -8,10 +8,10 @@ use thiserror::Error;
 /// Why recovering two stations ended before it was done.
 #[derive(Clone, Copy, Debug, PartialEq, Eq, Error)]
 pub enum RecoverError {
-    /// What ends a settling happened, in a settling or when a station was told the time.
+    /// What ends a settling happened, in a settling or when a station was given the time.
     #[error("{0}")]
     Settle(SettleError),
-    /// After the most rounds that there may be a timer other than Inactivity is armed.
+    /// A timer other than Inactivity is still armed after the most rounds that there may be.
     #[error("StillArmed")]
     StillArmed,
 }
@@ -25,7 +25,7 @@ impl From<SettleError> for RecoverError {
 }
 
 impl RecoverError {
-    /// The number that stands for this error in reports: those of settling, and 4 for `StillArmed`.
+    /// Returns the number of this error in reports: as for settling, and 4 if it is `StillArmed`.
     pub fn number(self) -> u8
         ensures { result ≡ recover_error_number self }
     {
@@ -35,7 +35,7 @@ impl RecoverError {
         }
     }
 
-    /// The name of this error in reports.
+    /// Returns the name of this error in reports.
     pub fn name(self) -> &'static str
         ensures { result.now ≡ recover_error_name self }
     {

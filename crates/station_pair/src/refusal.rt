@@ -7,10 +7,10 @@ pub enum Refusal {
     Put(PutError),
     /// The station refused the call on a transaction.
     Call(RequestError),
-    /// As many frames of this lane were lost in a row as may be: after one more, a frame count
-    /// could not show that any was lost.
+    /// If one more frame of this lane were lost in a row, a frame count could not show that any was
+    /// lost: so none may be.
     LossRunTooLong,
-    /// The octets are no damaged frame of this lane: its link has no error control, they have
-    /// another length, or their check is right.
+    /// The octets are no damaged frame of this lane: if its link has no error control, if they have
+    /// another length, or if their check is right.
     NotDamaged,
 }

@@ -6,7 +6,7 @@ use thiserror::Error;
 /// Why settling two stations ended before it was done.
 #[derive(Clone, Copy, Debug, PartialEq, Eq, Error)]
 pub enum SettleError {
-    /// A call found no memory, or a PDU or a frame was dropped for want of it.
+    /// A call found no memory, or a PDU or a frame was dropped since there was none.
     #[error("NoMemory")]
     NoMemory,
     /// A store failed.
@@ -18,7 +18,7 @@ pub enum SettleError {
 }
 
 impl SettleError {
-    /// The number that stands for this error in reports.
+    /// Returns the number of this error in reports.
     pub fn number(self) -> u8
         ensures { result ≡ settle_error_number self }
     {
@@ -29,7 +29,7 @@ impl SettleError {
         }
     }
 
-    /// The name of this error in reports.
+    /// Returns the name of this error in reports.
     pub fn name(self) -> &'static str
         ensures { result.now ≡ settle_error_name self }
     {

@@ -9,7 +9,7 @@ pub enum Side {
 }
 
 impl Side {
-    /// The other station.
+    /// Returns the other station.
     pub fn other(self) -> Side
         ensures { result ≡ sides.other self }
     {
@@ -19,7 +19,7 @@ impl Side {
         }
     }
 
-    /// The station's number, 1 or 2: in a script it is its entity id.
+    /// Returns the station's number, 1 or 2: in a script it is its entity id.
     pub fn entity(self) -> u64
         ensures { result ≡ sides.entity_of self }
     {

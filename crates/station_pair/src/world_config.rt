@@ -7,8 +7,8 @@ use cfdp_station::{StationConfig, StationField};
 use thiserror::Error;
 use valid_config::{Config, Valid};
 
-/// How both stations of a world are set up: each is the other's peer, and each receives the frames
-/// that the other sends.
+/// How both stations of a world are set up: each must be the other's peer, and must receive the
+/// frames that the other sends.
 #[derive(Clone, Copy, Debug, PartialEq, Eq)]
 pub struct WorldConfig {
     /// The first station.
@@ -17,13 +17,13 @@ pub struct WorldConfig {
     pub two: StationConfig,
 }
 
-/// A field of a [`WorldConfig`] that isn't as it has to be.
+/// A field of a [`WorldConfig`] that isn't as it must be.
 #[derive(Clone, Copy, Debug, PartialEq, Eq, Error)]
 pub enum WorldField {
-    /// One of the first station.
+    /// A field of the first station.
     #[error("station 1: {0}")]
     One(StationField),
-    /// One of the second station.
+    /// A field of the second station.
     #[error("station 2: {0}")]
     Two(StationField),
     /// The ids of the peers.
@@ -60,7 +60,7 @@ impl Config for WorldConfig {
 }
 
 impl WorldConfig {
-    /// The configuration of one of both stations.
+    /// Returns the configuration of one of both stations.
     pub fn station(config: Valid<WorldConfig>, side: Side) -> Valid<StationConfig>
         ensures { result ≡ station_of side config }
     {

@@ -1,7 +1,8 @@
-//! Configurations that are tried once: a call that takes a [`Valid`] one can't get another.
+//! Configurations that are checked once: a call that takes a [`Valid`] one can't get another.
 //!
-//! What may be set wrongly is a [`Config`]. Its fields are public, and anything can be written into
-//! them. `validate` gives it as a `Valid` one, or names a field that isn't as it has to be:
+//! Settings that may be invalid are a [`Config`]. Its fields are public, and anything can be
+//! written into them. `validate` returns it as a `Valid` one, or names an invalid field if there is
+//! one:
 //!
 //! ```text
 //! let config = StationConfig::new(entity, down, up).validate()?;
@@ -16,27 +17,27 @@ ghost use Rattle.std.specs.Prelude.{◌≡◌, ◌↔◌, Ok, IsOk, IfOk, IfErr,
 use std::alloc::AllocError;
 use std::marker::Model;
 
-/// What can be set, and may be set wrongly.
+/// Settings that may be invalid.
 pub trait Config: Copy {
-    /// A field of it.
+    /// Names a field.
     type Field: Copy;
 
-    /// All of it is as it has to be.
+    /// Each field is valid.
     ghost IsValid: { Self → Type 0 };
 
-    /// This field is as it has to be.
+    /// This field is valid.
     ghost Fits: { Self.Field → Self → Type 0 };
 
-    /// A field that isn't as it has to be; `None` exactly where the configuration is valid.
+    /// Returns an invalid field; `None` exactly if the configuration is valid.
     fn amiss(&self) -> Option<Self::Field>
         ensures { MatchOption result (IsValid self.now)
             (λ field. (IsValid self.now → ⊥) × (Fits field self.now → ⊥)) };
 
-    /// The same configuration, which is known to be valid from now on.
+    /// Returns the same configuration as a valid one.
     ///
     /// # Errors
     ///
-    /// A field that isn't as it has to be, as `amiss` names it.
+    /// An invalid field if there is one: the field that `amiss` names.
     fn validate(self) -> Result<Valid<Self>, Self::Field>
         ensures ok { IfOk result (λ valid. valid ≡ self) }
         ensures only { IsOk result ↔ IsValid self }
@@ -76,7 +77,8 @@ impl<C: Config> Clone for Valid<C> {
 }
 
 impl<C: Config> Valid<C> {
-    /// One that the caller knows to be valid, as a part of another valid one.
+    /// Returns a configuration that the caller must know to be valid, for example if it is a part
+    /// of another valid one.
     pub fn known(config: C) -> Self
         requires { C.IsValid config }
         ensures { result ≡ config }
@@ -84,7 +86,7 @@ impl<C: Config> Valid<C> {
         Valid { config }
     }
 
-    /// What is set.
+    /// Returns the configuration.
     pub fn get(self) -> C
         ensures is { result ≡ self }
         ensures valid { C.IsValid result }

@@ -1,4 +1,4 @@
--- How many frames are missing, by what the monitor tells.
+-- How many frames are missing, by what the monitor says.
 use Rattle.std.proofs.Common.{◌≡◌, ◌∙◌, ℕ, zero, suc, Bool, Option, Some, None, sym, ap, refl, subst}
 use Rattle.std.specs.Option.{IfSome}
 use Rattle.aos_frame.specs.Counts.{AreMissing, compared, continuity}
@@ -7,7 +7,7 @@ use Rattle.aos_frame.specs.declared.count.Continuity.TheVariants.{Follows, Gap}
 use Rattle.aos_frame.specs.declared.count.SeenCount.{SeenCount}
 use Rattle.vc_packets.specs.Carrying.{IsMissing}
 
--- the number that is told
+-- the number that is reported
 abbrev pub told : Continuity → ℕ
 told Follows = 0
 told (Gap missing) = missing

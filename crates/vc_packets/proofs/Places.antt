@@ -1,4 +1,4 @@
--- A channel among those whose frames were seen, by its place.
+-- A channel among the channels whose frames were seen, by its index.
 use Rattle.std.proofs.Common.{◌≡◌, ◌∙◌, ◌&&◌, ℕ, zero, suc, ◌+◌, ◌<◌, Bool, true, false, List, [], ◌∷◌, ◌++◌, length, take, sym, ap, refl, subst, arith, slice_index_or, slice_set}
 use Rattle.std.specs.List.{All}
 use Rattle.std.proofs.lemmas.List.Elements.{All-head, All-tail}
@@ -15,7 +15,7 @@ pub none_with : (h : FrameHeader) (after : Channel) (cs : List Channel) → All 
 none_with h after [] none = refl
 none_with h after (c ∷ cs) none = rw (All-head (λ x. is_of h x ≡ false) c cs none) (ap (λ l. c ∷ l) (none_with h after cs (All-tail (λ x. is_of h x ≡ false) c cs none)))
 
--- the first that is stands at a place
+-- the first that is stands at an index
 pub first_is : (h : FrameHeader) (cs : List Channel) (at : ℕ) (d e : Channel) → at < length cs → All (λ c. is_of h c ≡ false) (take at cs)
     → is_of h (slice_index_or cs at d) ≡ true → channel_of h cs ≡ slice_index_or cs at e
 first_is h [] at d e there before one = absurd (omega (arith, there))

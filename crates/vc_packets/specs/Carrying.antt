@@ -1,5 +1,5 @@
 -- What the frames of any virtual channels carry (CCSDS 732.0-B-4, 4.1.2.4, 4.1.2.5, 4.1.4.2), by
--- those that were seen before.
+-- the frames that were seen before.
 use Rattle.std.specs.Prelude.{◌≡◌, ℕ, ◌+◌, ◌<◌, ◌≤◌, ◌==◌, ◌&&◌, Bool, true, false, if◌then◌else◌, Option, Some, None, MatchOption, List, [], ◌∷◌, ◌++◌, length, drop}
 use Rattle.std.specs.List.{All}
 use Rattle.aos_frame.specs.Counts.{AreMissing, compared}
@@ -52,8 +52,8 @@ IsMissing None this missing = missing ≡ 0
 IsMissing (Some last) this missing =
     AreMissing (compared last.cycle this.cycle) last.count this.count missing
 
--- What its zone gives behind what is held, where it follows the last one seen or doesn't; and what
--- is held then.
+-- What its zone gives after what is held, if it follows the last one seen or doesn't; and what is
+-- held then.
 pub record ZoneCarries (held : List ℕ) (follows : Bool) (pointer : ℕ) (zone : List ℕ)
     (carried : CarriedText) (left : List ℕ) : Type 0 where
   pub packets : carried.packets ≡ (reading held follows pointer zone).out
@@ -81,12 +81,12 @@ pub record Carries (c : Channel) (h : FrameHeader) (mpdu : List ℕ) (carried : 
       (pointer_of mpdu) (drop 2 mpdu) carried after.reassembler
 
 -- ---- all channels whose frames were seen
--- the one of a frame, which none was seen of before if it isn't there
+-- the channel of a frame; if it isn't there, none of its frames was seen before
 abbrev pub channel_of : FrameHeader → List Channel → Channel
 channel_of h [] = fresh h
 channel_of h (c ∷ cs) = if is_of h c then c else channel_of h cs
 
--- all, with that one as it is afterwards
+-- all channels, with that one as it is afterwards
 abbrev pub with_channel : FrameHeader → Channel → List Channel → List Channel
 with_channel h after [] = after ∷ []
 with_channel h after (c ∷ cs) = if is_of h c then after ∷ cs else c ∷ with_channel h after cs

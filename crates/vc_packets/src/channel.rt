@@ -13,8 +13,7 @@ use std::alloc::{AllocError, Global};
 pub struct Carried {
     /// How many frames of its channel are missing between the last one seen and this one.
     pub missing: u32,
-    /// Whether it has only idle data: its first header pointer is
-    /// [`ONLY_IDLE`](mpdu::ONLY_IDLE).
+    /// True if it has only idle data: its first header pointer is [`ONLY_IDLE`](mpdu::ONLY_IDLE).
     pub only_idle: bool,
     /// What is out of order in its packet zone.
     pub notes: Notes,
@@ -32,11 +31,11 @@ pub(crate) struct Channel {
 }
 
 impl Channel {
-    /// The channel of a frame, of which none was seen.
+    /// Returns the channel of a frame, if none of its frames was seen.
     ///
     /// # Errors
     ///
-    /// `AllocError` where there is no memory for its packets.
+    /// `AllocError` if there is no memory for its packets.
     pub(crate) fn of(alloc: Global, header: FrameHeader) -> Result<Channel, AllocError>
         ensures { IfOk result (λ channel. channel ≡ fresh header) }
     {
@@ -48,18 +47,19 @@ impl Channel {
         })
     }
 
-    /// Whether a frame is of this channel.
+    /// Returns `true` if a frame is of this channel.
     pub(crate) fn is_of(&self, header: FrameHeader) -> bool
         ensures { result ≡ is_of header self.now }
     {
         self.spacecraft == header.spacecraft && self.virtual_channel == header.virtual_channel
     }
 
-    /// Takes a frame of the channel, by its header and its M_PDU.
+    /// Takes a frame of the channel, by its header and its M_PDU, which must have 18 to 2,042
+    /// octets.
     ///
     /// # Errors
     ///
-    /// `AllocError` where there is no memory for a packet. Its packets aren't told then.
+    /// `AllocError` if there is no memory for a packet. Its packets aren't reported then.
     pub(crate) fn take(
         &mut self,
         alloc: Global,
@@ -99,7 +99,7 @@ impl Channel {
     }
 }
 
-/// How many frames are missing before one with this header, which is seen then.
+/// Returns how many frames are missing before one with this header. The frame is then seen.
 fn missing_before(monitor: &mut VcMonitor, header: FrameHeader) -> u32
     ensures missing { IsMissing monitor.old (count_of header) result }
     ensures seen { monitor.new ≡ Some (count_of header) }

@@ -9,7 +9,7 @@ use aos_frame::FrameHeader;
 use std::alloc::{AllocError, Global};
 use std::marker::Model;
 
-/// How many channels are followed at the most. Each takes the memory of the longest packet.
+/// How many channels are followed at most. Each takes the memory of the longest packet.
 pub const MOST_CHANNELS: usize = 64;
 
 /// The virtual channels whose frames were seen, and what was read of them.
@@ -29,7 +29,7 @@ impl Model for Channels {
 }
 
 impl Channels {
-    /// Before the first frame.
+    /// Returns the channels before the first frame.
     pub fn new(alloc: Global) -> Channels
         ensures { result ≡ [] }
     {
@@ -39,12 +39,13 @@ impl Channels {
         }
     }
 
-    /// Takes a frame, by its header and its M_PDU, and answers what it carries. `None` where its
-    /// channel is none of the first [`MOST_CHANNELS`] whose frames were seen.
+    /// Takes a frame, by its header and its M_PDU, which must have 18 to 2,042 octets, and returns
+    /// what it carries. `None` if its channel is none of the first [`MOST_CHANNELS`] whose frames
+    /// were seen.
     ///
     /// # Errors
     ///
-    /// `AllocError` where there is no memory for it.
+    /// `AllocError` if there is no memory for it.
     pub fn take(&mut self, header: FrameHeader, mpdu: &[u8]) -> Result<Option<Carried>, AllocError>
         requires least { 18 ≤ length mpdu.now }
         requires most { length mpdu.now ≤ 2042 }
@@ -61,11 +62,11 @@ impl Channels {
         }
     }
 
-    /// Takes a frame of a channel of which none was seen.
+    /// Takes the first frame of a channel.
     ///
     /// # Errors
     ///
-    /// `AllocError` where there is no memory for it.
+    /// `AllocError` if there is no memory for it.
     fn take_first(
         &mut self,
         header: FrameHeader,
@@ -88,7 +89,7 @@ impl Channels {
     }
 }
 
-/// The place of the first channel that a frame is of.
+/// Returns the index of the first channel that a frame is of, if there is one.
 fn place_of(channels: &[Channel], header: FrameHeader) -> Option<usize>
     ensures none { result ≡ None → All (λ channel. is_of header channel ≡ false) channels.now }
     ensures before { IfSome result (λ place. All (λ channel. is_of header channel ≡ false)

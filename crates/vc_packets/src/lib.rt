@@ -1,7 +1,7 @@
-//! The packets in the frames of any virtual channels, whatever spacecraft they are of: for whoever
-//! reads frames as they passed, without a link of which they are.
+//! The packets in the frames of any virtual channels, whatever their spacecraft: for reading frames
+//! as they passed, without knowing their link.
 //!
-//! [`Channels`] takes the frames one after the other, and answers of each what it carries: how many
+//! [`Channels`] takes the frames one after the other, and answers what each carries: how many
 //! frames of its channel are missing before it, what is out of order in its packet zone, and the
 //! packets that end in it.
 //!

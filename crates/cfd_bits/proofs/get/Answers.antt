@@ -42,7 +42,7 @@ loop-place-preserved c =
     octet_more o c.args.at_bit n c.loop-place.place c.from-in-loop-place.result (8 * (c.loop-place.place + 1) - c.args.at_bit) (omega arith) c.from-in-loop-place.ensures b (omega arith) in
     omega (arith, more, c.loop-place.invariant)
 
--- what is returned behind the last whole octet
+-- what is returned after the last whole octet
 whole : (c : goal.After-from-2) → c.loop-place.value * 2 ^ ((c.args.at_bit + c.args.width) % 8) % 2 ^ 64 + c.from-2.result ≡ field c.args.bytes.now c.args.at_bit c.args.width
 whole c =
     let o : List ℕ = c.args.bytes.now in

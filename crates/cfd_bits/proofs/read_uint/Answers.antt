@@ -8,7 +8,7 @@ use Rattle.cfd_bits.proofs.read_uint.Goals as goal
 pub loop-i-init : goal.loop-i-init
 loop-i-init c = sym (field_none c.args.bytes.now 0)
 
--- one octet more
+-- one more octet
 more : (o : List ℕ) (i v : ℕ) → v ≡ field o 0 (8 * i) → get_or o i 0 < 256 → 256 * v + get_or o i 0 ≡ field o 0 (8 * (i + 1))
 more o i v is b =
     let e : field o 0 (8 * (i + 1)) ≡ 256 * field o 0 (8 * i) + get_or o i 0 = octet_more o 0 (8 * i) i (get_or o i 0) (8 * (i + 1)) (omega arith) refl b (omega arith) in

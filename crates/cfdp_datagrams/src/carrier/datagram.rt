@@ -34,7 +34,7 @@ pub enum PduCarrier {
 }
 
 impl PduCarrier {
-    /// The PDU of a datagram; its packet, if it has one, is of this APID.
+    /// Returns the PDU of a datagram; its packet, if it has one, is of this APID.
     ///
     /// # Errors
     ///
@@ -42,7 +42,7 @@ impl PduCarrier {
     /// `Long`, `OtherApid`, `Segmented`, `SecondaryHeader`, `Empty`; of a bare PDU `Empty` alone.
     /// What the PDU itself says isn't looked at.
     pub fn pdu_in(self, apid: u16, datagram: &[u8]) -> Result<&[u8], CarrierDrop>
-        // The datagram is that of the PDU, and of no other.
+        // The datagram belongs to the PDU, and to no other.
         ensures found { IfOk result (λ pdu. Carries self apid pdu.now datagram.now) }
         ensures only { (pdu : List ℕ) → Carries self apid pdu datagram.now →
             IsOkAnd result (λ found. found.now ≡ pdu) }
@@ -58,7 +58,8 @@ impl PduCarrier {
     }
 }
 
-/// The PDU of the packet that a datagram is, behind a secondary header of so many octets.
+/// Returns the PDU of the packet that a datagram is, after a secondary header of `header_len`
+/// octets.
 ///
 /// # Errors
 ///
@@ -93,7 +94,7 @@ fn pdu_of_packet(apid: u16, header_len: u8, datagram: &[u8]) -> Result<&[u8], Ca
     behind_header(header_len, packet.body)
 }
 
-/// What stands behind so many octets.
+/// Returns what stands after `header_len` octets.
 ///
 /// # Errors
 ///
@@ -112,8 +113,8 @@ fn behind_header(header_len: u8, body: &[u8]) -> Result<&[u8], CarrierDrop>
     Ok(&body[start..])
 }
 
-/// The lane of a PDU, by the type bit of its header (CCSDS 727.0-B-5, table 5-1): file data, or a
-/// directive.
+/// Returns the lane of a PDU, by the type bit of its header (CCSDS 727.0-B-5, table 5-1): file
+/// data, or a directive.
 pub fn lane_of(pdu: &[u8]) -> Lane
     requires { 1 ≤ length pdu.now }
     ensures { result ≡ pdu_lane pdu.now }
@@ -145,7 +146,7 @@ pub fn put_pdu(
     put_packet(form, apid, count, &body[..len], out)
 }
 
-/// Writes a secondary header of so many octets, all zero, and a PDU behind it into the first
+/// Writes a secondary header of `header_len` octets, all zero, and a PDU after it into the first
 /// octets, and says how many they are; `None` if they don't fit.
 fn put_body(header_len: u8, pdu: &[u8], out: &mut [u8]) -> Option<usize>
     ensures within { IfSome result (λ len. len ≤ length out.new) }

@@ -100,11 +100,11 @@ impl Conversion {
         })
     }
 
-    /// Takes a frame of the station: the PDUs that it completes have to leave, behind the others.
+    /// Takes a frame of the station: the PDUs that it completes must leave, after the others.
     ///
     /// # Errors
     ///
-    /// `WireFault` if there was no memory for one of them: it is lost, and so are those behind it
+    /// `WireFault` if there was no memory for one of them: it is lost, and so are those after it
     /// in the frame, and the one that the frame began.
     fn take_frame(&mut self, frame: &[u8]) -> Result<(), WireFault>
         ensures { TakesFrame frame.now self.old self.new }
@@ -118,11 +118,11 @@ impl Conversion {
         }
     }
 
-    /// Sends the oldest PDU that has to leave over a wire, if there is one.
+    /// Sends the oldest PDU that must leave over a wire, if there is one.
     ///
     /// # Errors
     ///
-    /// That of the wire, or `WireFault` if the PDU fits no packet: it is lost.
+    /// The error of the wire, or `WireFault` if the PDU fits no packet: it is lost.
     fn send_first<W: Wire>(&mut self, wire: &mut W) -> Result<(), WireFault>
         ensures none { self.old.queue ≡ [] → (self.new ≡ self.old) × (wire.new ≡ wire.old) }
         ensures first { (pdu : List ℕ) (rest : List (List ℕ)) → self.old.queue ≡ pdu ∷ rest →
@@ -198,7 +198,7 @@ impl Conversion {
     }
 }
 
-/// The way from frames to datagrams and back, if these aren't the frames.
+/// Returns the way from frames to datagrams and back, if these aren't the frames.
 fn conversion_of(
     alloc: Global,
     carrier: Carrier,
@@ -250,8 +250,8 @@ impl<'a, W: PeerWire> Model for CarrierWire<'a, W> {
 }
 
 impl<'a, W: PeerWire> CarrierWire<'a, W> {
-    /// The wire of a station with this configuration, over a wire of datagrams. What comes and is
-    /// dropped is counted in the tally.
+    /// Returns the wire of a station with this configuration, over a wire of datagrams. What comes
+    /// and is dropped is counted in the tally.
     ///
     /// # Errors
     ///
@@ -276,8 +276,8 @@ impl<'a, W: PeerWire> CarrierWire<'a, W> {
         })
     }
 
-    /// Whether a datagram may leave now. If the wire was ready it isn't asked again before one
-    /// has left, or the turn is over.
+    /// Returns `true` if a datagram may leave now. If the wire was ready it isn't asked again
+    /// before one has left, or the turn is over.
     fn may_leave(&mut self) -> bool
         ensures { MayLeave W.steps result self.old self.new }
     {
@@ -290,7 +290,7 @@ impl<'a, W: PeerWire> CarrierWire<'a, W> {
         self.has_leave
     }
 
-    /// How many datagrams wait.
+    /// Returns how many datagrams wait.
     fn waiting(&self) -> usize
         ensures { result ≡ waiting_of self.now.conversion }
     {

@@ -35,7 +35,7 @@ data_field_len a large v = content_len (file_size_octets large) v + crc_len a.cr
 abbrev pub header_of : Addressing → Bool → Content → Header
 header_of a large v = header_by a large (pdu_type_of v) (direction_of v) (data_field_len a large v)
 
--- octets of a file data PDU in front of its data
+-- octets of a file data PDU before its data
 abbrev pub data_front_len : Addressing → Bool → ℕ
 data_front_len a large = header_len a.id_width a.number_width + file_size_octets large
 
@@ -43,7 +43,7 @@ data_front_len a large = header_len a.id_width a.number_width + file_size_octets
 abbrev pub written_len : Addressing → Bool → Content → ℕ
 written_len a large v = header_len a.id_width a.number_width + data_field_len a large v
 
--- what a header has in common with the others of its transaction
+-- what a header has in common with the other headers of its transaction
 abbrev pub addressing_of : Header → Addressing
 addressing_of h =
     record {

@@ -19,7 +19,7 @@ word_sum (a ∷ b ∷ c ∷ d ∷ rest) = a * 256 ^ 3 + b * 256 ^ 2 + c * 256 + 
 abbrev pub modular_checksum : List ℕ → ℕ
 modular_checksum file = word_sum file % 2 ^ 32
 
--- the checksum that an EOF carries, by its type: 0 for the null checksum, and where the type isn't
+-- the checksum that an EOF carries, by its type: 0 for the null checksum, and if the type isn't
 -- known
 abbrev pub checksum_of : ℕ → List ℕ → ℕ
 checksum_of kind file =

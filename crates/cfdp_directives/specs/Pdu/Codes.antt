@@ -9,20 +9,21 @@ use Rattle.cfdp_directives.specs.declared.pdu.codes.TransactionStatus.TheVariant
 use Rattle.cfdp_directives.specs.declared.pdu.codes.Acknowledged.{Acknowledged}
 use Rattle.cfdp_directives.specs.declared.pdu.codes.Acknowledged.TheVariants as acknowledged
 
--- octets of a file-size field, as an offset, where the file is large and where it isn't (CCSDS
+-- octets of a file-size field, such as an offset, if the file is large and if it isn't (CCSDS
 -- 727.0-B-5, 5.1.10)
 abbrev pub file_size_octets : Bool → ℕ
 file_size_octets large = if large then 8 else 4
 
--- the greatest size of a file that isn't large, which is what 4 octets can say, and of one that is
+-- the greatest size of a file: of one that isn't large, the most that 4 octets can hold, and of a
+-- large one
 unfoldable pub size_limit : Bool → ℕ
 size_limit large = if large then 2 ^ 48 else 2 ^ 32 - 1
 
--- whether a file of so many octets is large
+-- true if a file of so many octets is large
 abbrev pub is_large : ℕ → Bool
 is_large size = nat_lt (size_limit false) size
 
--- the conditions that are told here (CCSDS 727.0-B-5, table 5-5, has more)
+-- the conditions that are reported here (CCSDS 727.0-B-5, table 5-5, has more)
 abbrev pub no_error : ℕ
 no_error = 0
 
@@ -78,7 +79,7 @@ ieee = 3
 abbrev pub null : ℕ
 null = 15
 
--- whether a checksum of this type can be made
+-- true if a checksum of this type can be made
 unfoldable pub is_known : ℕ → Bool
 is_known kind =
     (kind == modular) || (kind == proximity) || (kind == castagnoli) || (kind == ieee)

@@ -16,17 +16,17 @@ direction_of (KeepAlive progress) = TowardSender
 direction_of (Ack acknowledged.Eof condition status) = TowardSender
 direction_of _ = TowardReceiver
 
--- whether the direction bit of the header is the one for what the PDU says
+-- true if the direction bit of the header is right for what the PDU says
 abbrev pub direction_fits : Header → Content → Bool
 direction_fits h v = direction_bit h.direction == direction_bit (direction_of v)
 
--- whether what goes this way between a transaction's source and its destination is for the entity
+-- true if what goes this way between a transaction's source and its destination is for the entity
 -- `own`, from the entity `peer`: toward the sender it goes from the destination to the source,
 -- toward the receiver from the source to the destination
 abbrev pub goes_to : Direction → (source destination own peer : ℕ) → Bool
 goes_to TowardSender source destination own peer = (source == own) && (destination == peer)
 goes_to TowardReceiver source destination own peer = (source == peer) && (destination == own)
 
--- whether a PDU with this header is for the entity `own`, from the entity `peer`
+-- true if a PDU with this header is for the entity `own`, from the entity `peer`
 abbrev pub is_for : ℕ → ℕ → Header → Bool
 is_for own peer h = goes_to h.direction h.id.source h.destination own peer

@@ -1,5 +1,5 @@
 -- What is wrong with octets that are no PDU: the first fault, in the order in which faults are
--- told.
+-- reported.
 use Rattle.std.specs.Prelude.{ℕ, ◌+◌, ◌-◌, ◌*◌, ◌%◌, Bool, false, List, [], ◌∷◌, length, drop, Option, Some, None, is_none, ◌==◌, nat_lt, nat_le, not, ◌&&◌, if◌then◌else◌, codes}
 use Rattle.cfd_bits.specs.Field.{field}
 use Rattle.cfdp_header.specs.declared.error.HeaderError.{HeaderError}
@@ -11,12 +11,12 @@ use Rattle.cfdp_directives.specs.Pdu.Codes.{file_size_octets, is_refused}
 use Rattle.cfdp_directives.specs.Pdu.Tlv.{tlvs_of}
 use Rattle.cfdp_directives.specs.Pdu.Grammar.{skipped}
 
--- whether an octet of length and that many octets stand at the front
+-- true if an octet of length and that many octets stand at the front
 unfoldable pub has_lv : List ℕ → Bool
 has_lv [] = false
 has_lv (len ∷ rest) = nat_le len (length rest)
 
--- what stands behind them
+-- what stands after them
 unfoldable pub after_lv : List ℕ → List ℕ
 after_lv [] = []
 after_lv (len ∷ rest) = drop len rest
@@ -68,7 +68,7 @@ length_fault len d =
     else if not (length d == len) then Some Trailing
     else None
 
--- of a directive: a code that isn't known is refused whatever follows
+-- of a directive: if its code isn't known, it is refused whatever follows
 abbrev pub directive_fault : ℕ → List ℕ → Option PduError
 directive_fault w d =
     if nat_lt (length d) 1 then Some Truncated
@@ -81,7 +81,7 @@ directive_fault w d =
     else if field d 0 8 == 12 then length_fault (1 + w) d
     else Some Directive
 
--- of a data field behind a header with this bit of the PDU type
+-- of a data field after a header with this bit of the PDU type
 abbrev pub content_fault : ℕ → ℕ → Bool → List ℕ → Option PduError
 content_fault w pdu_type segment_metadata d =
     if pdu_type == 1 then file_data_fault w segment_metadata d else directive_fault w d
@@ -91,8 +91,8 @@ abbrev after_header : Option HeaderError → Option PduError → Option PduError
 after_header None next = next
 after_header (Some e) next = Some (Header e)
 
--- what is wrong with octets that are no PDU: the header tells how many octets a file-size field
--- has, and of a CRC at the end of the data field
+-- what is wrong with octets that are no PDU: the header says how many octets a file-size field has,
+-- and whether a CRC ends the data field
 abbrev pub pdu_fault : List ℕ → Option PduError
 pdu_fault text =
     after_header (header_fault text)
@@ -109,7 +109,7 @@ pdu_refusal_number Trailing = 9
 pdu_refusal_number Tlv = 10
 pdu_refusal_number Condition = 11
 
--- its name: of a header's refusal, that one's
+-- its name: if the header is refused, the name of that refusal
 abbrev pub pdu_refusal_name : PduError → List ℕ
 pdu_refusal_name (Header e) = refusal_name e
 pdu_refusal_name Directive = codes "Directive"

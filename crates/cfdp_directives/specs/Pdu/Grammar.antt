@@ -1,5 +1,5 @@
 -- Which octets are which PDU, by the bit fields of the standard's tables. Spare bits are in no
--- line: they are read as anything.
+-- line: any value of them is accepted.
 use Rattle.std.specs.Prelude.{◌≡◌, ℕ, ◌+◌, ◌*◌, ◌≤◌, Bool, false, List, ◌∷◌, ◌++◌, length, drop, if◌then◌else◌}
 use Rattle.std.specs.List.{flat_map}
 use Rattle.cfd_bits.specs.Field.{field, flag}
@@ -23,7 +23,7 @@ fss h = file_size_octets h.large
 abbrev pub lv : List ℕ → List ℕ
 lv value = length value ∷ value
 
--- the octets of segment metadata in front of the offset (CCSDS 727.0-B-5, 5.3, table 5-14)
+-- the octets of segment metadata before the offset (CCSDS 727.0-B-5, 5.3, table 5-14)
 abbrev pub skipped : Bool → List ℕ → ℕ
 skipped segment_metadata d = if segment_metadata then 1 + field d 2 6 else 0
 

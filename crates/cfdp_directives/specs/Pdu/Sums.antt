@@ -16,12 +16,12 @@ nothing_summed = record {
   ieee = nothing_kept Ieee;
 }
 
--- whether pieces count for this type: where one is wanted, for that alone
+-- true if pieces count for this type: if one is wanted, for that alone
 abbrev pub wants : Option ℕ → ℕ → Bool
 wants None kind = true
 wants (Some wanted) kind = wanted == kind
 
--- once a piece came, where this type is wanted, or none is known yet
+-- once a piece came, if this type is wanted, or none is known yet
 unfoldable pub summed : Option ℕ → Checksums → Piece → Checksums
 summed wanted sums p = record {
   modular = if wants wanted modular then added sums.modular p else sums.modular;
@@ -34,7 +34,7 @@ summed wanted sums p = record {
 abbrev pub all_summed : Option ℕ → Checksums → List Piece → Checksums
 all_summed wanted sums pieces = fold (summed wanted) sums pieces
 
--- the checksum of this type, as an EOF carries it: 0 for the null checksum, and where the type isn't
+-- the checksum of this type, as an EOF carries it: 0 for the null checksum, and if the type isn't
 -- known
 unfoldable pub sum_told : ℕ → Checksums → ℕ
 sum_told kind sums =

@@ -32,7 +32,7 @@ tlvs_of bytes = tlvs_at (length bytes) bytes
 abbrev fault_location_kind : ℕ
 fault_location_kind = 6
 
--- whether an option names an entity: a fault location of 1 to 8 octets
+-- true if an option names an entity: a fault location of 1 to 8 octets
 abbrev is_location : Tlv → Bool
 is_location t = (t.kind == fault_location_kind)
     && (nat_le 1 (length t.value) && nat_le (length t.value) 8)

@@ -67,13 +67,13 @@ pub record CanWrite (h : Header) (v : Content) : Type 0 where
   pub no_segment_metadata : h.segment_metadata ≡ false
   pub len : h.length ≡ content_len (fss h) v + crc_len h.crc
 
--- The header tells of the kind and the length of this content, and of the CRC behind it.
+-- The header has the kind and the length of this content, and the CRC after it.
 abbrev pub IsHeaderOf : Header → Content → Type 0
 IsHeaderOf h v =
     (h.pdu_type ≡ pdu_type_of v)
     × (h.segment_metadata ≡ false)
     × (h.length ≡ content_len (fss h) v + crc_len h.crc)
 
--- the octets that a PDU is written as, with a CRC where its flag says so
+-- the octets that a PDU is written as, with a CRC if its flag says so
 abbrev pub pdu_octets : Header → Content → List ℕ
 pdu_octets h v = with_crc h.crc (header_octets h ++ content_octets (fss h) v)

@@ -11,7 +11,7 @@ use Rattle.cfdp_directives.specs.declared.user.indication.Indication.{Indication
 use Rattle.cfdp_directives.specs.declared.user.indication.Indication.TheVariants.{Finished}
 use Rattle.cfdp_directives.specs.Pdu.Codes.{no_error}
 
--- whether a Finished says that the file was delivered: no error, complete, retained
+-- true if a Finished says that the file was delivered: no error, complete, retained
 abbrev pub is_complete : ℕ → Delivery → FileStatus → Bool
 is_complete condition Complete Retained = condition == no_error
 is_complete condition _ _ = false
@@ -26,7 +26,7 @@ completion own _ = []
 abbrev pub completions : ℕ → List Indication → List TransactionId
 completions own told = flat_map (completion own) told
 
--- whether an indication says that the transaction is finished, with whatever condition
+-- true if an indication says that the transaction is finished, with whatever condition
 abbrev pub is_finished : TransactionId → Indication → Bool
 is_finished id (Finished of condition delivery status) = same_id of id
 is_finished id _ = false
@@ -35,7 +35,7 @@ is_finished id _ = false
 abbrev pub FinishedOnce : List Indication → Type 0
 FinishedOnce told = (id : TransactionId) → count_by (is_finished id) told ≤ 1
 
--- The entity `own`, which sends the transaction, was told that its file was delivered.
+-- The entity `own`, which sends the transaction, indicated that its file was delivered.
 abbrev pub IsToldComplete : ℕ → List Indication → TransactionId → Type 0
 IsToldComplete own told id =
     (id.source ≡ own) × Contains told (Finished id no_error Complete Retained)

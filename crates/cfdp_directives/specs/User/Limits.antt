@@ -10,7 +10,7 @@ default_limits = record { eof = 3; nak = 3; finished = 3 }
 abbrev pub default_times : Times
 default_times = record { eof = 10; nak = 10; finished = 10; inactivity = 100 }
 
--- Each wait has a unit at least.
+-- Each wait must have at least one unit.
 pub record IsValidTimes (times : Times) : Type 0 where
   pub eof : 1 ≤ times.eof
   pub nak : 1 ≤ times.nak

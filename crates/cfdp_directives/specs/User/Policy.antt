@@ -11,10 +11,14 @@ use Rattle.cfdp_directives.specs.User.Limits.{default_limits, default_times}
 use Rattle.cfdp_directives.specs.User.Handler.{default_handlers}
 
 abbrev pub default_policy : Policy
-default_policy =
-    record { limits = default_limits; times = default_times; handlers = default_handlers }
+default_policy = record {
+  limits = default_limits;
+  times = default_times;
+  handlers = default_handlers;
+  most_gaps = None;
+}
 
--- the count with one more try, while it is below its limit
+-- the count with one more try, if it is below its limit
 abbrev pub another_try : (count limit : ℕ) → Option ℕ
 another_try count limit = if nat_lt count limit then Some (count + 1) else None
 
@@ -22,8 +26,8 @@ another_try count limit = if nat_lt count limit then Some (count + 1) else None
 abbrev pub finished_told : TransactionId → Outcome → Indication
 finished_told id o = Finished id o.condition o.delivery o.status
 
--- what is indicated of a fault, and of what the handler does about it. That a cancelled transaction
--- is finished is indicated once it is
+-- what is indicated of a fault, and of what the handler does about it. If the transaction is
+-- cancelled, its end is indicated once it is finished
 abbrev pub fault_told : Handler → TransactionId → ℕ → List Indication
 fault_told Cancel id condition = Fault id condition ∷ []
 fault_told Suspend id condition = Fault id condition ∷ Suspended id condition ∷ []

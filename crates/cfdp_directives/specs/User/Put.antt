@@ -1,4 +1,4 @@
--- A put, the PDUs that tell the truth about it, and when it was heard in full.
+-- A put, the PDUs that say the truth about it, and when it was received in full.
 use Rattle.std.specs.Prelude.{◌≡◌, ℕ, ◌+◌, ◌<◌, ◌≤◌, List, [], ◌∷◌, length, take, drop, Option, Some, None, Any}
 use Rattle.std.specs.FinMap.{insert}
 use Rattle.cfdp_header.specs.declared.value.Header.{Header}
@@ -21,8 +21,8 @@ pub record Put : Type 0 where
   pub octets : List ℕ
   pub checksum_kind : ℕ
 
--- What is said of the put is so: Metadata has its names, size and checksum type, file data are the
--- file's at that offset, and an EOF without an error has the file's size and checksum (CCSDS
+-- What is said of the put is true: Metadata has its names, size and checksum type, file data are
+-- the file's at that offset, and an EOF without an error has the file's size and checksum (CCSDS
 -- 727.0-B-5, 4.6.1.1). Other PDUs say nothing of the file.
 abbrev pub IsTruthful : Put → Content → Type 0
 IsTruthful put (Metadata kind size source destination options) =
@@ -33,7 +33,7 @@ IsTruthful put (Eof condition checksum size tlvs) = condition ≡ no_error →
     (checksum ≡ checksum_of put.checksum_kind put.octets) × (size ≡ length put.octets)
 IsTruthful put _ = Unit {0}
 
--- A PDU of this transaction, which an entity sends, says what is so of a put of that entity.
+-- A PDU of this transaction, which an entity sends, says what is true of a put of that entity.
 -- `put_of` finds the put of a transaction.
 abbrev pub IsOfPut : ℕ → (TransactionId → Option Put) → TransactionId → Content → Type 0
 IsOfPut own put_of id v =
@@ -77,7 +77,7 @@ Brings put n h (FileData offset bytes) =
     × IsTruthful put (FileData offset bytes)
 Brings put n h _ = ⊥
 
--- The put was heard in full: among the PDUs are its Metadata, its EOF without an error, and file
+-- The put was received in full: among the PDUs are its Metadata, its EOF without an error, and file
 -- data that cover every offset of the file, all of them truthful.
 pub record HeardInFull (put : Put) (pdus : List (List ℕ)) : Type 0 where
   pub metadata : SomePdu (IsMetadataOf put) pdus

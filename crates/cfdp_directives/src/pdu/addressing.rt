@@ -20,8 +20,8 @@ use crate::pdu::writing::{CRC_LEN, encode, put_crc_if};
 use cfdp_header::{Direction, Header, PduType, TransactionId, fits_width};
 
 /// What the headers of a transaction's PDUs have in common: the two entities, the transaction's
-/// number, how wide they are written, and whether a CRC stands behind (CCSDS 727.0-B-5, table 5-1).
-/// It makes the header of each PDU, and writes PDUs.
+/// number, how wide they are written, and whether a CRC stands at the end (CCSDS 727.0-B-5, table
+/// 5-1). It makes the header of each PDU, and writes PDUs.
 #[derive(Clone, Copy, Debug, PartialEq, Eq)]
 pub struct Addressing {
     /// The transaction. Its source is the file's sender.
@@ -32,13 +32,13 @@ pub struct Addressing {
     pub id_width: u8,
     /// Octets of a sequence number: 1 to 8.
     pub number_width: u8,
-    /// The CRC flag: whether each PDU ends in a CRC (CCSDS 727.0-B-5, 4.1).
+    /// The CRC flag: if it is set, each PDU ends in a CRC (CCSDS 727.0-B-5, 4.1).
     pub crc: bool,
 }
 
 impl Addressing {
-    /// Takes them from the header of a PDU that was heard, as for an answer in the same widths, and
-    /// with a CRC where that PDU has one.
+    /// Takes them from the header of a PDU that was received. An answer then has the same widths,
+    /// and a CRC if that PDU has one.
     pub fn of(header: &Header) -> Addressing
         ensures { result ≡ addressing_of header.now }
     {
@@ -51,8 +51,8 @@ impl Addressing {
         }
     }
 
-    /// Whether PDUs can be written with it: both widths are 1 to 8 octets, and the ids and the
-    /// number fit them.
+    /// Returns `true` if PDUs can be written with it: both widths must be 1 to 8 octets, and the
+    /// ids and the number must fit them.
     pub fn is_writable(&self) -> bool
         ensures { IsTrue result ↔ FitsAddressing self.now }
     {
@@ -61,8 +61,8 @@ impl Addressing {
             && fits_width(self.destination, self.id_width)
     }
 
-    /// The header of a PDU with this large file flag. Its data field has 65,535 octets at the most,
-    /// a CRC among them.
+    /// Returns the header of a PDU with this large file flag. Its data field must have at most
+    /// 65,535 octets, a CRC among them.
     pub fn header_of(&self, large: bool, pdu: &Pdu<'_>) -> Header
         requires { data_field_len self.now large (view pdu.now) < 2 ^ 16 }
         ensures { result ≡ addressings.header_of self.now large (view pdu.now) }
@@ -71,7 +71,7 @@ impl Addressing {
         self.header(large, pdu.pdu_type(), pdu.direction(), length)
     }
 
-    /// Octets of the CRC at the end of each PDU: 2, or 0 where there is none.
+    /// Returns the number of octets of the CRC at the end of each PDU: 2, or 0 if there is none.
     pub fn crc_len(&self) -> usize
         ensures len { result ≡ crc_len self.now.crc }
         ensures short { result ≤ 2 }
@@ -96,7 +96,8 @@ impl Addressing {
         }
     }
 
-    /// Octets of the whole PDU as `write_pdu` writes it, its header and its CRC too.
+    /// Returns the number of octets of the whole PDU as `write_pdu` writes it, its header and its
+    /// CRC too.
     pub fn written_len(&self, large: bool, pdu: &Pdu<'_>) -> usize
         requires { data_field_len self.now large (view pdu.now) < 2 ^ 16 }
         ensures { result ≡ addressings.written_len self.now large (view pdu.now) }
@@ -104,15 +105,15 @@ impl Addressing {
         self.front_len() + pdu.len(large) + self.crc_len()
     }
 
-    // Octets of each header.
+    // Returns the number of octets of each header.
     fn front_len(&self) -> usize
         ensures { result ≡ header_len self.now.id_width self.now.number_width }
     {
         Header::len_in_widths(self.id_width, self.number_width)
     }
 
-    /// Writes a PDU with its header into the first octets of `out`, and says how many they are. The
-    /// octets behind stay. Takes no memory.
+    /// Writes a PDU with its header into the first octets of `out`, and returns how many they are.
+    /// The octets after them stay as they were. It takes no memory.
     #[tactic(auto, using(crate::proofs::Addressed::can_write))]
     pub fn write_pdu(&self, large: bool, pdu: &Pdu<'_>, out: &mut [u8]) -> usize
         requires addressing { FitsAddressing self.now }
@@ -128,9 +129,9 @@ impl Addressing {
         encode(&header, pdu, out)
     }
 
-    /// Writes a file data PDU but for its data, `count` octets, and its CRC into the first octets
-    /// of `out`, and says how many it wrote: there the data go, and behind them the CRC
-    /// (`write_crc`). The octets behind stay. Takes no memory.
+    /// Writes a file data PDU, except its data of `count` octets and its CRC, into the first octets
+    /// of `out`, and returns how many it wrote. The caller must write the data there, and after
+    /// them the CRC (`write_crc`). The octets after them stay as they were. It takes no memory.
     #[tactic(auto, using(crate::proofs::Addressed::header_fits))]
     pub fn write_data_front(&self, large: bool, offset: u64, count: usize, out: &mut [u8]) -> usize
         requires addressing { FitsAddressing self.now }
@@ -150,8 +151,8 @@ impl Addressing {
         put_file_size(out, at, large, offset)
     }
 
-    /// Ends a PDU whose other octets are the first `at` of `out`: writes its CRC behind them, where
-    /// it has one, and says how many octets the PDU has. The octets behind stay.
+    /// Ends a PDU whose other octets are the first `at` of `out`: writes its CRC after them, if it
+    /// has one, and returns how many octets the PDU has. The octets after them stay as they were.
     pub fn write_crc(&self, at: usize, out: &mut [u8]) -> usize
         requires { at + crc_len self.now.crc ≤ length out.old }
         ensures end { result ≡ at + crc_len self.now.crc }
@@ -162,8 +163,8 @@ impl Addressing {
     }
 }
 
-/// A law: a PDU whose ids, number and fields fit can be written behind the header that `header_of`
-/// makes.
+/// A law: if the ids, the number and the fields of a PDU fit, it can be written after the header
+/// that `header_of` makes.
 #[tactic(auto, using(crate::proofs::Addressed::can_write))]
 pub fn addressed_pdu_can_be_written()
     ensures { (a : Addressing) (large : Bool) (v : Content) → FitsAddressing a

@@ -19,7 +19,7 @@ impl Model for Checksum {
 }
 
 impl Checksum {
-    /// The checksum of no octets, which is 0.
+    /// Returns the checksum of no octets, which is 0.
     pub fn new() -> Checksum
         ensures { result ≡ 0 }
     {
@@ -33,7 +33,7 @@ impl Checksum {
         self.sum = sum_with(self.sum, offset, bytes);
     }
 
-    /// The checksum, as an EOF carries it.
+    /// Returns the checksum, as an EOF carries it.
     pub fn value(&self) -> u32
         ensures { result ≡ self.now }
     {
@@ -41,7 +41,8 @@ impl Checksum {
     }
 }
 
-// Octets up to the first whole word of the file, the words, and the octets behind them.
+// Returns the sum with the octets up to the first whole word of the file, the words, and the octets
+// after them.
 #[tactic(auto, using(crate::proofs::Sums::by_words))]
 fn sum_with(old: u32, offset: u64, bytes: &[u8]) -> u32
     ensures { result ≡ (old + sum_at offset bytes.now) % 2 ^ 32 }

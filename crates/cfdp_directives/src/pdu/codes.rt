@@ -7,7 +7,7 @@ ghost use Rattle.cfdp_directives.specs.Pdu.Codes.{acknowledged_subtype, is_known
 use std::marker::Model;
 
 /// Why a transaction ended, or what went wrong in it: a condition code of 4 bits (CCSDS 727.0-B-5,
-/// table 5-5). Codes 12 and 13 are never one.
+/// table 5-5). Codes 12 and 13 are no conditions.
 #[derive(Clone, Copy, Debug, PartialEq, Eq)]
 pub struct Condition {
     code: u8,
@@ -26,7 +26,7 @@ impl Model for Condition {
 impl Condition {
     /// Nothing went wrong: 0.
     pub const NO_ERROR: Condition = Condition { code: 0 };
-    /// What was sent stayed without an answer, however often it was sent: 1.
+    /// What was sent got no answer, however often it was sent: 1.
     pub const POSITIVE_ACK_LIMIT: Condition = Condition { code: 1 };
     /// The receiver is further behind than the sender allows: 2.
     pub const KEEP_ALIVE_LIMIT: Condition = Condition { code: 2 };
@@ -34,13 +34,13 @@ impl Condition {
     pub const INVALID_TRANSMISSION_MODE: Condition = Condition { code: 3 };
     /// The filestore refused the file: 4.
     pub const FILESTORE_REJECTION: Condition = Condition { code: 4 };
-    /// The file received has another checksum than its sender told: 5.
+    /// The file received has another checksum than its sender gave: 5.
     pub const FILE_CHECKSUM_FAILURE: Condition = Condition { code: 5 };
-    /// File data pass the end of the file that its sender told: 6.
+    /// File data pass the end of the file that its sender gave: 6.
     pub const FILE_SIZE_ERROR: Condition = Condition { code: 6 };
     /// What is missing was asked for as often as is allowed, and did not come: 7.
     pub const NAK_LIMIT: Condition = Condition { code: 7 };
-    /// Nothing was heard of the transaction for too long: 8.
+    /// No PDU of the transaction was received for too long: 8.
     pub const INACTIVITY: Condition = Condition { code: 8 };
     /// The file was looked at as often as is allowed, and was not whole: 10.
     pub const CHECK_LIMIT: Condition = Condition { code: 10 };
@@ -51,7 +51,7 @@ impl Condition {
     /// A user cancelled the transaction: 15.
     pub const CANCEL_REQUEST: Condition = Condition { code: 15 };
 
-    /// The condition with this code, of 0 to 15 but 12 and 13.
+    /// Returns the condition with this code, or `None` if it is 12, 13 or above 15.
     pub fn from_code(code: u8) -> Option<Condition>
         ensures some { IsSome result ↔ IsCondition code }
         ensures value { IfSome result (λ c. c ≡ code) }
@@ -63,7 +63,7 @@ impl Condition {
         }
     }
 
-    /// The code: 0 to 15, but 12 and 13.
+    /// Returns the code: 0 to 15, except 12 and 13.
     pub fn code(self) -> u8
         ensures value { result ≡ self }
         ensures valid { IsCondition result }
@@ -101,7 +101,7 @@ pub enum TransactionStatus {
     Undefined,
     /// The transaction goes on.
     Active,
-    /// The transaction is over, and its entity knows of it.
+    /// The transaction is over, and its entity knows it.
     Terminated,
     /// The entity doesn't know the transaction.
     Unrecognized,
@@ -116,8 +116,8 @@ pub enum Acknowledged {
     Finished,
 }
 
-/// Which checksum a file has: a checksum type of 4 bits (CCSDS 727.0-B-5, 4.2.2), as SANA's registry
-/// numbers them. `Checksums` makes those that are known.
+/// Which checksum a file has: a checksum type of 4 bits (CCSDS 727.0-B-5, 4.2.2), as SANA's
+/// registry numbers them. `Checksums` makes the known ones.
 #[derive(Clone, Copy, Debug, PartialEq, Eq)]
 pub struct ChecksumKind {
     code: u8,
@@ -145,7 +145,7 @@ impl ChecksumKind {
     /// No checksum, which is written as 0: 15.
     pub const NULL: ChecksumKind = ChecksumKind { code: 15 };
 
-    /// The checksum type with this code, of 0 to 15.
+    /// Returns the checksum type with this code, or `None` if it is above 15.
     pub fn from_code(code: u8) -> Option<ChecksumKind>
         ensures some { IsSome result ↔ (code < 16) }
         ensures value { IfSome result (λ k. k ≡ code) }
@@ -157,7 +157,7 @@ impl ChecksumKind {
         }
     }
 
-    /// The code: 0 to 15.
+    /// Returns the code: 0 to 15.
     pub fn code(self) -> u8
         ensures value { result ≡ self }
         ensures valid { result < 16 }
@@ -165,7 +165,8 @@ impl ChecksumKind {
         self.code
     }
 
-    /// Whether checksums of this type can be made: those of type 0 to 3, and the null checksum, 15.
+    /// Returns `true` if checksums of this type can be made: types 0 to 3, and the null checksum,
+    /// 15.
     #[tactic(auto, unfolding(crate::specs::Pdu::Codes::is_known))]
     pub fn is_known(self) -> bool
         ensures { result ≡ is_known self }
@@ -175,7 +176,7 @@ impl ChecksumKind {
 }
 
 impl Delivery {
-    /// The bit that spells it in a Finished.
+    /// Returns the bit that spells it in a Finished.
     pub fn code(self) -> u8
         ensures { result ≡ delivery_code self }
     {
@@ -187,7 +188,7 @@ impl Delivery {
 }
 
 impl FileStatus {
-    /// The two bits that spell it in a Finished, 0 to 3.
+    /// Returns the two bits that spell it in a Finished, 0 to 3.
     pub fn code(self) -> u8
         ensures { result ≡ file_status_code self }
     {
@@ -201,7 +202,7 @@ impl FileStatus {
 }
 
 impl TransactionStatus {
-    /// The two bits that spell it in an ACK, 0 to 3.
+    /// Returns the two bits that spell it in an ACK, 0 to 3.
     pub fn code(self) -> u8
         ensures { result ≡ transaction_status_code self }
     {
@@ -215,7 +216,7 @@ impl TransactionStatus {
 }
 
 impl Acknowledged {
-    /// The code of the directive that is acknowledged: 4 of an EOF, 5 of a Finished.
+    /// Returns the code of the directive that is acknowledged: 4 for an EOF, 5 for a Finished.
     pub fn code(self) -> u8
         ensures { result ≡ acknowledged_code self }
     {
@@ -225,7 +226,7 @@ impl Acknowledged {
         }
     }
 
-    /// The subtype that an ACK of it is written with: 0 of an EOF, 1 of a Finished.
+    /// Returns the subtype with which an ACK of it is written: 0 for an EOF, 1 for a Finished.
     pub(crate) fn subtype(self) -> u8
         ensures { result ≡ acknowledged_subtype self }
     {

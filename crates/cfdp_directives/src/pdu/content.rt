@@ -11,8 +11,8 @@ use crate::pdu::pairs::SegmentRequests;
 use crate::pdu::tlv::Tlvs;
 use cfdp_header::PduType;
 
-/// What a PDU says (CCSDS 727.0-B-5, 5.2 and 5.3). Texts, data, pairs and options of a PDU that was
-/// read lie in its octets.
+/// What a PDU says (CCSDS 727.0-B-5, 5.2 and 5.3). If it was read, its texts, data, pairs and
+/// options lie in the octets that were read.
 #[derive(Debug, Drop, PartialEq, Eq)]
 pub enum Pdu<'a> {
     /// Octets of the file.
@@ -30,17 +30,17 @@ pub enum Pdu<'a> {
         source: &'a [u8],
         /// Its name at the receiver: 0 to 255 octets.
         destination: &'a [u8],
-        /// Walked, and not carried out by this stack.
+        /// Read, and not carried out by this stack.
         options: Tlvs<'a>,
     },
     /// The end of the file.
     Eof {
         condition: Condition,
-        /// The checksum of the whole file, 0 where its type is null.
+        /// The checksum of the whole file, 0 if its type is null.
         checksum: u32,
         /// Octets of the file.
         size: u64,
-        /// With a condition other than 0, the fault location.
+        /// The fault location, if the condition is other than 0.
         tlvs: Tlvs<'a>,
     },
     /// How the transaction ended at the receiver.
@@ -48,10 +48,10 @@ pub enum Pdu<'a> {
         condition: Condition,
         delivery: Delivery,
         status: FileStatus,
-        /// With a condition other than 0 and 11, the fault location.
+        /// The fault location, if the condition is other than 0 and 11.
         tlvs: Tlvs<'a>,
     },
-    /// An EOF or a Finished was heard.
+    /// An EOF or a Finished was received.
     Ack {
         of: Acknowledged,
         /// The condition of the PDU that is acknowledged.
@@ -69,7 +69,7 @@ pub enum Pdu<'a> {
     },
     /// The sender asks for a NAK or a Keep Alive.
     Prompt {
-        /// For a Keep Alive where true, else for a NAK.
+        /// True if it asks for a Keep Alive, false if it asks for a NAK.
         keep_alive: bool,
     },
     /// How far the receiver came.
@@ -80,8 +80,8 @@ pub enum Pdu<'a> {
 }
 
 impl Pdu<'_> {
-    /// Octets of the data field that it is written as: the `length` of its header, which counts a
-    /// CRC too. File-size fields have the octets of a large file, or of one that isn't.
+    /// Returns the number of octets of its written data field: the `length` of its header, which
+    /// counts a CRC too. They depend on whether the file is large, since file-size fields do.
     pub fn len(&self, large: bool) -> usize
         requires { content_len (file_size_octets large) (view self.now) < 2 ^ 64 }
         ensures { result ≡ content_len (file_size_octets large) (view self.now) }
@@ -104,7 +104,7 @@ impl Pdu<'_> {
         }
     }
 
-    /// Whether it is file data or a directive: the `pdu_type` of its header.
+    /// Returns its PDU type, file data or directive: the `pdu_type` of its header.
     pub(crate) fn pdu_type(&self) -> PduType
         ensures { result ≡ pdu_type_of (view self.now) }
     {
@@ -114,8 +114,8 @@ impl Pdu<'_> {
         }
     }
 
-    /// Whether its content can be written: sizes and offsets fit a file-size field, and names have
-    /// at most 255 octets.
+    /// Returns `true` if its content can be written: sizes and offsets must fit a file-size field,
+    /// and names must have at most 255 octets.
     pub fn fits(&self, large: bool) -> bool
         ensures { IsTrue result ↔ FitsContent (file_size_octets large) (view self.now) }
     {
@@ -157,7 +157,7 @@ impl Pdu<'_> {
         }
     }
 
-    /// Whether its data field has this length, with a CRC of so many octets at its end.
+    /// Returns `true` if its data field has this length, with a CRC of so many octets at its end.
     pub(crate) fn has_len(&self, large: bool, crc_len: usize, len: u16) -> bool
         ensures { IsTrue result
             ↔ (len ≡ content_len (file_size_octets large) (view self.now) + crc_len) }
@@ -166,7 +166,7 @@ impl Pdu<'_> {
         crc_len <= len && self.has_short_parts(large) && self.len(large) == len - crc_len
     }
 
-    /// Whether each part of it may stand in a data field, so that their sum is a number.
+    /// Returns `true` if each part of it can stand in a data field, so that their sum is a number.
     fn has_short_parts(&self, large: bool) -> bool
         ensures short { IsTrue result
             → content_len (file_size_octets large) (view self.now) < 2 ^ 64 }

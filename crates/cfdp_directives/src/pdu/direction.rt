@@ -8,8 +8,8 @@ use crate::pdu::content::Pdu;
 use cfdp_header::{Direction, Header};
 
 impl Pdu<'_> {
-    /// Which way it goes: a Finished, a NAK, a Keep Alive and an ACK of EOF toward the file's
-    /// sender, all others toward its receiver (CCSDS 727.0-B-5, table 5-1).
+    /// Returns which way it goes: a Finished, a NAK, a Keep Alive and an ACK of EOF toward the
+    /// file's sender, all others toward its receiver (CCSDS 727.0-B-5, table 5-1).
     pub fn direction(&self) -> Direction
         ensures { result ≡ directions.direction_of (view self.now) }
     {
@@ -28,8 +28,8 @@ impl Pdu<'_> {
     }
 }
 
-/// Whether the direction bit of a header is the one for what the PDU says. A PDU with the other bit
-/// is refused by an entity that hears it.
+/// Returns `true` if the direction bit of a header is right for what the PDU says. If it isn't, an
+/// entity refuses the PDU.
 pub fn direction_fits(header: &Header, pdu: &Pdu<'_>) -> bool
     ensures value { result ≡ directions.direction_fits header.now (view pdu.now) }
     ensures same { IsTrue result
@@ -38,9 +38,9 @@ pub fn direction_fits(header: &Header, pdu: &Pdu<'_>) -> bool
     header.direction == pdu.direction()
 }
 
-/// Whether a PDU with this header is for the entity `own`, and comes from the entity `peer`. By the
-/// direction bit the one is the file's sender, the header's source, and the other its receiver, the
-/// header's destination.
+/// Returns `true` if a PDU with this header is for the entity `own`, and comes from the entity
+/// `peer`. The direction bit says which of them must be the file's sender, the header's source; the
+/// other must be its receiver, the header's destination.
 pub fn is_for(own: u64, peer: u64, header: &Header) -> bool
     ensures { result ≡ directions.is_for own peer header.now }
 {

@@ -5,10 +5,11 @@ ghost use Rattle.cfdp_directives.specs.Pdu.Faults.{pdu_refusal_number, pdu_refus
 use cfdp_header::HeaderError;
 use thiserror::Error;
 
-/// Why octets are no PDU: the first cause that holds, in the order in which they are told.
+/// Why octets are no PDU: the first cause that holds, in the order that [`decode`](crate::decode)
+/// names.
 #[derive(Clone, Copy, Debug, PartialEq, Eq, Error)]
 pub enum PduError {
-    /// The header is refused. Told first.
+    /// The header is refused. It is checked first.
     #[error("{0}")]
     Header(HeaderError),
     /// The directive code isn't known, or an ACK is neither of EOF nor of Finished.
@@ -17,10 +18,10 @@ pub enum PduError {
     /// A field of the data field passes its end, or the last requested range of a NAK does.
     #[error("a field runs past the end of the data field")]
     Truncated,
-    /// Octets are left over behind an ACK, a Prompt or a Keep Alive.
+    /// Octets are left over after an ACK, a Prompt or a Keep Alive.
     #[error("extra octets after the last field")]
     Trailing,
-    /// The octets where options stand aren't whole options.
+    /// The octets of the options aren't whole options.
     #[error("a TLV option is incomplete")]
     Tlv,
     /// The condition is 12 or 13.
@@ -37,7 +38,7 @@ impl From<HeaderError> for PduError {
 }
 
 impl PduError {
-    /// The number that names this refusal in reports.
+    /// Returns the number of this refusal in reports.
     pub fn number(self) -> u8
         ensures { result ≡ pdu_refusal_number self }
     {
@@ -51,7 +52,8 @@ impl PduError {
         }
     }
 
-    /// The name of this refusal in reports: the variant's, or that of the header's refusal.
+    /// Returns the name of this refusal in reports: the name of the variant, or of the header's
+    /// refusal.
     pub fn name(self) -> &'static str
         ensures { result.now ≡ pdu_refusal_name self }
     {

@@ -1,5 +1,5 @@
-// The octets of a file-size field, as an offset, and the greatest size of a file: their numbers
-// stand here alone.
+// The octets of a file-size field, such as an offset, and the greatest size of a file: their
+// numbers stand here alone.
 ghost use Rattle.std.specs.Prelude.{◌≡◌, ◌+◌, ◌*◌, ◌^◌, ◌<◌, ◌≤◌, ◌++◌, ◌↔◌, false, length, take};
 ghost use Rattle.std.specs.Prelude.{drop, IsTrue};
 ghost use Rattle.cfd_bits.specs.Field.{field, octets};
@@ -7,20 +7,20 @@ ghost use Rattle.cfdp_directives.specs.Pdu.Codes as codes;
 
 use cfd_bits::{put_eight, put_four, read_eight, read_four};
 
-/// Where the file isn't large.
+/// Octets if the file isn't large.
 const SMALL: usize = 4;
 
-/// Where it is.
+/// Octets if the file is large.
 const LARGE: usize = 8;
 
-/// The largest number that a field holds where the file isn't large.
+/// The largest number that a field holds if the file isn't large.
 const LARGEST_SMALL: u64 = u64::MAX >> (64 - 8 * SMALL);
 
 /// The greatest size of a file that is large, in octets.
 const LARGEST_FILE: u64 = 1 << 48;
 
-/// Octets of a file-size field, as an offset, where the file is large and where it isn't (CCSDS
-/// 727.0-B-5, 5.1.10): 8 and 4.
+/// Returns the number of octets of a file-size field, such as an offset (CCSDS 727.0-B-5, 5.1.10):
+/// 8 if the file is large, otherwise 4.
 #[inline]
 pub(crate) fn file_size_octets(large: bool) -> usize
     ensures value { result ≡ codes.file_size_octets large }
@@ -30,7 +30,7 @@ pub(crate) fn file_size_octets(large: bool) -> usize
     if large { LARGE } else { SMALL }
 }
 
-/// Whether a size or an offset fits a file-size field.
+/// Returns `true` if a size or an offset fits a file-size field.
 #[inline]
 pub fn is_file_size(large: bool, value: u64) -> bool
     ensures { IsTrue result ↔ (value < 256 ^ codes.file_size_octets large) }
@@ -38,7 +38,7 @@ pub fn is_file_size(large: bool, value: u64) -> bool
     large || value <= LARGEST_SMALL
 }
 
-/// The greatest size of a file, in octets: 4,294,967,295, and where it is large 2^48.
+/// Returns the greatest size of a file, in octets: 2^48 if it is large, otherwise 4,294,967,295.
 #[inline]
 #[tactic(auto, unfolding(crate::specs::Pdu::Codes::size_limit))]
 pub fn size_limit(large: bool) -> u64
@@ -49,7 +49,8 @@ pub fn size_limit(large: bool) -> u64
     if large { LARGEST_FILE } else { LARGEST_SMALL }
 }
 
-/// Whether a file of so many octets is large: all that is sent of it then has the large file flag.
+/// Returns `true` if a file of so many octets is large: all that is sent of it then has the large
+/// file flag.
 #[inline]
 pub fn is_large(size: u64) -> bool
     ensures { result ≡ codes.is_large size }
@@ -57,7 +58,7 @@ pub fn is_large(size: u64) -> bool
     size_limit(false) < size
 }
 
-/// The number in the file-size field at the front.
+/// Returns the number in the file-size field at the front.
 #[inline(always)]
 pub(crate) fn read_file_size(large: bool, bytes: &[u8]) -> u64
     requires { codes.file_size_octets large ≤ length bytes.now }
@@ -70,8 +71,8 @@ pub(crate) fn read_file_size(large: bool, bytes: &[u8]) -> u64
     }
 }
 
-/// Writes the number as a file-size field from octet `at` on, and says where it ends. The octets
-/// before and behind stay.
+/// Writes the number as a file-size field from octet `at` on, and returns where it ends. The octets
+/// before and after it stay as they were.
 #[inline(always)]
 pub(crate) fn put_file_size(out: &mut [u8], at: usize, large: bool, value: u64) -> usize
     requires room { at + codes.file_size_octets large ≤ length out.old }

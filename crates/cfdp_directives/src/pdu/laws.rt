@@ -1,4 +1,4 @@
-// Laws of the definitions, each the contract of a function that does nothing: a caller's proof has
+// Laws of the definitions, each the contract of a function that does nothing: a caller's proof gets
 // them by a call.
 ghost use Rattle.std.specs.Prelude.{◌≡◌, ℕ, ◌++◌, List};
 ghost use Rattle.cfdp_header.specs.declared.value.Header.{Header};
@@ -19,8 +19,8 @@ pub fn written_pdu_is_read()
     ensures { (h : Header) (v : Content) → CanWrite h v → SpellsPdu h v (pdu_octets h v) }
 {}
 
-/// The header of a PDU that was read can be written, and so can one of a reply, which has its ids,
-/// number and widths.
+/// The header of a PDU that was read can be written, and so can the header of a reply, which has
+/// its ids, number and widths.
 pub fn a_pdu_read_can_be_answered()
     ensures { (h : Header) (v : Content) (text : List ℕ) → SpellsPdu h v text → FitsHeader h }
 {}

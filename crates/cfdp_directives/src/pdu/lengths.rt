@@ -1,5 +1,5 @@
-// The length of a data field, known before its PDU is made: for a sender that asks whether the next
-// PDU has room.
+// The length of a data field, known before its PDU is made: a sender asks whether the next PDU has
+// room.
 ghost use Rattle.std.specs.Prelude.{◌≡◌, ◌+◌, ◌^◌, ◌<◌, ◌∷◌, [], ℕ, Bool, List, length};
 ghost use Rattle.std.specs.List.{flat_map};
 ghost use Rattle.cfdp_directives.specs.declared.pdu.codes.Acknowledged.{Acknowledged};
@@ -14,7 +14,8 @@ ghost use Rattle.cfdp_directives.specs.Pdu.Written.{content_len};
 
 use crate::pdu::file_size::file_size_octets;
 
-/// Octets of a data field of file data that carries so many octets of the file.
+/// Returns the number of octets of a data field of file data that carries so many octets of the
+/// file.
 pub fn file_data_len(large: bool, octets: usize) -> usize
     requires { octets < 2 ^ 32 }
     ensures { (offset : ℕ) (bytes : List ℕ) → length bytes ≡ octets
@@ -24,7 +25,8 @@ pub fn file_data_len(large: bool, octets: usize) -> usize
     width + octets
 }
 
-/// Octets of the data field of a Metadata whose names and options have so many octets.
+/// Returns the number of octets of the data field of a Metadata whose names and options have so
+/// many octets.
 pub fn metadata_len(large: bool, source: usize, destination: usize, options: usize) -> usize
     requires source { source < 2 ^ 32 }
     requires destination { destination < 2 ^ 32 }
@@ -39,8 +41,8 @@ pub fn metadata_len(large: bool, source: usize, destination: usize, options: usi
     4 + width + source + destination + options
 }
 
-/// Octets of the data field of an EOF whose options have so many octets: 0, or those of a fault
-/// location.
+/// Returns the number of octets of the data field of an EOF whose options have so many octets: 0,
+/// or the octets of a fault location.
 pub fn eof_len(large: bool, options: usize) -> usize
     requires { options < 2 ^ 32 }
     ensures { (condition checksum size : ℕ) (tlvs : List Tlv)
@@ -51,8 +53,8 @@ pub fn eof_len(large: bool, options: usize) -> usize
     6 + width + options
 }
 
-/// Octets of the data field of a Finished whose options have so many octets: 0, or those of a fault
-/// location.
+/// Returns the number of octets of the data field of a Finished whose options have so many octets:
+/// 0, or the octets of a fault location.
 pub fn finished_len(options: usize) -> usize
     requires { options < 2 ^ 32 }
     ensures { (large : Bool) (condition : ℕ) (delivery : Delivery) (status : FileStatus)
@@ -62,7 +64,8 @@ pub fn finished_len(options: usize) -> usize
     2 + options
 }
 
-/// Octets of a fault location, as an option, that names its entity by an id of `width` octets.
+/// Returns the number of octets of a fault location, as an option, that names its entity by an id
+/// of `width` octets.
 #[tactic(auto, using(crate::proofs::Options::location_len))]
 pub fn fault_location_len(width: u8) -> usize
     ensures len { result ≡ 2 + width }
@@ -72,7 +75,7 @@ pub fn fault_location_len(width: u8) -> usize
     2 + usize::from(width)
 }
 
-/// Octets of the data field of an ACK: 3.
+/// Returns the number of octets of the data field of an ACK: 3.
 pub fn ack_len() -> usize
     ensures { (large : Bool) (of : Acknowledged) (condition : ℕ) (status : TransactionStatus)
         → content_len (file_size_octets large) (Ack of condition status) ≡ result }
@@ -80,7 +83,7 @@ pub fn ack_len() -> usize
     3
 }
 
-/// Octets of the data field of a NAK that asks for so many ranges.
+/// Returns the number of octets of the data field of a NAK that asks for so many ranges.
 pub fn nak_len(large: bool, pairs: usize) -> usize
     requires { pairs < 2 ^ 32 }
     ensures { (start end : ℕ) (ranges : List (ℕ × ℕ)) → length ranges ≡ pairs
@@ -90,7 +93,7 @@ pub fn nak_len(large: bool, pairs: usize) -> usize
     1 + 2 * width + 2 * width * pairs
 }
 
-/// Octets of the data field of a Prompt: 2.
+/// Returns the number of octets of the data field of a Prompt: 2.
 pub fn prompt_len() -> usize
     ensures { (large keep_alive : Bool)
         → content_len (file_size_octets large) (Prompt keep_alive) ≡ result }
@@ -98,7 +101,7 @@ pub fn prompt_len() -> usize
     2
 }
 
-/// Octets of the data field of a Keep Alive.
+/// Returns the number of octets of the data field of a Keep Alive.
 pub fn keep_alive_len(large: bool) -> usize
     ensures { (progress : ℕ) → content_len (file_size_octets large) (KeepAlive progress) ≡ result }
 {

@@ -34,11 +34,11 @@ impl Eq for Octets {
 }
 
 impl Octets {
-    /// A copy of these octets.
+    /// Returns a copy of these octets.
     ///
     /// # Errors
     ///
-    /// `AllocError` where there is no memory for it.
+    /// `AllocError` if there is no memory for it.
     pub fn copied(alloc: Global, octets: &[u8]) -> Result<Self, AllocError>
         ensures { IfOk result (λ copy. copy ≡ octets.now) }
     {
@@ -47,32 +47,32 @@ impl Octets {
         })
     }
 
-    /// A copy of these octets with an owner of its own.
+    /// Returns a copy of these octets with an owner of its own.
     ///
     /// # Errors
     ///
-    /// `AllocError` where there is no memory for it.
+    /// `AllocError` if there is no memory for it.
     pub fn copy(&self, alloc: Global) -> Result<Self, AllocError>
         ensures { IfOk result (λ copy. copy ≡ self.now) }
     {
         Octets::copied(alloc, self.as_slice())
     }
 
-    /// The octets of a vector, which is kept as it is. Takes no memory.
+    /// Returns the octets of a vector, which is kept as it is. It takes no memory.
     pub fn from_vec(octets: Vec<u8>) -> Self
         ensures { result ≡ octets.items }
     {
         Octets { octets }
     }
 
-    /// The vector that they are kept in. Takes no memory.
+    /// Returns the vector in which they are kept. It takes no memory.
     pub fn into_vec(self) -> Vec<u8>
         ensures { result.items ≡ self }
     {
         self.octets
     }
 
-    /// The octets, lent.
+    /// Returns the octets, borrowed.
     pub fn as_slice(&self) -> &[u8]
         ensures { result.now ≡ self.now }
     {

@@ -5,8 +5,8 @@ ghost use Rattle.std.specs.Iterator.SizeHint.{IsWithinCount};
 use crate::pdu::pairs::SegmentRequests;
 use std::marker::Model;
 
-/// The requested ranges of a NAK one by one, each the offset where it starts and the one where it
-/// ends. Contracts see it as the list of those that are left.
+/// The requested ranges of a NAK one by one, each with the offsets where it starts and ends.
+/// Contracts see it as the list of the ranges that are left.
 #[derive(Debug, Drop)]
 pub struct PairIter<'a> {
     pairs: SegmentRequests<'a>,
@@ -23,7 +23,7 @@ impl<'a> Model for PairIter<'a> {
 }
 
 impl<'a> PairIter<'a> {
-    /// Over these pairs.
+    /// Returns an iterator over these pairs.
     pub(crate) fn over(pairs: SegmentRequests<'a>) -> Self
         ensures { result ≡ pairs.entry }
     {

@@ -15,7 +15,7 @@ use crate::pdu::pair_iter::PairIter;
 use cfd_bits::put_bytes;
 use std::marker::Model;
 
-/// Octets of a pair, of a large file and of one that isn't.
+/// Returns the number of octets of a pair, which depend on whether the file is large.
 #[inline]
 fn pair_octets(large: bool) -> usize
     ensures value { result ≡ specified.pair_octets large }
@@ -28,16 +28,16 @@ fn pair_octets(large: bool) -> usize
 /// Where pairs lie.
 #[derive(Clone, Copy, Debug)]
 enum Form<'a> {
-    /// In octets read, which they fill.
+    /// In octets that were read, which they fill.
     Small(&'a [u8]),
-    /// In octets read of a large file.
+    /// In octets that were read, of a large file.
     Large(&'a [u8]),
     /// As numbers.
     Given(&'a [(u64, u64)]),
 }
 
 /// The requested ranges of a NAK (CCSDS 727.0-B-5, 5.2.6): pairs of offsets, each the start of a
-/// range and its end. Those of a NAK that was read lie in its octets. Contracts see them as a list.
+/// range and its end. If the NAK was read, they lie in its octets. Contracts see them as a list.
 #[derive(Debug, Drop)]
 pub struct SegmentRequests<'a> {
     form: Form<'a>,
@@ -55,7 +55,8 @@ impl<'a> Model for SegmentRequests<'a> {
 }
 
 impl<'a> SegmentRequests<'a> {
-    /// Ranges with these starts and ends. To be written, each number has to fit a file-size field.
+    /// Returns ranges with these starts and ends. If they are written, each number must fit a
+    /// file-size field.
     pub fn of(pairs: &'a [(u64, u64)]) -> Self
         ensures { result ≡ pairs.now }
     {
@@ -64,7 +65,7 @@ impl<'a> SegmentRequests<'a> {
         }
     }
 
-    /// The pairs that fill the octets, if some do: of a large file, or of one that isn't.
+    /// Returns the pairs that fill the octets, if some do. The file is large or it isn't.
     #[tactic(auto, using(crate::proofs::Ranges::pairs_spelled))]
     pub(crate) fn read(large: bool, octets: &'a [u8]) -> Option<Self>
         ensures found { IfSome result (λ ps. ArePairs (file_size_octets large) ps octets.now) }
@@ -78,7 +79,7 @@ impl<'a> SegmentRequests<'a> {
         }
     }
 
-    /// The pairs that fill the octets.
+    /// Returns the pairs that fill the octets.
     fn filling(large: bool, octets: &'a [u8]) -> Self
         requires { length octets.now % specified.pair_octets large ≡ 0 }
         ensures { result ≡ pairs_read large octets.now }
@@ -92,7 +93,7 @@ impl<'a> SegmentRequests<'a> {
         }
     }
 
-    /// How many ranges there are.
+    /// Returns how many ranges there are.
     pub fn len(&self) -> usize
         ensures { result ≡ length self.now }
     {
@@ -103,7 +104,8 @@ impl<'a> SegmentRequests<'a> {
         }
     }
 
-    /// The start and the end of the first range, and the pairs behind it.
+    /// Returns the start and the end of the first range, and the pairs after it; `None` if there is
+    /// none.
     pub fn split_first(&self) -> Option<(u64, u64, SegmentRequests<'a>)>
         ensures some { IfSome result (λ x. self.now ≡ (x.0, x.1) ∷ x.2) }
         ensures none { IfNone result (self.now ≡ []) }
@@ -120,7 +122,7 @@ impl<'a> SegmentRequests<'a> {
         }
     }
 
-    /// The start and the end of the range at a place, from 0 on.
+    /// Returns the start and the end of the range at an index, from 0 on.
     pub(crate) fn at(&self, place: usize) -> (u64, u64)
         requires { place < length self.now }
         ensures { drop place self.now ≡ result ∷ drop (place + 1) self.now }
@@ -131,15 +133,15 @@ impl<'a> SegmentRequests<'a> {
         }
     }
 
-    /// The pairs one by one.
+    /// Returns the pairs one by one.
     pub fn iter(&self) -> PairIter<'a>
         ensures { result ≡ self.now }
     {
         PairIter::over(SegmentRequests { form: self.form })
     }
 
-    /// Whether they can be written: each number fits a file-size field, as those of a NAK that was
-    /// read do where they are written as they were read.
+    /// Returns `true` if they can be written: each number must fit a file-size field. If they were
+    /// read of a NAK, they fit if they are written as they were read.
     pub fn fit(&self, large: bool) -> bool
         ensures { IsTrue result ↔ AllByRecursion (IsPair (file_size_octets large)) self.now }
     {
@@ -150,8 +152,8 @@ impl<'a> SegmentRequests<'a> {
         }
     }
 
-    /// Writes the pairs from octet `at` on, and says where they end. The octets before and behind
-    /// stay.
+    /// Writes the pairs from octet `at` on, and returns where they end. The octets before and after
+    /// them stay as they were.
     pub(crate) fn put(&self, out: &mut [u8], at: usize, large: bool) -> usize
         requires fits { AllByRecursion (IsPair (file_size_octets large)) self.now }
         requires room { at + specified.pair_octets large * length self.now ≤ length out.old }
@@ -195,7 +197,7 @@ impl<'a> IntoIterator for &SegmentRequests<'a> {
     }
 }
 
-/// Whether the pairs that are left are the same.
+/// Returns `true` if the pairs that are left are the same.
 fn are_same(mut one: PairIter<'_>, mut other: PairIter<'_>) -> bool
     ensures { result ≡ pointwise nat_eq (numbers one.entry) (numbers other.entry) }
 {
@@ -210,7 +212,7 @@ fn are_same(mut one: PairIter<'_>, mut other: PairIter<'_>) -> bool
     other.next().is_none()
 }
 
-/// How many pairs fill the octets.
+/// Returns how many pairs fill the octets.
 #[inline(always)]
 #[tactic(auto, using(crate::proofs::Ranges::pairs_count))]
 fn count_read(large: bool, octets: &[u8]) -> usize
@@ -219,7 +221,8 @@ fn count_read(large: bool, octets: &[u8]) -> usize
     octets.len() / pair_octets(large)
 }
 
-/// The start and the end of the first of the pairs that fill the octets, and those behind it.
+/// Returns the start and the end of the first of the pairs that fill the octets, and the octets of
+/// the others.
 #[tactic(auto, using(crate::proofs::Ranges::first_pair, crate::proofs::Ranges::no_pair, crate::proofs::Options::field_behind))]
 fn split_read(large: bool, octets: &[u8]) -> Option<(u64, u64, SegmentRequests<'_>)>
     requires { length octets.now % specified.pair_octets large ≡ 0 }
@@ -238,7 +241,7 @@ fn split_read(large: bool, octets: &[u8]) -> Option<(u64, u64, SegmentRequests<'
     ))
 }
 
-/// The pair at a place in octets that pairs fill.
+/// Returns the pair at an index in octets that pairs fill.
 #[inline(always)]
 #[tactic(auto, using(crate::proofs::Ranges::pair_at, crate::proofs::Ranges::pairs_count))]
 fn pair_read(large: bool, octets: &[u8], place: usize) -> (u64, u64)
@@ -251,8 +254,8 @@ fn pair_read(large: bool, octets: &[u8], place: usize) -> (u64, u64)
     (read_file_size(large, start), read_file_size(large, end))
 }
 
-/// The pair at a place, wherever they lie: apart, so that a loop over those of a small file that was
-/// read tests that once.
+/// Returns the pair at an index, wherever the pairs lie. It is a function of its own, so that a
+/// loop over the pairs of a small file that was read tests that once.
 #[inline(never)]
 fn pair_elsewhere(form: Form<'_>, place: usize) -> (u64, u64)
     requires whole { IsWhole form }
@@ -267,7 +270,7 @@ fn pair_elsewhere(form: Form<'_>, place: usize) -> (u64, u64)
     }
 }
 
-/// The pair at a place.
+/// Returns the pair at an index.
 #[tactic(auto, using(crate::proofs::Ranges::pair_given))]
 fn pair_given(pairs: &[(u64, u64)], place: usize) -> (u64, u64)
     requires { place < length pairs.now }
@@ -276,7 +279,7 @@ fn pair_given(pairs: &[(u64, u64)], place: usize) -> (u64, u64)
     pairs[place]
 }
 
-/// The octets, of which it is known that pairs fill them.
+/// Returns the octets. Pairs must fill them.
 #[tactic(auto, using(crate::proofs::Ranges::pairs_whole))]
 fn as_pairs(large: bool, octets: &[u8]) -> &[u8]
     requires { length octets.now % specified.pair_octets large ≡ 0 }
@@ -288,7 +291,7 @@ fn as_pairs(large: bool, octets: &[u8]) -> &[u8]
     octets
 }
 
-/// Whether each number of pairs that were read fits a file-size field.
+/// Returns `true` if each number of pairs that were read fits a file-size field.
 #[inline(always)]
 #[tactic(auto, using(crate::proofs::Ranges::pairs_fit))]
 fn read_pairs_fit(read: bool, octets: &[u8], large: bool) -> bool
@@ -302,7 +305,7 @@ fn read_pairs_fit(read: bool, octets: &[u8], large: bool) -> bool
     each_fits(large, pairs_over(read, octets))
 }
 
-/// Over the pairs that fill the octets.
+/// Returns an iterator over the pairs that fill the octets.
 fn pairs_over(large: bool, octets: &[u8]) -> PairIter<'_>
     requires { length octets.now % specified.pair_octets large ≡ 0 }
     ensures { result ≡ pairs_read large octets.now }
@@ -310,7 +313,7 @@ fn pairs_over(large: bool, octets: &[u8]) -> PairIter<'_>
     PairIter::over(SegmentRequests::filling(large, octets))
 }
 
-/// Whether each number that is left fits a file-size field.
+/// Returns `true` if each number that is left fits a file-size field.
 #[inline(never)]
 fn each_fits(large: bool, mut pairs: PairIter<'_>) -> bool
     ensures { IsTrue result ↔ AllByRecursion (IsPair (file_size_octets large)) pairs.entry }
@@ -323,7 +326,7 @@ fn each_fits(large: bool, mut pairs: PairIter<'_>) -> bool
     true
 }
 
-/// Whether each number fits a file-size field.
+/// Returns `true` if each number fits a file-size field.
 fn are_file_sizes(large: bool, pairs: &[(u64, u64)]) -> bool
     ensures { IsTrue result ↔ AllByRecursion (IsPair (file_size_octets large)) pairs.now }
 {
@@ -335,8 +338,8 @@ fn are_file_sizes(large: bool, pairs: &[(u64, u64)]) -> bool
     true
 }
 
-/// Writes pairs that were read: as they were read where their fields have the octets of those that
-/// are written, else one by one.
+/// Writes pairs that were read: as they were read if their fields have as many octets as the
+/// written ones, otherwise one by one.
 #[inline(always)]
 fn put_pairs_read(out: &mut [u8], at: usize, large: bool, read: bool, octets: &[u8]) -> usize
     requires whole { length octets.now % specified.pair_octets read ≡ 0 }

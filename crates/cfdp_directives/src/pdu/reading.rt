@@ -26,7 +26,7 @@ use crate::pdu::tlv::Tlvs;
 use cfd_bits::get;
 use cfdp_header::{Header, PduType};
 
-/// The condition with this code, where it is one.
+/// Returns the condition with this code, if it is one.
 fn condition(code: u64) -> Result<Condition, PduError>
     requires { code < 16 }
     ensures found { IfOk result (λ c. c ≡ code) }
@@ -39,7 +39,7 @@ fn condition(code: u64) -> Result<Condition, PduError>
     }
 }
 
-/// The text at the front, behind an octet of its length, and what is behind it.
+/// Returns the text at the front, which follows an octet of its length, and what is after it.
 #[tactic(auto, unfolding(crate::specs::Pdu::Faults::has_lv, crate::specs::Pdu::Faults::after_lv))]
 fn split_lv(bytes: &[u8]) -> Option<(&[u8], &[u8])>
     ensures found { IfSome result (λ x. bytes.now ≡ lv x.0.now ++ x.1.now) }
@@ -113,7 +113,7 @@ fn metadata<'a>(header: &Header, body: &'a [u8]) -> Result<Pdu<'a>, PduError>
     })
 }
 
-/// The checksum type with this code.
+/// Returns the checksum type with this code.
 fn checksum_kind(code: u64) -> ChecksumKind
     requires { code < 16 }
     ensures { result ≡ code }
@@ -314,18 +314,18 @@ fn pdu(bytes: &[u8]) -> Result<(Header, Pdu<'_>), PduError>
     }
 }
 
-/// The PDU that the octets are, all of them.
+/// Returns the PDU that the octets are, all of them, and its header.
 ///
-/// Spare bits and the subtype of an ACK are read as anything. Where the header tells of a CRC, the
-/// PDU is read as if it were not there.
+/// Any value of spare bits and of the subtype of an ACK is accepted. If the header says that there
+/// is a CRC, the PDU is read as if it were not there.
 ///
 /// # Errors
 ///
 /// The first of these that holds. `Header` with the header's refusal. Then, of the data field:
-/// `Truncated` where a field or the last range of a NAK passes its end, `Directive` where the
-/// directive or what an ACK acknowledges isn't known, `Condition` where the condition is 12 or 13,
-/// `Tlv` where the octets of options aren't whole options, and `Trailing` where octets are left
-/// over. A directive that isn't known is `Directive` whatever follows.
+/// `Truncated` if a field or the last range of a NAK passes its end, `Directive` if the directive
+/// or what an ACK acknowledges isn't known, `Condition` if the condition is 12 or 13, `Tlv` if the
+/// octets of options aren't whole options, and `Trailing` if octets are left over. A directive that
+/// isn't known is `Directive` whatever follows.
 pub fn decode(bytes: &[u8]) -> Result<(Header, Pdu<'_>), PduError>
     // What is answered is spelled so.
     ensures found { IfOk result (λ x. SpellsPdu x.0 (view x.1) bytes.now) }

@@ -11,9 +11,9 @@ use crate::pdu::checksum::Checksum;
 use crate::pdu::codes::ChecksumKind;
 use crc::{Crc32, FileCheck};
 
-/// What is kept of the pieces of a file that came, for its checksum of each type that is known.
-/// Pieces may come in any order, each octet once. Where the type that is wanted is known, a piece
-/// costs the work of that one type.
+/// What is kept of the pieces of a file that came, for its checksum of each known type. Pieces may
+/// come in any order, each octet once. If it is known which type will be asked for, a piece costs
+/// the work of that one type.
 #[derive(Clone, Copy, Debug, PartialEq, Eq)]
 pub struct Checksums {
     modular: Checksum,
@@ -23,7 +23,7 @@ pub struct Checksums {
 }
 
 impl Checksums {
-    /// No octet came.
+    /// Returns what is kept before any octet came.
     #[tactic(auto, unfolding(crate::specs::Pdu::Sums::nothing_summed))]
     pub fn new() -> Checksums
         ensures is { result ≡ nothing_summed }
@@ -40,7 +40,7 @@ impl Checksums {
     }
 
     /// Adds a piece of the file: octets, the first of them at this offset. It counts for the
-    /// checksum of the type that is wanted, and where that is `None` for those of all types.
+    /// checksum of the type `wanted`; if that is `None`, it counts for the checksums of all types.
     #[tactic(auto, unfolding(crate::specs::Pdu::Sums::summed))]
     pub fn add(&mut self, wanted: Option<ChecksumKind>, offset: u64, bytes: &[u8])
         requires { offset + length bytes.now < 2 ^ 64 }
@@ -63,8 +63,8 @@ impl Checksums {
         self.fit();
     }
 
-    /// The checksum of this type, as an EOF carries it, once each octet of the file came: 0 for the
-    /// null checksum, and for types that aren't known.
+    /// Returns the checksum of this type, as an EOF carries it: 0 for the null checksum, and if the
+    /// type isn't known. Each octet of the file must have come.
     #[tactic(auto, unfolding(crate::specs::Pdu::Sums::sum_told))]
     pub fn value(&self, kind: ChecksumKind) -> u32
         ensures { result ≡ sum_told kind self.now }
@@ -91,7 +91,7 @@ impl Checksums {
     }
 }
 
-// Whether pieces count for the checksum of this type.
+// Returns `true` if pieces count for the checksum of this type.
 fn wants(wanted: &Option<ChecksumKind>, kind: ChecksumKind) -> bool
     ensures { result ≡ words.wants wanted.now kind }
 {
@@ -101,9 +101,9 @@ fn wants(wanted: &Option<ChecksumKind>, kind: ChecksumKind) -> bool
     }
 }
 
-/// A law: however a file is cut, and in whatever order its pieces come, what is kept of them tells
-/// its checksum of each type that was wanted. What is kept of some pieces and then of others is what
-/// is kept of both; and what is kept for all types is kept for each.
+/// A law: however a file is cut, and in whatever order its pieces come, what is kept of them gives
+/// its checksum of each type that was asked for. What is kept of some pieces and then of others is
+/// what is kept of both; and what is kept for all types is kept for each.
 pub fn cut_file_has_its_checksum()
     ensures none { (wanted : Option ℕ) → AreSumsOf wanted [] nothing_summed }
     ensures more { (wanted : Option ℕ) (front back : List Piece) (sums : Checksums) →
@@ -118,8 +118,8 @@ pub fn cut_file_has_its_checksum()
     crc::cut_file_has_its_check();
 }
 
-/// A law: octets that follow those that came leave what both do in one piece, where none came that
-/// is nothing, and a whole file in one piece tells its checksum.
+/// A law: octets that follow the octets that came leave what both leave in one piece. If none came,
+/// nothing is left, and a whole file in one piece gives its checksum.
 pub fn checksums_go_on()
     ensures none { (wanted : Option ℕ) →
         summed wanted nothing_summed (record { offset = 0; bytes = [] }) ≡ nothing_summed }

@@ -18,14 +18,14 @@ const FAULT_LOCATION: u8 = 6;
 /// Where options lie.
 #[derive(Clone, Copy, Debug)]
 enum Form<'a> {
-    /// In octets read, which they fill.
+    /// In octets that were read, which they fill.
     Read(&'a [u8]),
     /// In the first `len` of these octets.
     Made { octets: [u8; 10], len: usize },
 }
 
 /// Options of a PDU (TLV, CCSDS 727.0-B-5, 5.1.9): each has a type and up to 255 octets of value.
-/// Those of a PDU that was read lie in its octets. Contracts see them as a list.
+/// If the PDU was read, they lie in its octets. Contracts see them as a list.
 #[derive(Debug, Drop)]
 pub struct Tlvs<'a> {
     form: Form<'a>,
@@ -43,7 +43,7 @@ impl<'a> Model for Tlvs<'a> {
 }
 
 impl<'a> Tlvs<'a> {
-    /// No options.
+    /// Returns no options.
     #[tactic(auto, unfolding(crate::specs::Pdu::Tlv::tlvs_of, crate::specs::Pdu::Tlv::tlvs_at))]
     pub fn none() -> Self
         ensures { result ≡ [] }
@@ -56,7 +56,8 @@ impl<'a> Tlvs<'a> {
         }
     }
 
-    /// A fault location that names this entity by an id of `width` octets, 1 to 8: a TLV of type 6.
+    /// Returns a fault location, a TLV of type 6, that names this entity by an id of `width`
+    /// octets, which must be 1 to 8 and hold it.
     pub fn fault_location_of(entity: u64, width: u8) -> Self
         requires width { IsWidth width }
         requires fits { entity < 256 ^ width }
@@ -72,7 +73,7 @@ impl<'a> Tlvs<'a> {
         }
     }
 
-    /// The options that fill the octets, if some do.
+    /// Returns the options that fill the octets, if some do.
     pub fn read(octets: &'a [u8]) -> Option<Self>
         ensures found { IfSome result (λ ts. tlvs_of octets.now ≡ Some ts) }
         ensures none { is_some result ≡ is_some (tlvs_of octets.now) }
@@ -86,7 +87,7 @@ impl<'a> Tlvs<'a> {
         }
     }
 
-    /// The octets that spell the options, one behind the other.
+    /// Returns the octets that spell the options, one after the other.
     #[tactic(auto, using(crate::proofs::Options::spelled_view))]
     pub fn octets(&self) -> &[u8]
         ensures { result.now ≡ flat_map tlv self.now }
@@ -94,7 +95,8 @@ impl<'a> Tlvs<'a> {
         octets_of(&self.form)
     }
 
-    /// The first option's type and value, and the options behind it.
+    /// Returns the first option's type and value, and the options after it; `None` if there is
+    /// none.
     pub fn split_first(&self) -> Option<(u8, &[u8], Tlvs<'_>)>
         ensures some { IfSome result (λ x. self.now
             ≡ record { kind = x.0; value = x.1.now } ∷ x.2) }
@@ -110,14 +112,14 @@ impl<'a> Tlvs<'a> {
         ))
     }
 
-    /// The options one by one, each its type and its value.
+    /// Returns the options one by one, each its type and its value.
     pub fn iter(&self) -> TlvIter<'_>
         ensures { result ≡ self.now }
     {
         TlvIter::over(octets_of(&self.form))
     }
 
-    /// The entity that the first fault location of 1 to 8 octets names.
+    /// Returns the entity that the first fault location of 1 to 8 octets names, if there is one.
     pub fn fault_location(&self) -> Option<u64>
         ensures { result ≡ location_of self.now }
     {
@@ -158,7 +160,7 @@ impl<'a> IntoIterator for &'a Tlvs<'_> {
     }
 }
 
-/// The octets, of which it is known that options fill them.
+/// Returns the octets. Options must fill them.
 fn octets_of<'a>(form: &'a Form<'_>) -> &'a [u8]
     requires { IsWhole form.now }
     ensures whole { is_some (tlvs_of result.now) ≡ true }
@@ -170,7 +172,7 @@ fn octets_of<'a>(form: &'a Form<'_>) -> &'a [u8]
     }
 }
 
-/// The type and the value of the option at the front, and what is behind it.
+/// Returns the type and the value of the option at the front, and what is after it.
 #[tactic(auto, using(crate::proofs::Options::first, crate::proofs::Options::nothing, crate::proofs::Options::one_more, crate::proofs::Options::one_left, crate::proofs::Options::too_long))]
 pub(crate) fn split_tlv(bytes: &[u8]) -> Option<(u8, &[u8], &[u8])>
     ensures whole { IfSome result (λ x. is_some (tlvs_of x.2.now) ≡ is_some (tlvs_of bytes.now)) }
@@ -194,7 +196,7 @@ pub(crate) fn split_tlv(bytes: &[u8]) -> Option<(u8, &[u8], &[u8])>
     Some((kind, value, others))
 }
 
-/// Whether options fill the octets.
+/// Returns `true` if options fill the octets.
 #[tactic(auto, using(crate::proofs::Options::none_left))]
 fn are_tlvs(octets: &[u8]) -> bool
     ensures { result ≡ is_some (tlvs_of octets.now) }

@@ -6,7 +6,7 @@ use crate::pdu::tlv::split_tlv;
 use std::marker::Model;
 
 /// The options of a PDU one by one, each its type and its value. Contracts see it as the list of
-/// those that are left.
+/// the options that are left.
 #[derive(Debug, Drop)]
 pub struct TlvIter<'a> {
     rest: &'a [u8],
@@ -24,7 +24,7 @@ impl<'a> Model for TlvIter<'a> {
 }
 
 impl<'a> TlvIter<'a> {
-    /// Over the options that fill these octets.
+    /// Returns an iterator over the options that fill these octets.
     pub(crate) fn over(octets: &'a [u8]) -> Self
         requires { is_some (tlvs_of octets.now) ≡ true }
         ensures { result ≡ unwrap_or (tlvs_of octets.now) [] }

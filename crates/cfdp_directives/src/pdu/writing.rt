@@ -192,15 +192,15 @@ fn put_keep_alive(out: &mut [u8], at: usize, large: bool, progress: u64) -> usiz
     put_file_size(out, at, large, progress)
 }
 
-/// Whether the PDU can be written behind this header: both fit their fields, and the header tells
-/// of this kind and length, and of no segment metadata.
+/// Returns `true` if the PDU can be written after this header: both must fit their fields, and the
+/// header must have this kind and length, and no segment metadata.
 pub fn can_write(header: &Header, pdu: &Pdu<'_>) -> bool
     ensures { IsTrue result ↔ CanWrite header.now (view pdu.now) }
 {
     header.fits() && pdu.fits(header.large) && is_header_of(header, pdu)
 }
 
-/// Whether the header tells of this kind of content and of its length with the CRC.
+/// Returns `true` if the header has this kind of content and its length with the CRC.
 fn is_header_of(header: &Header, pdu: &Pdu<'_>) -> bool
     ensures { IsTrue result ↔ IsHeaderOf header.now (view pdu.now) }
 {
@@ -209,12 +209,12 @@ fn is_header_of(header: &Header, pdu: &Pdu<'_>) -> bool
         && pdu.has_len(header.large, header.crc_len(), header.length)
 }
 
-/// Writes the PDU into the first octets of `out`, spare bits as 0, and says how many they are. The
-/// octets behind stay.
+/// Writes the PDU into the first octets of `out`, spare bits as 0, and returns how many they are.
+/// The octets after them stay as they were.
 ///
-/// Where `header.crc` is true, its last two octets are the CRC of those before. `header.length` has
-/// to be `pdu.len()` and those octets, and `header.pdu_type` has to say what kind of PDU it is:
-/// `can_write` tells.
+/// If `header.crc` is true, its last two octets are the CRC of the octets before. `header.length`
+/// must be `pdu.len()` and the octets of the CRC, and `header.pdu_type` must be the kind of the
+/// PDU: `can_write` tests it.
 #[tactic(auto, using(crate::proofs::Spelling::behind_data))]
 pub fn encode(header: &Header, pdu: &Pdu<'_>, out: &mut [u8]) -> usize
     requires fits { CanWrite header.now (view pdu.now) }
@@ -229,8 +229,8 @@ pub fn encode(header: &Header, pdu: &Pdu<'_>, out: &mut [u8]) -> usize
     put_data_field(&mut out[..at + header.length as usize], at, header, pdu)
 }
 
-/// Writes the data field of a PDU behind its header, the first `at` octets, with the CRC that the
-/// header tells of, and says where it ends.
+/// Writes the data field of a PDU after its header, the first `at` octets, with the CRC if the
+/// header has the flag, and returns where it ends.
 fn put_data_field(out: &mut [u8], at: usize, header: &Header, pdu: &Pdu<'_>) -> usize
     requires fits { FitsContent (fss header.now) (view pdu.now) }
     requires room { at + content_len (fss header.now) (view pdu.now) + crc_len header.now.crc
@@ -244,8 +244,8 @@ fn put_data_field(out: &mut [u8], at: usize, header: &Header, pdu: &Pdu<'_>) -> 
     put_crc_if(header.crc, out, end)
 }
 
-/// Writes the CRC of the first `at` octets behind them, where there is to be one, and says where
-/// the PDU ends. The octets behind stay.
+/// Writes the CRC of the first `at` octets after them, if `crc` is set, and returns where the PDU
+/// ends. The octets after it stay as they were.
 pub(crate) fn put_crc_if(crc: bool, out: &mut [u8], at: usize) -> usize
     requires { at + crc_len crc ≤ length out.old }
     ensures end { result ≡ at + crc_len crc }
@@ -255,8 +255,7 @@ pub(crate) fn put_crc_if(crc: bool, out: &mut [u8], at: usize) -> usize
     if crc { put_crc(out, at) } else { at }
 }
 
-/// Writes the CRC of the first `at` octets behind them, and says where it ends. The octets behind
-/// stay.
+/// Writes the CRC of the first `at` octets after them, and returns where it ends.
 fn put_crc(out: &mut [u8], at: usize) -> usize
     requires { at + 2 ≤ length out.old }
     ensures end { result ≡ at + 2 }
@@ -268,7 +267,7 @@ fn put_crc(out: &mut [u8], at: usize) -> usize
     put_uint(out, at, CRC_LEN, u64::from(check))
 }
 
-/// Writes the data field of a PDU, without a CRC, behind the first `at` octets, and says where it
+/// Writes the data field of a PDU, without a CRC, after the first `at` octets, and returns where it
 /// ends.
 fn put_content(out: &mut [u8], at: usize, large: bool, pdu: &Pdu<'_>) -> usize
     requires fits { FitsContent (file_size_octets large) (view pdu.now) }

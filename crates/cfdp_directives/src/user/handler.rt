@@ -2,21 +2,21 @@ ghost use Rattle.std.specs.Prelude.{◌≡◌, ◌<◌, ◌↔◌, IsSome, IfSom
 ghost use Rattle.cfdp_directives.specs.declared.user.handler.Handler.{Handler};
 ghost use Rattle.cfdp_directives.specs.User.Handler.{handler_number};
 
-/// What an entity does once it has waited too long or asked too often (CCSDS 727.0-B-5, 4.8).
+/// What an entity does if it has waited too long or asked too often (CCSDS 727.0-B-5, 4.8).
 #[derive(Clone, Copy, Debug, PartialEq, Eq)]
 pub enum Handler {
-    /// The transaction is cancelled, and the other entity is told.
+    /// The transaction is cancelled, and the other entity is notified.
     Cancel,
     /// It is suspended until its user resumes it.
     Suspend,
     /// It goes on, and the count begins again.
     Ignore,
-    /// It is given up at once, and the other entity isn't told.
+    /// It is given up at once, and the other entity isn't notified.
     Abandon,
 }
 
 impl Handler {
-    /// The handler with this number, of 0 to 3.
+    /// Returns the handler with this number, or `None` if it is above 3.
     pub fn from_number(number: u8) -> Option<Handler>
         ensures some { IsSome result ↔ (number < 4) }
         ensures found { IfSome result (λ handler. handler_number handler ≡ number) }
@@ -32,8 +32,9 @@ impl Handler {
         }
     }
 
-    /// The number by which a configuration names it: 0 to 3. It isn't the code in a fault handler
-    /// override (CCSDS 727.0-B-5, 5.4.4), an option that this stack neither sends nor carries out.
+    /// Returns the number by which a configuration names it: 0 to 3. It isn't the code in a fault
+    /// handler override (CCSDS 727.0-B-5, 5.4.4), an option that this stack neither sends nor
+    /// carries out.
     pub fn number(self) -> u8
         ensures value { result ≡ handler_number self }
         ensures range { result < 4 }
@@ -47,7 +48,8 @@ impl Handler {
     }
 }
 
-/// What is done about each fault for which an entity has a choice. About any other it cancels.
+/// What is done about each fault for which an entity has a choice. If any other fault comes, it
+/// cancels.
 #[derive(Clone, Copy, Debug, PartialEq, Eq)]
 pub struct Handlers {
     /// An EOF or a Finished was sent as often as its limit allows, and not acknowledged: condition
@@ -55,7 +57,7 @@ pub struct Handlers {
     pub ack: Handler,
     /// NAKs were sent as often as their limit allows, and nothing new came: condition 7.
     pub nak: Handler,
-    /// Nothing was heard of the transaction for the time of inactivity: condition 8.
+    /// No PDU of the transaction was received for the time of inactivity: condition 8.
     pub inactivity: Handler,
 }
 
@@ -65,7 +67,7 @@ impl Default for Handlers {
 
     ghost is_default = { λ handlers. handlers ≡ default_handlers };
 
-    /// Each cancels the transaction.
+    /// Returns handlers that each cancel the transaction.
     fn default() -> Handlers {
         Handlers {
             ack: Handler::Cancel,

@@ -19,7 +19,7 @@ impl Default for Limits {
 
     ghost is_default = { λ limits. limits ≡ default_limits };
 
-    /// Three times each.
+    /// Returns limits of three times each.
     fn default() -> Limits {
         Limits {
             eof: 3,
@@ -29,7 +29,7 @@ impl Default for Limits {
     }
 }
 
-/// How long an entity waits, in units of the clock that its user tells it: 1 to 4,294,967,295 each.
+/// How long an entity waits, in units of its user's clock: each must be 1 to 4,294,967,295.
 #[derive(Clone, Copy, Debug, PartialEq, Eq)]
 pub struct Times {
     /// For the ACK of an EOF.
@@ -43,7 +43,7 @@ pub struct Times {
 }
 
 impl Times {
-    /// Whether none of them is 0.
+    /// Returns `true` if none of them is 0.
     pub fn is_valid(&self) -> bool
         ensures { IsTrue result ↔ IsValidTimes self.now }
     {
@@ -57,7 +57,7 @@ impl Default for Times {
 
     ghost is_default = { λ times. times ≡ default_times };
 
-    /// 10 units each, and 100 of inactivity.
+    /// Returns 10 units for each, and 100 of inactivity.
     fn default() -> Times {
         Times {
             eof: 10,

@@ -1,7 +1,7 @@
 /// How far a transaction has come at one of its two entities.
 #[derive(Clone, Copy, Debug, PartialEq, Eq)]
 pub enum Phase {
-    /// At the sender: the file goes out, until its receiver says Finished.
+    /// At the sender: the file is sent, until its receiver answers Finished.
     Sending,
     /// At the sender: the transaction was cancelled, and its receiver hasn't acknowledged that yet.
     Cancelling,
@@ -9,7 +9,7 @@ pub enum Phase {
     Receiving,
     /// At the receiver: it is over, and the sender hasn't acknowledged the Finished yet.
     Finishing,
-    /// At either: it is over, and nothing is waited for. The record stays until it is forgotten,
+    /// At either: it is over, and no answer is waited for. The record stays until it is forgotten,
     /// and what still comes is answered.
     Closed,
 }

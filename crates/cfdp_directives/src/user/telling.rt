@@ -11,7 +11,7 @@ use cfdp_header::TransactionId;
 /// How a transaction ended at an entity (CCSDS 727.0-B-5, 5.2.3).
 #[derive(Clone, Copy, Debug, PartialEq, Eq)]
 pub struct Outcome {
-    /// Why it ended: 0 where there was no error.
+    /// Why it ended: 0 if there was no error.
     pub condition: Condition,
     /// Whether all of the file was received.
     pub delivery: Delivery,
@@ -20,7 +20,7 @@ pub struct Outcome {
 }
 
 impl Outcome {
-    /// The indication that tells it.
+    /// Returns the indication of it.
     pub fn indication(self, id: TransactionId) -> Indication
         ensures { result ≡ finished_told id self }
     {
@@ -33,7 +33,7 @@ impl Outcome {
     }
 }
 
-/// Adds an indication to those told. Takes no memory: the caller made room for it.
+/// Adds an indication to the list. It takes no memory: the caller must have made room for it.
 pub fn indicate(told: &mut Vec<Indication>, indication: Indication)
     requires { vec_len told.old < vec_capacity told.old }
     ensures tells { told.new.items ≡ told.old.items ++ indication ∷ [] }
@@ -43,8 +43,8 @@ pub fn indicate(told: &mut Vec<Indication>, indication: Indication)
     let _ = told.push(indication);
 }
 
-/// Indicates a fault, and what the handler does about it: that the transaction is suspended, or
-/// abandoned. Takes no memory: the caller made room for two indications.
+/// Indicates a fault, and what the handler does about it if the transaction is suspended or
+/// abandoned. It takes no memory: the caller must have made room for two indications.
 pub fn indicate_fault(
     told: &mut Vec<Indication>,
     handler: Handler,
@@ -64,8 +64,8 @@ pub fn indicate_fault(
     }
 }
 
-/// The count with one more try, while it is below its limit; `None` once it has reached it. So a
-/// limit of 3 lets a PDU go out four times.
+/// Returns the count with one more try, or `None` if it has reached its limit. So a PDU is sent
+/// four times if the limit is 3.
 pub fn another_try(count: u8, limit: u8) -> Option<u8>
     ensures { result ≡ policies.another_try count limit }
 {

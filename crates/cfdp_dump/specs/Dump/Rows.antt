@@ -10,7 +10,7 @@ use Rattle.cfdp_report.specs.Words.{parts, without_return}
 
 -- ---- digits
 
--- a word without `0x` in front
+-- a word without the `0x` that it may begin with
 abbrev pub bare : List ℕ → List ℕ
 bare word = if nat_le 2 (length word) && ((slice_index word 0 == 48) && (slice_index word 1 == 120))
     then drop 2 word else word
@@ -25,7 +25,7 @@ hex_octets text = result_ok (decode_of (digits_of text))
 
 -- ---- a line that begins with an offset
 
--- its offset, and its digits, which stand behind so many of its octets
+-- its offset, and its digits, which stand after so many of its octets
 pub record Row : Type 0 where
   pub offset : ℕ
   pub before : ℕ
@@ -36,13 +36,13 @@ abbrev pub offset_of : List ℕ → Option ℕ
 offset_of digits = option_and_then (λ octets. if nat_le (length octets) 8
     then Some (field octets 0 (8 * length octets)) else None) (result_ok (decode_of digits))
 
--- what stands in front of the first such gap in a text; all of it, where there is none
+-- what stands before the first such gap in a text; all of it, if there is none
 unfoldable pub up_to : (gap text : List ℕ) → List ℕ
 up_to gap [] = []
 up_to gap (octet ∷ rest) = if starts_with nat_eq (octet ∷ rest) gap then []
     else octet ∷ up_to gap rest
 
--- A line of an offset of so many digits with a mark behind it, of digits up to a gap, and of more
+-- A line of an offset of so many digits with a mark after it, of digits up to a gap, and of more
 -- that is passed over.
 abbrev pub row_with : (width : ℕ) → (mark gap line : List ℕ) → Option Row
 row_with width mark gap line =
@@ -64,14 +64,14 @@ row_of line = option_or (row_with 8 (codes ": ") (codes "  ") line)
     (option_or (row_with 8 (codes "  ") (codes "|") line)
     (option_or (row_with 4 (codes "  ") (codes "   ") line) (last_row line)))
 
--- the same, where its offset is this one
+-- the same, if its offset is this one
 abbrev pub row_at : (offset : ℕ) → (line : List ℕ) → Option Row
 row_at offset line = option_and_then (λ row. if row.offset == offset then Some row else None)
     (row_of line)
 
 -- ---- line after line
 
--- the octets of a unit; or digits that aren't pairs, which stand behind so many octets of a line
+-- the octets of a unit; or digits that aren't pairs, which stand after so many octets of a line
 pub data Piece : Type 0 where
   Octets : List ℕ → Piece
   Bad : (before : ℕ) → (digits : List ℕ) → Piece
@@ -114,17 +114,17 @@ abbrev pub alone_of : (line : List ℕ) → Option (List ℕ) → Step
 alone_of line (Some octets) = record { whole = Octets octets ∷ []; begun = None }
 alone_of line None = first_of line (row_at 0 line)
 
--- a line where no unit is begun
+-- a line if no unit is begun
 abbrev pub alone : List ℕ → Step
 alone line = alone_of line (hex_octets line)
 
--- a line behind the end of a unit of these octets, for which an empty one stands
+-- a line after the end of a unit of these octets, for which an empty one stands
 abbrev pub after : (octets line : List ℕ) → Step
 after octets line = if length line == 0 then record { whole = Octets octets ∷ []; begun = None }
     else record { whole = Octets octets ∷ (alone line).whole; begun = (alone line).begun }
 
--- A line where these octets of a unit are begun goes on with it, if it is a row whose offset is
--- their number.
+-- If these octets of a unit are begun, a line goes on with it if it is a row whose offset is their
+-- number.
 abbrev pub behind_of : (octets line : List ℕ) → Option Row → Step
 behind_of octets line (Some row) = row_step (Octets octets ∷ []) octets row
 behind_of octets line None = after octets line
@@ -143,7 +143,7 @@ abbrev pub ended : Option (List ℕ) → List Piece
 ended None = []
 ended (Some octets) = Octets octets ∷ []
 
--- what lines spell, where this is begun
+-- what lines spell, if this is begun
 unfoldable pub pieces : (by_tools : Bool) → Option (List ℕ) → (lines : List (List ℕ)) → List Piece
 pieces by_tools begun [] = ended begun
 pieces by_tools begun (line ∷ rest) = (step by_tools begun line).whole

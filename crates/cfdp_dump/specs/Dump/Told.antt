@@ -1,4 +1,4 @@
--- What a dump tells, thing by thing, each in a line or in some where fields are told.
+-- What a dump shows, thing by thing, each in a line, or in some lines if fields are shown.
 use Rattle.std.specs.Prelude.{◌≡◌, ℕ, ◌+◌, ◌-◌, ◌<◌, ◌==◌, ◌&&◌, ◌||◌, Bool, true, false, nat_le, nat_lt, not, if◌then◌else◌, List, [], ◌∷◌, ◌++◌, codes, decimal, drop, length, slice_index, Option, Some, None}
 use Rattle.std.specs.Int.{is_in_range}
 use Rattle.std.specs.List.{flat_map}
@@ -13,7 +13,7 @@ use Rattle.cfdp_dump.specs.declared.dump.remark.Remark.{Remark}
 use Rattle.cfdp_dump.specs.declared.dump.remark.Remark.TheVariants.{Missing, OnlyIdle, CutOff, BadHeaders, Unfollowed, Packet, PassedBy, BadCapture}
 
 pub data Told : Type 0 where
-  -- what isn't pairs of hexadecimal digits: a line, or what stands behind so many octets of one
+  -- what isn't pairs of hexadecimal digits: a line, or what stands after so many octets of one
   BadHex : (before : ℕ) → (digits : List ℕ) → Told
   -- what octets are, as a PDU, and as a frame
   AsPdu : (octets : List ℕ) → Told
@@ -34,7 +34,7 @@ remark_text (BadCapture cause place) =
     fault_text cause ++ (codes " at octet " ++ decimal place)
 
 -- Whether the octet at a place of a text may stand there: it is a hexadecimal digit; or, in a line
--- as tools write it, a space, or the x of 0x where a word begins.
+-- as tools write it, a space, or the x of 0x at the beginning of a word.
 abbrev pub is_digit : ℕ → Bool
 is_digit octet = is_in_range 48 57 octet || (is_in_range 65 70 octet || is_in_range 97 102 octet)
 
@@ -50,8 +50,8 @@ may_stand by_tools line place =
     is_digit (slice_index line place) || (by_tools && ((slice_index line place == 32)
     || (slice_index line place == 120 && follows_zero line place)))
 
--- what is said of it: the column of the first octet that may not, from 1, in a line where so many
--- octets stand before the text; if all may, the digits are odd in number
+-- what is said of it: the column of the first octet that may not, from 1, in a line in which so
+-- many octets stand before the text; if all may, the digits are odd in number
 pub record IsBadPlace (by_tools : Bool) (line : List ℕ) (place : ℕ) : Type 0 where
   pub inside : place < length line
   pub bad : may_stand by_tools line place ≡ false
@@ -63,13 +63,13 @@ IsSaidOf by_tools before line None =
 IsSaidOf by_tools before line (Some column) =
     (place : ℕ) × IsBadPlace by_tools line place × (column ≡ before + place + 1)
 
--- where details are told, and nothing else
+-- if details are shown, and nothing else
 abbrev pub place_text : (details : Bool) → Option ℕ → List ℕ
 place_text false column = []
 place_text true None = codes " odd digits"
 place_text true (Some column) = codes " column " ++ decimal column
 
--- The text tells it.
+-- The text shows it.
 pub record TellsBadHex (request : DumpRequest) (before : ℕ) (digits text : List ℕ) : Type 0 where
   pub column : Option ℕ
   pub said : IsSaidOf request.by_tools before digits column

@@ -1,4 +1,4 @@
--- What a dump tells of one unit, a PDU or a frame, by the frames before it; and of many, in order.
+-- What a dump shows of one unit, a PDU or a frame, by the frames before it; and of many, in order.
 use Rattle.std.specs.Prelude.{◌≡◌, ◌⊎◌, ℕ, ◌-◌, Bool, true, false, List, [], ◌∷◌, ◌++◌, Option, Some, None, MatchOption}
 use Rattle.aos_frame.specs.Frame.{SpellsFrame, frame_fault}
 use Rattle.aos_frame.specs.declared.error.FrameError.{FrameError}
@@ -16,7 +16,7 @@ use Rattle.cfdp_dump.specs.declared.dump.DumpKind.TheVariants.{Pdus, Frames}
 use Rattle.cfdp_dump.specs.declared.dump.DumpRequest.{DumpRequest}
 use Rattle.cfdp_dump.specs.declared.dump.remark.Remark.TheVariants.{BadCapture, PassedBy, Unfollowed}
 
--- One thing is told, which changes nothing.
+-- One thing is shown, which changes nothing.
 abbrev pub TellsOne : (one : Told) → List Channel → List Told → List Channel → Type 0
 TellsOne one channels tolds after = (tolds ≡ one ∷ []) × (after ≡ channels)
 
@@ -94,7 +94,7 @@ pub record WritesRun {A : Type 0} (P : List Channel → A → List Told → List
   pub told : TellsRun P [] units tolds after
   pub written : WritesLines (TellsTold request) tolds old new
 
--- Of these units all was written, behind frames of these channels.
+-- Of these units all was written, after frames of these channels.
 pub record WritesMore {A : Type 0} (P : List Channel → A → List Told → List Channel → Type 0)
     (request : DumpRequest) (before : List Channel) (units : List A) (after : List Channel)
     (old new : Option (List ℕ)) : Type 0 where

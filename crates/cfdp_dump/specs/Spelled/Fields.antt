@@ -58,12 +58,12 @@ filled_field name octets section =
     name ++ (codes ": " ++ (flat_map hex_octet_text octets ++ (codes " (" ++ (section
     ++ codes ")\n"))))
 
--- the same, where there are some
+-- the same, if there are some
 abbrev pub part_field : (name octets section : List ℕ) → List ℕ
 part_field name octets section = if length octets == 0 then codes ""
     else filled_field name octets section
 
--- the octet there, 0 behind the end
+-- the octet at an index, or 0 after the end
 abbrev pub octet_at : List ℕ → ℕ → ℕ
 octet_at octets at = get_or octets at 0
 
@@ -109,8 +109,8 @@ id_fields h =
 abbrev pub directive_field : (code : ℕ) (name : List ℕ) → List ℕ
 directive_field code name = code_field (codes "directive") code name (codes "CFDP 5.2.1")
 
--- segment metadata in front of file data (CFDP 5.3), where the header says that there are some; all
--- of this stands in the first octet of the data field
+-- segment metadata before file data (CFDP 5.3), if the header says that there are some; all of this
+-- stands in the first octet of the data field
 abbrev pub segment_fields : Bool → (first : ℕ) → List ℕ
 segment_fields present first =
     if present
@@ -130,12 +130,12 @@ option_field t =
     codes "option: type " ++ (hex_octet_text t.kind ++ (codes " value "
     ++ (flat_map hex_octet_text t.value ++ codes " (CFDP 5.4)\n")))
 
--- the entity at which a fault was found, where one is named (CFDP 5.4.6)
+-- the entity at which a fault was found, if one is named (CFDP 5.4.6)
 abbrev pub location_field : Option ℕ → List ℕ
 location_field None = codes ""
 location_field (Some entity) = number_field (codes "fault location") entity (codes "CFDP 5.4.6")
 
--- the options of a PDU, the entity that the first fault location names in front
+-- the options of a PDU, the entity that the first fault location names first
 abbrev pub options_fields : pdus.Pdu → List ℕ
 options_fields p =
     location_field (location_of (options_of p))
@@ -204,7 +204,7 @@ short_fields (pdu.KeepAlive progress) rest =
     ++ number_field (codes "progress") progress (codes "CFDP 5.2.8")
 short_fields _ rest = codes ""
 
--- what an EOF or a Finished says, but for its options
+-- what an EOF or a Finished says, except for its options
 abbrev pub end_fields : pdus.Pdu → (rest : List ℕ) → List ℕ
 end_fields (pdu.Eof condition checksum size tlvs) rest =
     directive_field 4 (codes "EOF")
@@ -220,8 +220,8 @@ end_fields (pdu.Finished condition delivery status tlvs) rest =
     (codes "CFDP 5.2.3")))
 end_fields p rest = short_fields p rest
 
--- what any PDU says, but for its options. Whether a Metadata requests closure isn't kept: it is the
--- second bit of the second octet of the data field.
+-- what any PDU says, except for its options. Whether a Metadata requests closure isn't kept: it is
+-- the second bit of the second octet of the data field.
 abbrev pub content_fields : (segmented : Bool) → pdus.Pdu → (rest : List ℕ) → List ℕ
 content_fields segmented (pdu.FileData offset bytes) rest =
     segment_fields segmented (octet_at rest 0)
@@ -235,7 +235,7 @@ content_fields segmented (pdu.Metadata kind size source destination options) res
     ++ name_fields source.now destination.now)))
 content_fields segmented p rest = end_fields p rest
 
--- the fields of a PDU, in the order of its octets, and its CRC (CFDP 4.1), where it has one
+-- the fields of a PDU, in the order of its octets, and its CRC (CFDP 4.1), if it has one
 abbrev pub pdu_fields : Header → pdus.Pdu → (octets : List ℕ) → List ℕ
 pdu_fields h p octets =
     fixed_fields h octets
@@ -260,7 +260,7 @@ channel_fields h =
     ++ (number_field (codes "spacecraft") h.spacecraft (codes "AOS 4.1.2.2")
     ++ number_field (codes "virtual channel") h.virtual_channel (codes "AOS 4.1.2.3"))
 
--- the others: its count, and the flags behind
+-- the others: its count, and the flags after it
 abbrev pub count_fields : FrameHeader → List ℕ
 count_fields h =
     number_field (codes "frame count") h.count (codes "AOS 4.1.2.4")
@@ -273,11 +273,11 @@ zone_fields pointer zone =
     code_field (codes "first header pointer") pointer (pointer_word pointer) (codes "AOS 4.1.4.2")
     ++ octets_field (codes "packet zone") zone (codes "AOS 4.1.4.2")
 
--- the insert zone in front of these, where there is one (AOS 4.1.3)
+-- the insert zone before these, if there is one (AOS 4.1.3)
 abbrev pub insert_field : (insert : List ℕ) → List ℕ
 insert_field insert = part_field (codes "insert zone") insert (codes "AOS 4.1.3")
 
--- the operational control field and the frame error control field behind them, where there are some
+-- the operational control field and the frame error control field after them, if there are some
 -- (AOS 4.1.5, 4.1.6)
 abbrev pub behind_fields : (control check : List ℕ) → List ℕ
 behind_fields control check =

@@ -30,7 +30,7 @@ pdu_word (pdu.KeepAlive progress) = codes "keepalive"
 abbrev pub range_text : ℕ × ℕ → List ℕ
 range_text range = codes " " ++ (decimal range.0 ++ (codes "-" ++ decimal range.1))
 
--- what a PDU says, but for its options: numbers in decimal digits, the checksum in hexadecimal
+-- what a PDU says, except for its options: numbers in decimal digits, the checksum in hexadecimal
 -- ones, names as in the report
 abbrev pub fields_text : pdus.Pdu → List ℕ
 fields_text (pdu.FileData offset bytes) = decimal offset ++ codes " " ++ decimal (length bytes.now)
@@ -53,7 +53,7 @@ fields_text (pdu.KeepAlive progress) = decimal progress
 abbrev pub pdu_text : TransactionId → pdus.Pdu → List ℕ
 pdu_text id p = pdu_word p ++ codes " " ++ id_text id ++ codes " " ++ fields_text p
 
--- ---- what a long line has behind that
+-- ---- what a long line has after that
 
 -- the options of a PDU: Metadata (CCSDS 727.0-B-5, 5.2.5), EOF (5.2.2) and Finished (5.2.3) may
 -- have some
@@ -72,7 +72,7 @@ abbrev pub option_text : Tlv → List ℕ
 option_text t = codes " tlv " ++ hex_octet_text t.kind ++ codes ":"
     ++ flat_map hex_octet_text t.value
 
--- the entity at which a fault was found (5.4.6), where one is named
+-- the entity at which a fault was found (5.4.6), if one is named
 abbrev pub location_text : Option ℕ → List ℕ
 location_text None = []
 location_text (Some entity) = codes " fault-location " ++ decimal entity
@@ -86,7 +86,7 @@ end_word TowardReceiver = codes "receiver"
 abbrev pub large_word : Bool → List ℕ
 large_word large = if large then codes " large" else codes ""
 
--- where the PDU goes, which entity receives the file, whether that is large, and the options
+-- which end the PDU goes to, which entity receives the file, whether that is large, and the options
 abbrev pub long_text : Header → pdus.Pdu → List ℕ
 long_text h p =
     codes " toward " ++ end_word h.direction ++ codes " destination " ++ decimal h.destination
@@ -99,21 +99,21 @@ frame_text h pointer =
     codes "frame " ++ decimal h.spacecraft ++ codes " " ++ decimal h.virtual_channel ++ codes " "
     ++ decimal h.count ++ codes " " ++ decimal pointer
 
--- the lane of a virtual channel: scripts, and stations that aren't told others, send directives on
--- channels 5 and 6, and file data on 7 and 8
+-- the lane of a virtual channel: scripts, and stations that aren't set to others, send directives
+-- on channels 5 and 6, and file data on 7 and 8
 abbrev pub lane_word : ℕ → List ℕ
 lane_word channel =
     if channel == 5 || channel == 6 then codes " dir"
     else if channel == 7 || channel == 8 then codes " data"
     else codes ""
 
--- octets of a part in hexadecimal digits behind a word, where there are some
+-- octets of a part in hexadecimal digits after a word, if there are some
 abbrev pub part_text : (word octets : List ℕ) → List ℕ
 part_text word octets = if length octets == 0 then codes ""
     else word ++ flat_map hex_octet_text octets
 
 -- the insert zone, the operational control field and the frame error control field of a frame
--- (732.0-B-4, 4.1.3, 4.1.5, 4.1.6), where it has them
+-- (732.0-B-4, 4.1.3, 4.1.5, 4.1.6), if it has them
 abbrev pub parts_text : (insert control check : List ℕ) → List ℕ
 parts_text insert control check =
     part_text (codes " insert ") insert

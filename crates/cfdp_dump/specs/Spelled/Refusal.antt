@@ -23,7 +23,7 @@ refusal_name Hex = codes "Hex"
 refusal_name (Pdu e) = pdu_refusal_name e
 refusal_name (Frame e) = frames.refusal_name e
 
--- the line that tells it
+-- the line that shows it
 abbrev pub refusal_text : Refusal → List ℕ
 refusal_text refusal = codes "error " ++ decimal (refusal_number refusal) ++ codes " "
     ++ refusal_name refusal
@@ -33,7 +33,7 @@ abbrev pub is_length : FrameError → Bool
 is_length Length = true
 is_length _ = false
 
--- whether what refuses a line is told with its details: a short line has its number and its name
+-- whether what refuses a line is shown with its details: a short line has its number and its name
 -- alone
 abbrev pub has_details : DumpForm → Bool
 has_details Short = false

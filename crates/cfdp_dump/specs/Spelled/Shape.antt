@@ -1,4 +1,4 @@
--- What the frames of a link are made of, and where their fields stand (CCSDS 732.0-B-4, 4.1).
+-- What the frames of a link are made of, and the places of their fields (CCSDS 732.0-B-4, 4.1).
 use Rattle.std.specs.Prelude.{ℕ, ◌+◌, ◌-◌, ◌≤◌, List, drop, length, take}
 use Rattle.frame_fields.specs.Fields.{behind_insert, control_len, extra, mpdu_len}
 use Rattle.frame_fields.specs.declared.config.FrameFields.{FrameFields}
@@ -13,7 +13,7 @@ use Rattle.station_pair.specs.declared.world_config.WorldConfig.{WorldConfig}
 use Rattle.cfdp_dump.specs.declared.spelled.shape.FrameShape.{FrameShape}
 use Rattle.cfdp_dump.specs.declared.spelled.shape.FrameShapes.{FrameShapes}
 
--- Frames can be so: their packet zone has 16 to 2,040 octets, and an insert zone up to 64.
+-- Frames can be so: their packet zone must have 16 to 2,040 octets, and an insert zone at most 64.
 abbrev pub IsShape : FrameShape → Type 0
 IsShape shape = (16 ≤ shape.zone) × (shape.zone ≤ 2040) × (shape.fields.insert_zone ≤ 64)
 
@@ -25,8 +25,8 @@ frame_len shape = 8 + shape.zone + extra shape.fields
 abbrev pub channel_in : List ℕ → FrameShape → ChannelConfig
 channel_in octets shape = record (own_channel octets shape.zone) { fields = shape.fields }
 
--- the octets of a frame behind its M_PDU: its operational control field (4.1.5), and then its frame
--- error control field (4.1.6), where it has them
+-- the octets of a frame after its M_PDU: its operational control field (4.1.5), and then its frame
+-- error control field (4.1.6), if it has them
 abbrev pub behind_mpdu : FrameFields → List ℕ → List ℕ
 behind_mpdu fields octets = drop (mpdu_len fields octets) (behind_insert fields octets)
 
@@ -36,7 +36,7 @@ control_octets fields octets = take (control_len fields) (behind_mpdu fields oct
 abbrev pub check_octets : FrameFields → List ℕ → List ℕ
 check_octets fields octets = drop (control_len fields) (behind_mpdu fields octets)
 
--- the CRC at the end of a PDU, where it has one (CCSDS 727.0-B-5, 4.1)
+-- the CRC at the end of a PDU, if it has one (CCSDS 727.0-B-5, 4.1)
 abbrev pub crc_octets : Header → List ℕ → List ℕ
 crc_octets h octets = drop (length octets - crc_len h.crc) octets
 

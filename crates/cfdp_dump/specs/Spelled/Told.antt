@@ -1,4 +1,4 @@
--- What a dump tells of octets, in each of its forms.
+-- What a dump shows of octets, in each of its forms.
 use Rattle.std.specs.Prelude.{◌≡◌, ◌⊎◌, ℕ, List, ◌++◌, codes, length, Some}
 use Rattle.cfdp_header.specs.declared.value.Header.{Header}
 use Rattle.cfdp_directives.specs.declared.pdu.error.PduError.{PduError}
@@ -20,21 +20,21 @@ use Rattle.cfdp_dump.specs.Spelled.Lines.{cycle_word, frame_text, lane_word, lon
 use Rattle.cfdp_dump.specs.Spelled.Refusal.{frame_fault_text, refusal_text}
 use Rattle.cfdp_dump.specs.Spelled.Shape.{channel_in, check_octets, control_octets, crc_octets}
 
--- what stands behind what is told of octets that are nothing: an empty line, where fields are told
+-- what stands after what is shown of octets that are nothing: an empty line, if fields are shown
 abbrev pub end_of : DumpForm → List ℕ
 end_of Short = codes ""
 end_of Long = codes ""
 end_of Fields = codes "\n"
 
 -- a PDU: in a line, in a longer one, which ends in its CRC if it has one, or field by field, with
--- the line behind them empty
+-- the line after them empty
 abbrev pub pdu_line : DumpForm → Header → pdus.Pdu → (octets : List ℕ) → List ℕ
 pdu_line Short h p octets = pdu_text h.id p
 pdu_line Long h p octets =
     pdu_text h.id p ++ (long_text h p ++ part_text (codes " crc ") (crc_octets h octets))
 pdu_line Fields h p octets = pdu_fields h p octets
 
--- a frame: a long line tells too its lane, that its count has 28 bits, and its fields beside the
+-- a frame: a long line also shows its lane, that its count has 28 bits, and its fields beside the
 -- M_PDU
 abbrev pub frame_line : DumpForm → FrameHeader → (pointer zone : ℕ)
     → (insert control check : List ℕ) → List ℕ

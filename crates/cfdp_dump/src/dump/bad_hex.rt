@@ -7,11 +7,11 @@ ghost use Rattle.cfdp_dump.specs.Spelled.Refusal.{has_details};
 use crate::dump::DumpRequest;
 use std::fmt;
 
-/// Where a line is wrong, and whether that is told.
+/// The place at which a line is wrong, and whether that is shown.
 #[derive(Clone, Copy)]
 pub(crate) struct BadPlace {
     /// The column in its line, from 1, of the first octet that may not stand there, if there is
-    /// one; else the digits are odd in number.
+    /// one; otherwise the digits are odd in number.
     column: Option<usize>,
     is_told: bool,
 }
@@ -29,7 +29,7 @@ impl fmt::Display for BadPlace {
 }
 
 impl BadPlace {
-    /// That of digits, which stand behind so many octets of a line.
+    /// Returns the bad place of digits that stand after so many octets of a line.
     pub(crate) fn of(request: DumpRequest, before: u8, digits: &[u8]) -> BadPlace
         ensures said { IsSaidOf request.by_tools before digits.now result.column }
         ensures told { result.is_told ≡ has_details request.form }
@@ -41,7 +41,8 @@ impl BadPlace {
     }
 }
 
-/// The column of the first octet that may not stand in digits behind so many octets of a line.
+/// Returns the column of the first octet that may not stand in digits after so many octets of a
+/// line.
 fn bad_column(by_tools: bool, before: u8, digits: &[u8]) -> Option<usize>
     ensures { IsSaidOf by_tools before digits.now result }
 {
@@ -53,7 +54,7 @@ fn bad_column(by_tools: bool, before: u8, digits: &[u8]) -> Option<usize>
     None
 }
 
-/// Whether the octet at a place of a text may stand there.
+/// Returns `true` if the octet at a place of a text may stand there.
 fn may_stand(by_tools: bool, line: &[u8], place: usize) -> bool
     requires { place < length line.now }
     ensures { result ≡ told.may_stand by_tools line.now place }
@@ -66,7 +67,7 @@ fn may_stand(by_tools: bool, line: &[u8], place: usize) -> bool
     }
 }
 
-/// Whether a word begins in front of a place of a text, with 0.
+/// Returns `true` if a word begins before a place of a text, with 0.
 fn follows_zero(line: &[u8], place: usize) -> bool
     requires { place < length line.now }
     ensures { result ≡ told.follows_zero line.now place }
@@ -74,7 +75,7 @@ fn follows_zero(line: &[u8], place: usize) -> bool
     place >= 1 && line[place - 1] == b'0' && begins_word(line, place - 1)
 }
 
-/// Whether a word begins at a place of a text.
+/// Returns `true` if a word begins at a place of a text.
 fn begins_word(line: &[u8], place: usize) -> bool
     requires { place < length line.now }
     ensures { result ≡ told.begins_word line.now place }

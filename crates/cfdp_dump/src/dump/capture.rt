@@ -18,7 +18,7 @@ use vc_packets::Channels;
 ///
 /// # Errors
 ///
-/// That of the writer, or `OutOfMemory`.
+/// The error of the writer, or `OutOfMemory`.
 pub(crate) fn write_capture<W: Write>(
     alloc: Global,
     request: DumpRequest,
@@ -44,7 +44,7 @@ pub(crate) fn write_capture<W: Write>(
 ///
 /// # Errors
 ///
-/// That of the writer, or `OutOfMemory`.
+/// The error of the writer, or `OutOfMemory`.
 fn write_item<W: Write>(
     request: DumpRequest,
     whole: usize,

@@ -19,7 +19,7 @@ pub(crate) struct Row<'a> {
     pub digits: &'a [u8],
 }
 
-/// A line as a row of this offset; `None` where it is none.
+/// Reads a line as a row, which must have this offset; returns `None` if it is none.
 pub(crate) fn row_at<'a>(
     alloc: Global,
     offset: usize,
@@ -33,7 +33,7 @@ pub(crate) fn row_at<'a>(
     }
 }
 
-/// A line as `xxd`, `hexdump -C` or Wireshark writes it; `None` where it is none.
+/// Reads a line as `xxd`, `hexdump -C` or Wireshark writes it; returns `None` if it is none.
 fn row_of<'a>(alloc: Global, line: &'a [u8]) -> Result<Option<Row<'a>>, AllocError>
     ensures { IfOk result (λ row. option_map row_text row ≡ spelled.row_of line.now) }
 {
@@ -49,7 +49,8 @@ fn row_of<'a>(alloc: Global, line: &'a [u8]) -> Result<Option<Row<'a>>, AllocErr
     last_row(alloc, line)
 }
 
-/// A line of an offset of so many digits with this mark behind it, and of digits up to this gap.
+/// Reads a line of an offset of so many digits, which this mark must follow, and of digits up to
+/// this gap.
 fn row_with<'a>(
     alloc: Global,
     width: usize,
@@ -76,7 +77,7 @@ fn row_with<'a>(
     }))
 }
 
-/// An offset alone, which ends what `hexdump -C` writes.
+/// Reads an offset alone, which ends what `hexdump -C` writes.
 fn last_row<'a>(alloc: Global, line: &'a [u8]) -> Result<Option<Row<'a>>, AllocError>
     ensures { IfOk result (λ row. option_map row_text row ≡ spelled.last_row line.now) }
 {
@@ -93,8 +94,8 @@ fn last_row<'a>(alloc: Global, line: &'a [u8]) -> Result<Option<Row<'a>>, AllocE
     }
 }
 
-/// The number that these hexadecimal digits spell; `None` where they aren't such pairs, or spell
-/// more than eight octets.
+/// Returns the number that these hexadecimal digits spell, or `None` if they aren't such pairs, or
+/// spell more than eight octets.
 fn offset_of(alloc: Global, digits: &[u8]) -> Result<Option<u64>, AllocError>
     ensures { IfOk result (λ offset. offset ≡ spelled.offset_of digits.now) }
 {
@@ -104,7 +105,7 @@ fn offset_of(alloc: Global, digits: &[u8]) -> Result<Option<u64>, AllocError>
     }
 }
 
-/// What stands in front of the first such gap in a text; all of it, where there is none.
+/// Returns what stands before the first such gap in a text; all of it, if there is none.
 fn up_to<'a>(gap: &[u8], text: &'a [u8]) -> &'a [u8]
     ensures { result.now ≡ spelled.up_to gap.now text.now }
 {

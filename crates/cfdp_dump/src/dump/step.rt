@@ -14,7 +14,7 @@ use std::alloc::{AllocError, Global};
 pub(crate) enum Piece<'a> {
     /// The octets of a unit.
     Octets(Vec<u8>),
-    /// What isn't pairs of digits, behind so many octets of the line.
+    /// What isn't pairs of digits, after so many octets of the line.
     Bad { before: u8, digits: &'a [u8] },
 }
 
@@ -23,14 +23,14 @@ pub(crate) enum Piece<'a> {
 pub(crate) struct Step<'a> {
     /// The octets of a unit of several lines that has ended before the line or with it.
     pub ended: Option<Vec<u8>>,
-    /// What the line itself is, where it is no row.
+    /// What the line itself is, if it is no row.
     pub piece: Option<Piece<'a>>,
     /// The octets so far of a unit that goes on, if one does.
     pub begun: Option<Vec<u8>>,
 }
 
 impl<'a> Step<'a> {
-    /// This piece, and nothing else.
+    /// Returns this piece, and nothing else.
     fn whole(piece: Piece<'a>) -> Step<'a>
         ensures { result ≡ record { ended = None; piece = Some piece.entry; begun = None } }
     {
@@ -42,8 +42,8 @@ impl<'a> Step<'a> {
     }
 }
 
-/// What a line is, where these octets of a unit are begun, or none is: digits alone, or as tools
-/// write it.
+/// Returns what a line is, if these octets of a unit are begun, or none is: digits alone, or as
+/// tools write it.
 pub(crate) fn take_line<'a>(
     alloc: Global,
     by_tools: bool,
@@ -60,7 +60,7 @@ pub(crate) fn take_line<'a>(
     }
 }
 
-/// What a line of digits alone is.
+/// Returns what a line of digits alone is.
 fn bare_line<'a>(alloc: Global, line: &'a [u8]) -> Result<Step<'a>, AllocError>
     ensures { IfOk result (λ step. step_text step ≡ spelled.bare_line line.now) }
 {
@@ -74,7 +74,7 @@ fn bare_line<'a>(alloc: Global, line: &'a [u8]) -> Result<Step<'a>, AllocError>
     Ok(Step::whole(piece))
 }
 
-/// What a line is as tools write it, where these octets of a unit are begun, or none is.
+/// Returns what a line is as tools write it, if these octets of a unit are begun, or none is.
 fn take_row<'a>(
     alloc: Global,
     begun: Option<Vec<u8>>,
@@ -92,7 +92,7 @@ fn take_row<'a>(
     }
 }
 
-/// What a line is behind the end of a unit of these octets, for which an empty one stands.
+/// Returns what a line is after the end of a unit of these octets, for which an empty one stands.
 fn after<'a>(alloc: Global, octets: Vec<u8>, line: &'a [u8]) -> Result<Step<'a>, AllocError>
     ensures { IfOk result (λ step. step_text step ≡ spelled.after octets.items line.now) }
 {
@@ -111,7 +111,7 @@ fn after<'a>(alloc: Global, octets: Vec<u8>, line: &'a [u8]) -> Result<Step<'a>,
     })
 }
 
-/// What a line is where no unit is begun.
+/// Returns what a line is if no unit is begun.
 fn alone<'a>(alloc: Global, line: &'a [u8]) -> Result<Step<'a>, AllocError>
     ensures whole { IfOk result (λ step. step_text step ≡ spelled.alone line.now) }
     ensures none { IfOk result (λ step. step.ended ≡ None) }
@@ -128,7 +128,7 @@ fn alone<'a>(alloc: Global, line: &'a [u8]) -> Result<Step<'a>, AllocError>
     }
 }
 
-/// A unit of which this is the first row; or that its digits aren't pairs.
+/// Returns a unit whose first row this is; or that its digits aren't pairs.
 fn begins<'a>(alloc: Global, row: Row<'a>) -> Result<Step<'a>, AllocError>
     ensures whole { IfOk result (λ step. step_text step
         ≡ spelled.row_step [] [] (row_text row.entry)) }
@@ -147,8 +147,8 @@ fn begins<'a>(alloc: Global, row: Row<'a>) -> Result<Step<'a>, AllocError>
     }
 }
 
-/// A unit of these octets, with which this row goes on; or that it ends, as the digits of the row
-/// aren't pairs.
+/// Returns a unit of these octets and of this row, which goes on with it; or that it ends, if the
+/// digits of the row aren't pairs.
 fn goes_on<'a>(alloc: Global, octets: Vec<u8>, row: Row<'a>) -> Result<Step<'a>, AllocError>
     ensures { IfOk result (λ step. step_text step
         ≡ spelled.row_step (spelled.Octets octets.items ∷ []) octets.items (row_text row.entry)) }

@@ -28,7 +28,7 @@ use vc_packets::{Carried, Channels};
 ///
 /// # Errors
 ///
-/// That of the writer, or `OutOfMemory`.
+/// The error of the writer, or `OutOfMemory`.
 pub(crate) fn write_unit<W: Write>(
     request: DumpRequest,
     octets: &[u8],
@@ -50,7 +50,7 @@ pub(crate) fn write_unit<W: Write>(
 ///
 /// # Errors
 ///
-/// That of the writer, or `OutOfMemory`.
+/// The error of the writer, or `OutOfMemory`.
 fn write_deep<W: Write>(
     request: DumpRequest,
     octets: &[u8],
@@ -71,7 +71,7 @@ fn write_deep<W: Write>(
     }
 }
 
-/// The header and the M_PDU of a frame of this shape, of the channel that it names.
+/// Returns the header and the M_PDU of a frame of this shape, of the channel that it names.
 ///
 /// # Errors
 ///
@@ -101,7 +101,7 @@ fn frame_of(octets: &[u8], shape: FrameShape) -> Result<(FrameHeader, &[u8]), Fr
 ///
 /// # Errors
 ///
-/// That of the writer.
+/// The error of the writer, if it fails.
 fn write_carried<W: Write>(request: DumpRequest, carried: &Carried, out: &mut W) -> io::Result<()>
     ensures { OnOk result (WritesLines (TellsTold request) (carried_told (carried_text carried.now))
         (W.contents out.old) (W.contents out.new)) }
@@ -117,7 +117,7 @@ fn write_carried<W: Write>(request: DumpRequest, carried: &Carried, out: &mut W)
     write_packets(request, &carried.packets, out)
 }
 
-/// What is said of frames that are missing.
+/// Returns what is said of frames that are missing.
 fn missing_remark(frames: u32) -> Option<Remark>
     ensures { result ≡ told.missing_remark frames }
 {
@@ -128,7 +128,7 @@ fn missing_remark(frames: u32) -> Option<Remark>
     }
 }
 
-/// What is said of a frame of idle data only.
+/// Returns what is said of a frame of idle data only.
 fn idle_remark(only_idle: bool) -> Option<Remark>
     ensures { result ≡ told.idle_remark only_idle }
 {
@@ -139,14 +139,14 @@ fn idle_remark(only_idle: bool) -> Option<Remark>
     }
 }
 
-/// What is said of a packet that is cut off.
+/// Returns what is said of a packet that is cut off.
 fn cut_remark(cut_off: bool) -> Option<Remark>
     ensures { result ≡ told.cut_remark cut_off }
 {
     if cut_off { Some(Remark::CutOff) } else { None }
 }
 
-/// What is said of bad packet headers.
+/// Returns what is said of bad packet headers.
 fn bad_remark(headers: u8) -> Option<Remark>
     ensures { result ≡ told.bad_remark headers }
 {
@@ -157,11 +157,11 @@ fn bad_remark(headers: u8) -> Option<Remark>
     }
 }
 
-/// Writes what is to be said, if anything is.
+/// Writes a remark, if there is one.
 ///
 /// # Errors
 ///
-/// That of the writer.
+/// The error of the writer, if it fails.
 fn write_said<W: Write>(request: DumpRequest, remark: Option<Remark>, out: &mut W) -> io::Result<()>
     ensures { OnOk result (WritesLines (TellsTold request) (said remark)
         (W.contents out.old) (W.contents out.new)) }
@@ -176,7 +176,7 @@ fn write_said<W: Write>(request: DumpRequest, remark: Option<Remark>, out: &mut 
 ///
 /// # Errors
 ///
-/// That of the writer.
+/// The error of the writer, if it fails.
 fn write_packets<W: Write>(
     request: DumpRequest,
     packets: &OctetStrings,
@@ -191,11 +191,11 @@ fn write_packets<W: Write>(
     Ok(())
 }
 
-/// Writes a packet, and its PDU, where it has one.
+/// Writes a packet, and its PDU, if it has one.
 ///
 /// # Errors
 ///
-/// That of the writer.
+/// The error of the writer, if it fails.
 fn write_packet<W: Write>(request: DumpRequest, packet: &[u8], out: &mut W) -> io::Result<()>
     ensures { OnOk result (WritesLines (TellsTold request) (packet_told packet.now)
         (W.contents out.old) (W.contents out.new)) }
@@ -207,7 +207,7 @@ fn write_packet<W: Write>(request: DumpRequest, packet: &[u8], out: &mut W) -> i
     }
 }
 
-/// What is said of a packet.
+/// Returns what is said of a packet.
 fn packet_remark(packet: &[u8]) -> Remark
     ensures { result ≡ told.packet_remark packet.now }
 {
@@ -222,7 +222,7 @@ fn packet_remark(packet: &[u8]) -> Remark
 ///
 /// # Errors
 ///
-/// That of the writer.
+/// The error of the writer, if it fails.
 pub(crate) fn write_remark<W: Write>(
     _request: DumpRequest,
     remark: Remark,
@@ -234,7 +234,7 @@ pub(crate) fn write_remark<W: Write>(
     writeln!(out, "{remark}")
 }
 
-/// The PDU of a packet, if it has one: if it is no segment, and has no secondary header.
+/// Returns the PDU of a packet, if it has one: if it is no segment, and has no secondary header.
 fn pdu_in(packet: &[u8]) -> Option<&[u8]>
     ensures { option_map (λ pdu. pdu.now) result ≡ told.pdu_in packet.now }
 {

@@ -60,7 +60,7 @@ impl fmt::Display for FlagField {
     }
 }
 
-/// Whether a flag is set, in a word.
+/// Returns whether a flag is set, in a word.
 fn flag_word(is_set: bool) -> &'static str
     ensures { result.now ≡ Rattle.cfdp_dump.specs.Spelled.Fields.flag_word is_set }
 {
@@ -80,7 +80,7 @@ impl fmt::Display for TextField {
 }
 
 /// Octets in hexadecimal digits: the field's name, these, and the section of the standard. Nothing
-/// where there are none.
+/// if there are none.
 #[derive(Clone, Copy)]
 pub struct PartField<'a>(pub &'static str, pub &'a [u8], pub &'static str);
 

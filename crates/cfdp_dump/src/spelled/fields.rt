@@ -78,14 +78,14 @@ impl fmt::Display for PduFields<'_> {
     }
 }
 
-/// The octets behind so many.
+/// Returns the octets after the first `count`.
 fn octets_behind(octets: &[u8], count: usize) -> &[u8]
     ensures { result.now ≡ drop count octets.now }
 {
     octets.get(count..).unwrap_or(&[])
 }
 
-/// The octet there, 0 behind the end.
+/// Returns the octet at an index, or 0 after the end.
 fn octet_at(octets: &[u8], at: usize) -> u8
     ensures { result ≡ fields.octet_at octets.now at }
 {
@@ -95,7 +95,7 @@ fn octet_at(octets: &[u8], at: usize) -> u8
     }
 }
 
-/// What every header has in its first four octets, but for the lengths of the ids.
+/// What every header has in its first four octets, except for the lengths of the ids.
 #[derive(Clone, Copy)]
 struct FixedFields<'a> {
     header: Header,
@@ -146,7 +146,7 @@ impl fmt::Display for IdFields {
     }
 }
 
-/// What this PDU type is.
+/// Returns what this PDU type is.
 fn type_word(kind: PduType) -> &'static str
     ensures { result.now ≡ fields.type_word kind }
 {
@@ -156,7 +156,7 @@ fn type_word(kind: PduType) -> &'static str
     }
 }
 
-/// Where PDUs of this direction go.
+/// Returns which end PDUs of this direction go to.
 fn direction_word(direction: Direction) -> &'static str
     ensures { result.now ≡ fields.direction_word direction }
 {
@@ -166,10 +166,10 @@ fn direction_word(direction: Direction) -> &'static str
     }
 }
 
-/// What a PDU says, but for its options.
+/// What a PDU says, except for its options.
 #[derive(Clone, Copy)]
 struct ContentFields<'a> {
-    /// Whether segment metadata stand in front of file data.
+    /// Whether segment metadata stand before file data.
     segmented: bool,
     pdu: &'a Pdu<'a>,
     /// The octets of the data field.
@@ -211,7 +211,7 @@ impl fmt::Display for ContentFields<'_> {
     }
 }
 
-/// Segment metadata in front of file data, where there are some.
+/// Segment metadata before file data, if there are some.
 #[derive(Clone, Copy)]
 struct SegmentFields {
     present: bool,
@@ -381,7 +381,7 @@ impl fmt::Display for PromptFields {
     }
 }
 
-/// The directive that an ACK acknowledges.
+/// Returns the directive that an ACK acknowledges.
 fn acknowledged_word(of: Acknowledged) -> &'static str
     ensures { result.now ≡ fields.acknowledged_word of }
 {
@@ -391,7 +391,7 @@ fn acknowledged_word(of: Acknowledged) -> &'static str
     }
 }
 
-/// What an ACK says of its transaction.
+/// Returns what an ACK says of its transaction.
 fn transaction_word(status: TransactionStatus) -> &'static str
     ensures { result.now ≡ fields.transaction_word status }
 {
@@ -403,7 +403,7 @@ fn transaction_word(status: TransactionStatus) -> &'static str
     }
 }
 
-/// The options of a PDU, and in front of them the entity that the first fault location names.
+/// The options of a PDU, and before them the entity that the first fault location names.
 #[derive(Clone, Copy)]
 struct OptionFields<'a>(&'a Pdu<'a>);
 
@@ -528,7 +528,7 @@ impl fmt::Display for FrameFieldLines<'_> {
     }
 }
 
-/// Whose a frame is, as its primary header says.
+/// The spacecraft and the channel of a frame, as its primary header says.
 #[derive(Clone, Copy)]
 struct ChannelFields(FrameHeader);
 
@@ -546,7 +546,7 @@ impl fmt::Display for ChannelFields {
     }
 }
 
-/// The count of a frame, and the flags behind it, which end its primary header.
+/// The count of a frame, and the flags after it, which end its primary header.
 #[derive(Clone, Copy)]
 struct CountFields(FrameHeader);
 
@@ -580,7 +580,7 @@ impl fmt::Display for ZoneFields {
     }
 }
 
-/// The insert zone of a frame, in front of its M_PDU, where it has one.
+/// The insert zone of a frame, before its M_PDU, if it has one.
 #[derive(Clone, Copy)]
 struct InsertField<'a>(&'a [u8]);
 
@@ -592,7 +592,7 @@ impl fmt::Display for InsertField<'_> {
     }
 }
 
-/// The fields of a frame behind its M_PDU, where it has them.
+/// The fields of a frame after its M_PDU, if it has them.
 #[derive(Clone, Copy)]
 struct BehindFields<'a>(FrameParts<'a>);
 
@@ -607,7 +607,7 @@ impl fmt::Display for BehindFields<'_> {
     }
 }
 
-/// What a first header pointer says.
+/// Returns what a first header pointer says.
 fn pointer_word(pointer: u16) -> &'static str
     ensures { result.now ≡ fields.pointer_word pointer }
 {

@@ -1,14 +1,14 @@
-//! How much a dump tells.
+//! How much a dump shows.
 ghost use Rattle.std.specs.Prelude.{◌≡◌};
 ghost use Rattle.cfdp_dump.specs.Spelled.Told.{end_of};
 ghost use Rattle.cfdp_dump.specs.Spelled.Refusal as refusals;
 
-/// How a dump tells a PDU or a frame.
+/// How a dump shows a PDU or a frame.
 #[derive(Clone, Copy)]
 pub enum DumpForm {
     /// In a short line.
     Short,
-    /// In a line that tells also what a short one leaves out.
+    /// In a line that also shows what a short one leaves out.
     Long,
     /// Field by field, one a line, with an empty line at the end.
     Fields,
@@ -25,7 +25,7 @@ impl DumpForm {
         }
     }
 
-    /// What stands behind all that is told of one PDU or frame, in front of the end of its last
+    /// Returns what stands after all that is shown of one PDU or frame, before the end of its last
     /// line.
     pub fn end(self) -> &'static str
         ensures { result.now ≡ end_of self }

@@ -17,7 +17,7 @@ use cfdp_header::{Direction, Header, TransactionId};
 use cfdp_report::{HexNumber, Id, Name, delivery_word, hex_digit, status_word};
 use std::fmt;
 
-/// A PDU as a dump tells it.
+/// A PDU as a dump shows it.
 #[derive(Clone, Copy)]
 pub struct DumpedPdu<'a> {
     pub header: Header,
@@ -57,7 +57,7 @@ impl fmt::Display for DumpedPdu<'_> {
     }
 }
 
-/// The CRC at the end of a PDU, if it has one.
+/// Returns the CRC at the end of a PDU, if it has one.
 pub fn crc_octets(header: Header, octets: &[u8]) -> &[u8]
     ensures { result.now ≡ shapes.crc_octets header octets.now }
 {
@@ -81,7 +81,7 @@ impl fmt::Display for PduLine<'_> {
     }
 }
 
-/// The word for this kind of PDU.
+/// Returns the word for this kind of PDU.
 fn pdu_word(pdu: &Pdu<'_>) -> &'static str
     ensures { result.now ≡ Rattle.cfdp_dump.specs.Spelled.Lines.pdu_word pdu.now }
 {
@@ -175,8 +175,8 @@ impl fmt::Display for Ranges<'_> {
     }
 }
 
-/// What a long line has behind a short one: where the PDU goes, whether its file is large, and its
-/// options.
+/// What a long line has after a short one: which end the PDU goes to, whether its file is large,
+/// and its options.
 #[derive(Clone, Copy)]
 struct LongPart<'a> {
     header: Header,
@@ -197,7 +197,7 @@ impl fmt::Display for LongPart<'_> {
     }
 }
 
-/// The word for the end of a transaction that a PDU goes to.
+/// Returns the word for the end of a transaction that a PDU goes to.
 fn end_word(direction: Direction) -> &'static str
     ensures { result.now ≡ Rattle.cfdp_dump.specs.Spelled.Lines.end_word direction }
 {
@@ -207,14 +207,14 @@ fn end_word(direction: Direction) -> &'static str
     }
 }
 
-/// The word for a PDU of a large file, with a space before it.
+/// Returns the word for a PDU of a large file, with a space before it.
 fn large_word(large: bool) -> &'static str
     ensures { result.now ≡ Rattle.cfdp_dump.specs.Spelled.Lines.large_word large }
 {
     if large { " large" } else { "" }
 }
 
-/// The entity that a PDU names as the one at which a fault was found.
+/// Returns the entity that a PDU names as the one at which a fault was found.
 pub fn fault_location(pdu: &Pdu<'_>) -> Option<u64>
     ensures { result ≡ location_of (options_of pdu.now) }
 {
@@ -317,7 +317,7 @@ impl fmt::Display for HexOctet {
     }
 }
 
-/// A frame as a dump tells it.
+/// A frame as a dump shows it.
 #[derive(Clone, Copy)]
 pub struct DumpedFrame<'a> {
     pub frame: FrameLine,
@@ -351,7 +351,7 @@ impl fmt::Display for DumpedFrame<'_> {
     }
 }
 
-/// The fields of a frame beside its M_PDU; no octets where it lacks one.
+/// The fields of a frame beside its M_PDU; no octets if it lacks one.
 #[derive(Clone, Copy)]
 pub struct FrameParts<'a> {
     /// The insert zone.
@@ -382,8 +382,8 @@ impl fmt::Display for FrameWords<'_> {
     }
 }
 
-/// Octets of a part in hexadecimal digits, behind a word with spaces around it; nothing where there
-/// are none.
+/// Octets of a part in hexadecimal digits, after a word with spaces around it; nothing if there are
+/// none.
 #[derive(Clone, Copy)]
 struct PartWords<'a>(&'static str, &'a [u8]);
 
@@ -399,8 +399,8 @@ impl fmt::Display for PartWords<'_> {
     }
 }
 
-/// The word for the lane of a virtual channel, with a space before it, where it is one of those
-/// that scripts use, and stations that aren't told others.
+/// Returns the word for the lane of a virtual channel, with a space before it, if it is one that
+/// scripts use, and stations that aren't set to others.
 fn lane_word(channel: u8) -> &'static str
     ensures { result.now ≡ Rattle.cfdp_dump.specs.Spelled.Lines.lane_word channel }
 {
@@ -413,7 +413,7 @@ fn lane_word(channel: u8) -> &'static str
     }
 }
 
-/// The word for a frame whose count has 28 bits, with a space before it.
+/// Returns the word for a frame whose count has 28 bits, with a space before it.
 fn cycle_word(cycle: bool) -> &'static str
     ensures { result.now ≡ Rattle.cfdp_dump.specs.Spelled.Lines.cycle_word cycle }
 {

@@ -58,11 +58,11 @@ pub struct FrameRefusal {
     pub shape: FrameShape,
     /// How many octets there are.
     pub count: usize,
-    /// How it is told.
+    /// How it is shown.
     pub form: DumpForm,
 }
 
-/// Says why they are none. If details are told, a refused length comes with how many octets there
+/// Says why they are none. If details are shown, a refused length comes with how many octets there
 /// are and how many such a frame has.
 impl fmt::Display for FrameRefusal {
     ghost use Rattle.cfdp_dump.specs.Spelled.Refusal.{frame_fault_text};
@@ -80,7 +80,7 @@ impl fmt::Display for FrameRefusal {
     }
 }
 
-/// Whether a frame is refused for its length.
+/// Returns `true` if a frame is refused for its length.
 fn is_length(error: FrameError) -> bool
     ensures { result ≡ Rattle.cfdp_dump.specs.Spelled.Refusal.is_length error }
 {

@@ -6,17 +6,17 @@ use aos_frame::{FrameFields, HEADER_LEN, LinkConfig};
 use mpdu::MPDU_HEADER_LEN;
 use station_pair::{Side, WorldConfig};
 
-/// What the frames of one direction of a link have behind their header.
+/// What the frames of one direction of a link have after their header.
 #[derive(Clone, Copy)]
 pub struct FrameShape {
-    /// The octets of the packet zone, 16 to 2,040.
+    /// The octets of the packet zone, which must be 16 to 2,040.
     pub zone: u16,
-    /// The fields beside the M_PDU. An insert zone has up to 64 octets.
+    /// The fields beside the M_PDU. An insert zone must have at most 64 octets.
     pub fields: FrameFields,
 }
 
 impl FrameShape {
-    /// The frames of a link.
+    /// Returns the frames of a link.
     pub fn of(link: LinkConfig) -> FrameShape
         ensures { result ≡ shapes.shape_of link }
     {
@@ -26,7 +26,7 @@ impl FrameShape {
         }
     }
 
-    /// The octets of a whole frame.
+    /// Returns the octets of a whole frame.
     pub fn frame_len(self) -> usize
         ensures { result ≡ shapes.frame_len self }
     {
@@ -44,7 +44,7 @@ pub struct FrameShapes {
 }
 
 impl FrameShapes {
-    /// The frames of two stations with this configuration.
+    /// Returns the frames of two stations with this configuration.
     pub fn of(config: &WorldConfig) -> FrameShapes
         ensures { result ≡ shapes.shapes_of config.now }
     {
@@ -54,7 +54,7 @@ impl FrameShapes {
         }
     }
 
-    /// The frames that this station sends.
+    /// Returns the frames that this station sends.
     pub fn sent_by(self, side: Side) -> FrameShape
         ensures { result ≡ shapes.shape_from self side }
     {

@@ -1,4 +1,4 @@
--- What the log of a station has of each thing that it is told.
+-- What the log of a station has of each thing that it is given.
 use Rattle.std.specs.Prelude.{◌≡◌, ℕ, List, [], ◌∷◌, ◌++◌, codes, decimal, Option, None, Some}
 use Rattle.std.specs.Io.KnownBytes.{Appends}
 use Rattle.cfdp_directives.specs.declared.user.indication.Indication.{Indication}
@@ -19,7 +19,7 @@ abbrev pub refusal_answer : PutError → Answer
 refusal_answer NoMemory = Ended (Settle settling.NoMemory)
 refusal_answer by = Refused (Put by)
 
--- what a log is told: how a put was answered, by its number; what the station indicated; at the
+-- what a log is given: how a put was answered, by its number; what the station indicated; at the
 -- end, of how many files how many were sent; or what stands in no report
 pub data Entry : Type 0 where
   Answers : (number : ℕ) → Option Answer → Entry
@@ -41,7 +41,7 @@ answer_body number answer = codes "line " ++ decimal number ++ codes " " ++ answ
 abbrev pub count_body : (complete asked : ℕ) → List ℕ
 count_body complete asked = codes "complete " ++ decimal complete ++ codes " of " ++ decimal asked
 
--- A line, which was made of this, has something in front of it and something behind it.
+-- A line, which was made of this, has something before it and something after it.
 pub record IsDressed (body line : List ℕ) : Type 0 where
   pub front : List ℕ
   pub behind : List ℕ
@@ -53,7 +53,7 @@ pub record WritesDressed (body : List ℕ) (old new : Option (List ℕ)) : Type 
   pub dressed : IsDressed body line
   pub written : Appends old new line
 
--- In text an entry's line is written, where it has one, with the time in front and names behind.
+-- In text an entry's line is written, if it has one, with the time in front and names after.
 abbrev pub WritesText : (own : ℕ) → Entry → (old new : Option (List ℕ)) → Type 0
 WritesText own (Answers number None) old new = Unit {0}
 WritesText own (Answers number (Some answer)) old new =

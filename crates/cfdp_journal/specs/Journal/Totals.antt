@@ -9,12 +9,12 @@ use Rattle.cfdp_entity.specs.declared.error.PutError.TheVariants.{NoMemory}
 use Rattle.cfdp_report.specs.declared.exit.Exit.{Exit}
 use Rattle.cfdp_report.specs.declared.exit.Exit.TheVariants.{Complete, Incomplete}
 
--- a count with one more, where it is counted; it stays at its greatest value
+-- a count with one more, if it is counted; it stays at its greatest value
 abbrev pub counted : Bool → ℕ → ℕ
 counted true count = min (count + 1) (2 ^ 64 - 1)
 counted false count = count
 
--- whether a put was refused, and whether that was for want of memory
+-- whether a put was refused, and whether that was because memory ran out
 abbrev pub is_refused : Result TransactionId PutError → Bool
 is_refused (Ok id) = false
 is_refused (Err by) = true
@@ -34,7 +34,14 @@ is_failed_reception own (Finished id condition delivery status) =
 is_failed_reception own (Abandoned id condition) = not (id.source == own)
 is_failed_reception own _ = false
 
--- how a run ended, where so many files weren't received
+-- whether by this a transaction of the entity itself is over, and the peer doesn't have its file
+abbrev pub is_failed_send : (own : ℕ) → Indication → Bool
+is_failed_send own (Finished id condition delivery status) =
+    id.source == own && not (is_complete condition delivery status)
+is_failed_send own (Abandoned id condition) = id.source == own
+is_failed_send own _ = false
+
+-- how a run ended, if so many files weren't received
 abbrev pub with_failures : (failed : ℕ) → Exit → Exit
 with_failures failed Complete = if failed == 0 then Complete else Incomplete
 with_failures failed exit = exit

@@ -9,9 +9,9 @@ use Rattle.cfdp_service.specs.declared.wish.Reply.TheVariants.{Put, Change}
 use Rattle.cfdp_journal.specs.declared.journal.style.Style.{Style}
 use Rattle.cfdp_journal.specs.declared.journal.totals.Totals.{Totals}
 use Rattle.cfdp_journal.specs.Journal.Lines.{Entry, Answers, Notes, WritesAs, refusal_answer}
-use Rattle.cfdp_journal.specs.Journal.Totals.{counted, is_failed_reception, is_refused, is_short}
+use Rattle.cfdp_journal.specs.Journal.Totals.{counted, is_failed_reception, is_failed_send, is_refused, is_short}
 
--- whose log it is and how it is written; what was written so far, where that is known; whether the
+-- whose log it is and how it is written; what was written so far, if that is known; whether the
 -- writer has failed; and what was done, in numbers
 pub record JournalState : Type 0 where
   pub own : ℕ
@@ -20,7 +20,7 @@ pub record JournalState : Type 0 where
   pub has_failed : Bool
   pub totals : Totals
 
--- This was told: it is written, unless the writer has failed.
+-- This was given: it must be written, unless the writer has failed.
 pub record Logs (entry : Entry) (old new : JournalState) : Type 0 where
   pub own : new.own ≡ old.own
   pub style : new.style ≡ old.style
@@ -28,7 +28,7 @@ pub record Logs (entry : Entry) (old new : JournalState) : Type 0 where
   pub written : new.has_failed ≡ false
       → WritesAs old.own old.style entry old.written new.written
 
--- a log in which nothing was told yet, with these totals
+-- a log to which nothing was given yet, with these totals
 abbrev pub begins : (own : ℕ) → Style → Option (List ℕ) → Totals → JournalState
 begins own style out none = record {
   own = own;
@@ -47,19 +47,21 @@ pub record CountsPut (answer : Result TransactionId PutError) (again : Bool) (ol
     pub short : new.is_short ≡ (old.is_short || is_short answer)
     pub complete : new.complete ≡ old.complete
     pub failed : new.failed ≡ old.failed
+    pub sends : new.sends_failed ≡ old.sends_failed
 
--- What the station `own` indicated was counted, of a transaction that was told to be over before or
+-- What the station `own` indicated was counted, of a transaction that was reported over before or
 -- wasn't.
 pub record CountsTold (own : ℕ) (told : Indication) (old new : Totals) : Type 0 where
   pub over : Bool
   pub complete : new.complete ≡ counted (is_own_completion own told) old.complete
   pub failed : new.failed ≡ counted (not over && is_failed_reception own told) old.failed
+  pub sends : new.sends_failed ≡ counted (not over && is_failed_send own told) old.sends_failed
   pub made : new.made ≡ old.made
   pub asked : new.asked ≡ old.asked
   pub refused : new.refused ≡ old.refused
   pub short : new.is_short ≡ old.is_short
 
--- How a put was answered was told: it is counted, and a line has it where it was refused. What is
+-- How a put was answered was given: it is counted, and a line has it if it was refused. What is
 -- no answer to a put changes nothing.
 abbrev pub AnswersPut : Reply → (again : Bool) → (old new : JournalState) → Type 0
 AnswersPut (Put (Ok id)) again old new =

@@ -4,9 +4,10 @@
 //! upper-case hexadecimal digits for `%` and for each octet that is no visible ASCII character, so
 //! any octets come back from it; of the others, those that mean something in JSON or in markup are
 //! escaped.
-use crate::journal::meaning::{condition_words, delivery_word, status_word};
+use crate::journal::meaning::{condition_name, condition_words, delivery_word, status_word};
 use crate::journal::style::Log;
 use cfdp_directives::{Condition, Indication};
+use cfdp_exchange::Note;
 use cfdp_header::TransactionId;
 use cfdp_report::Name;
 use cfdp_service::PutNames;
@@ -44,8 +45,42 @@ impl fmt::Display for JsonOctet {
     }
 }
 
-/// Writes the object of what a station tells its user, with the names of the transaction's file
-/// where they are known.
+/// A text as the log for people prints it: each octet as in a name, and spaces as they are.
+#[derive(Clone, Copy)]
+pub struct PlainText<'a>(pub &'a [u8]);
+
+impl fmt::Display for PlainText<'_> {
+    fn fmt<W: fmt::Write>(&self, f: &mut fmt::Formatter<W>) -> fmt::Result {
+        for octet in self.0 {
+            match octet {
+                b' ' => write!(f, " ")?,
+                octet => write!(f, "{}", Name(slice::from_ref(octet)))?,
+            }
+        }
+        Ok(())
+    }
+}
+
+/// A text as a string of JSON, with its quotes.
+#[derive(Clone, Copy)]
+pub struct JsonText<'a>(pub &'a [u8]);
+
+impl fmt::Display for JsonText<'_> {
+    fn fmt<W: fmt::Write>(&self, f: &mut fmt::Formatter<W>) -> fmt::Result {
+        write!(f, "\"")?;
+        for octet in self.0 {
+            match octet {
+                b' ' => write!(f, " ")?,
+                octet => write!(f, "{}", JsonOctet(*octet))?,
+            }
+        }
+        write!(f, "\"")
+    }
+}
+
+/// Writes the object of what a station indicates to its user, with the names of the transaction's
+/// file
+/// if they are known.
 ///
 /// # Errors
 ///
@@ -86,8 +121,8 @@ pub fn write_indication_object<V: Write>(
     end_with_names(out, indication, names)
 }
 
-/// Ends the object of an indication with the names of the file: those that it tells itself, or
-/// else those that are known.
+/// Ends the object of an indication with the names of the file: those that it has itself, or
+/// otherwise those that are known.
 fn end_with_names<V: Write>(
     out: &mut V,
     indication: &Indication,
@@ -144,7 +179,7 @@ pub fn write_change_object<V: Write>(
     end_object(out)
 }
 
-/// Writes the object of what became of a file that lay in a spool, and why, where that is known.
+/// Writes the object of what became of a file that lay in a spool, and why, if that is known.
 ///
 /// # Errors
 ///
@@ -168,6 +203,30 @@ pub fn write_file_object<V: Write, D: fmt::Display + Drop>(
     end_object(out)
 }
 
+/// Writes the object of a note for the operator, with the names of its
+/// transaction's file if they are known.
+///
+/// # Errors
+///
+/// That of the writer.
+pub fn write_note_object<V: Write>(
+    out: &mut V,
+    log: Log<'_>,
+    note: &Note,
+    names: Option<&PutNames>,
+) -> io::Result<()> {
+    match note.id {
+        Some(id) => write_event(out, log, note.kind.word(), id)?,
+        None => begin_object(out, log, note.kind.word())?,
+    }
+    let (topic, text) = (note.topic.name(), JsonText(note.text.as_bytes()));
+    write!(out, ",\"topic\":\"{topic}\",\"text\":{text}")?;
+    if let Some(names) = names {
+        write_names(out, names.source.as_slice(), names.destination.as_slice())?;
+    }
+    end_object(out)
+}
+
 /// Writes the last object: how many of how many files were sent.
 ///
 /// # Errors
@@ -184,7 +243,7 @@ pub fn write_count_object<V: Write>(
     end_object(out)
 }
 
-/// Begins an object: the time, where it is to have one, the station, and what happened.
+/// Begins an object: the time, if it must have one, the station, and what happened.
 ///
 /// # Errors
 ///
@@ -226,8 +285,12 @@ fn write_fault<V: Write>(
     condition: Condition,
 ) -> io::Result<()> {
     write_event(out, log, event, id)?;
-    let (code, words) = (condition.code(), condition_words(condition));
-    write!(out, ",\"condition\":{code},\"meaning\":\"{words}\"")
+    let (code, name) = (condition.code(), condition_name(condition));
+    let words = condition_words(condition);
+    write!(
+        out,
+        ",\"condition\":{code},\"condition_name\":\"{name}\",\"meaning\":\"{words}\""
+    )
 }
 
 /// Writes the names of a file into an object.

@@ -2,7 +2,9 @@
 ghost use Rattle.std.specs.Io.KnownBytes.{Appends};
 ghost use Rattle.std.specs.Prelude.{◌≡◌, ◌-◌, ◌++◌, ◌∷◌, [], ℕ, List, OnOk, length, take};
 
+use crate::journal::meaning::condition_name;
 use crate::journal::style::Log;
+use cfdp_directives::Condition;
 use cfdp_report::Name;
 use cfdp_service::PutNames;
 use std::io;
@@ -12,7 +14,7 @@ use std::io::Write;
 /// of all counters at the end.
 pub const LINE_ROOM: usize = 4096;
 
-/// Adds the time and a space, where there is a time.
+/// Adds the time and a space, if there is a time.
 ///
 /// # Errors
 ///
@@ -24,34 +26,61 @@ pub fn add_time(line: &mut Vec<u8>, log: Log<'_>) -> io::Result<()> {
     }
 }
 
-/// Puts the names of a file behind a line that is ended already, where they are known.
+/// Puts the names of a file after a line that is ended already, if they are known, and the name of
+/// a condition in parentheses, if there is one.
 ///
 /// # Errors
 ///
 /// `OutOfMemory`.
-pub fn add_names(line: &mut Vec<u8>, names: Option<&PutNames>) -> io::Result<()>
+pub fn add_names(
+    line: &mut Vec<u8>,
+    names: Option<&PutNames>,
+    condition: Option<Condition>,
+) -> io::Result<()>
     ensures { OnOk result ((behind : List ℕ) × (line.new.items
         ≡ take (length line.old.items - 1) line.old.items ++ behind ++ 10 ∷ [])) }
 {
     let front = line.len().saturating_sub(1);
     line.truncate(front);
-    write_names(line, names)?;
+    write_behind(line, names, condition)?;
     write!(line, "\n")
 }
 
-/// Writes the names of a file, each behind a space, where they are known.
+/// Writes the names of a file, each after a space, and a condition.
 ///
 /// # Errors
 ///
 /// `OutOfMemory`.
-fn write_names(line: &mut Vec<u8>, names: Option<&PutNames>) -> io::Result<()>
+fn write_behind(
+    line: &mut Vec<u8>,
+    names: Option<&PutNames>,
+    condition: Option<Condition>,
+) -> io::Result<()>
     ensures { OnOk result ((behind : List ℕ) × (line.new.items ≡ line.old.items ++ behind)) }
 {
-    let Some(names) = names else {
-        return Ok(());
-    };
+    match (names, condition) {
+        (None, None) => Ok(()),
+        (None, Some(condition)) => write!(line, " ({})", condition_name(condition)),
+        (Some(names), condition) => write_names(line, names, condition),
+    }
+}
+
+/// Writes the names of a file, each after a space, and a condition.
+///
+/// # Errors
+///
+/// `OutOfMemory`.
+fn write_names(line: &mut Vec<u8>, names: &PutNames, condition: Option<Condition>) -> io::Result<()>
+    ensures { OnOk result ((behind : List ℕ) × (line.new.items ≡ line.old.items ++ behind)) }
+{
     let (source, destination) = (names.source.as_slice(), names.destination.as_slice());
-    write!(line, " {} {}", Name(source), Name(destination))
+    match condition {
+        None => write!(line, " {} {}", Name(source), Name(destination)),
+        Some(condition) => {
+            let name = condition_name(condition);
+            write!(line, " {} {} ({name})", Name(source), Name(destination))
+        }
+    }
 }
 
 /// Writes a line that is made.

@@ -1,7 +1,7 @@
 //! Codes of the standard in words.
 use cfdp_directives::{Condition, Delivery, FileStatus, Phase};
 
-/// What a condition says (CCSDS 727.0-B-5, table 5-5).
+/// Returns what a condition says (CCSDS 727.0-B-5, table 5-5).
 pub fn condition_words(condition: Condition) -> &'static str {
     match condition.code() {
         0 => "no error",
@@ -21,7 +21,33 @@ pub fn condition_words(condition: Condition) -> &'static str {
     }
 }
 
-/// The word for a delivery code.
+/// Returns the standard's name of a condition, in one word (CCSDS 727.0-B-5, table 5-5).
+pub fn condition_name(condition: Condition) -> &'static str {
+    name_of_code(condition.code())
+}
+
+/// Returns the standard's name of the condition of this code, in one word.
+pub fn name_of_code(code: u8) -> &'static str {
+    match code {
+        0 => "NO_ERROR",
+        1 => "POSITIVE_ACK_LIMIT_REACHED",
+        2 => "KEEP_ALIVE_LIMIT_REACHED",
+        3 => "INVALID_TRANSMISSION_MODE",
+        4 => "FILESTORE_REJECTION",
+        5 => "FILE_CHECKSUM_FAILURE",
+        6 => "FILE_SIZE_ERROR",
+        7 => "NAK_LIMIT_REACHED",
+        8 => "INACTIVITY_DETECTED",
+        9 => "INVALID_FILE_STRUCTURE",
+        10 => "CHECK_LIMIT_REACHED",
+        11 => "UNSUPPORTED_CHECKSUM_TYPE",
+        14 => "SUSPEND_REQUEST_RECEIVED",
+        15 => "CANCEL_REQUEST_RECEIVED",
+        _ => "RESERVED",
+    }
+}
+
+/// Returns the word for a delivery code.
 pub fn delivery_word(delivery: Delivery) -> &'static str {
     match delivery {
         Delivery::Complete => "complete",
@@ -29,7 +55,7 @@ pub fn delivery_word(delivery: Delivery) -> &'static str {
     }
 }
 
-/// The word for a file status.
+/// Returns the word for a file status.
 pub fn status_word(status: FileStatus) -> &'static str {
     match status {
         FileStatus::Discarded => "discarded",
@@ -39,7 +65,7 @@ pub fn status_word(status: FileStatus) -> &'static str {
     }
 }
 
-/// The word for how far a transaction has come.
+/// Returns the word for how far a transaction has come.
 pub fn phase_word(phase: Phase) -> &'static str {
     match phase {
         Phase::Sending => "sending",

@@ -1,9 +1,10 @@
 //! What an operator asks of a station: its open transactions, and its counters.
 use crate::journal::json::JsonName;
-use crate::journal::meaning::phase_word;
-use crate::journal::register::{Known, Register, is_open};
+use crate::journal::meaning::{name_of_code, phase_word};
+use crate::journal::noted::NotedTopics;
+use crate::journal::register::{Known, Register};
 use crate::journal::stopped::Stopped;
-use crate::journal::totals::Totals;
+use crate::journal::totals::{CONDITIONS, Failures, Totals};
 use cfdp_console::Way;
 use cfdp_exchange::{Exchange, REFUSALS, refusal_name};
 use cfdp_header::TransactionId;
@@ -29,8 +30,22 @@ pub struct Waiting {
     pub files: usize,
     /// What the station doesn't do now.
     pub stopped: Option<Stopped>,
-    /// The time now, in units of the clock that the station is told.
+    /// The time now, in units of the clock that the station is given.
     pub now: u64,
+    /// After how many units without a PDU the peer gives a transaction up, if it is set as this
+    /// station is.
+    pub inactivity: u64,
+}
+
+/// What the counters are made of, besides what the station counts itself.
+#[derive(Clone, Copy)]
+pub struct Figures<'a> {
+    /// What was done for the user.
+    pub totals: &'a Totals,
+    /// What passed over the link.
+    pub exchange: &'a Exchange,
+    /// What the operator was told.
+    pub noted: &'a NotedTopics,
 }
 
 /// A transaction that is open, and how far it has come.
@@ -51,6 +66,34 @@ struct NextTimer {
     left: u64,
 }
 
+/// Returns in how many units of the clock the peer gives a suspended transaction up, if no
+/// PDU is received; `None` if it isn't suspended.
+fn peer_gives_up(known: Option<&Known>, clock: Clock) -> Option<u64> {
+    let known = known?;
+    if known.is_over {
+        return None;
+    }
+    let deadline = known.suspended_at?.saturating_add(clock.inactivity);
+    Some(deadline.saturating_sub(clock.now))
+}
+
+/// The time now, and after how long without a PDU the peer gives a transaction up, both in units of
+/// the station's clock.
+#[derive(Clone, Copy)]
+pub struct Clock {
+    pub now: u64,
+    pub inactivity: u64,
+}
+
+impl Waiting {
+    fn clock(&self) -> Clock {
+        Clock {
+            now: self.now,
+            inactivity: self.inactivity,
+        }
+    }
+}
+
 /// All timers of a transaction, in the order in which those of one deadline expire.
 const TIMERS: [Timer; 4] = [
     Timer::EofAck,
@@ -59,8 +102,8 @@ const TIMERS: [Timer; 4] = [
     Timer::Inactivity,
 ];
 
-/// The word for what a timer waits for.
-fn timer_word(timer: Timer) -> &'static str {
+/// Returns the word for what a timer waits for.
+pub fn timer_word(timer: Timer) -> &'static str {
     match timer {
         Timer::EofAck => "eof-ack",
         Timer::Nak => "nak",
@@ -69,7 +112,7 @@ fn timer_word(timer: Timer) -> &'static str {
     }
 }
 
-/// The timer of a transaction that expires next; `None` where none is armed.
+/// The timer of a transaction that expires next; `None` if none is armed.
 fn next_timer<O: Outbox, I: Inbox>(
     station: &Station<O, I>,
     id: TransactionId,
@@ -95,7 +138,7 @@ fn next_timer<O: Outbox, I: Inbox>(
 ///
 /// # Errors
 ///
-/// That of the writer, and an error where there is no memory.
+/// That of the writer, and an error if there is no memory.
 pub fn write_list<O: Outbox, I: Inbox, W: fmt::Write>(
     alloc: Global,
     out: &mut W,
@@ -134,38 +177,38 @@ fn open_transactions<O: Outbox, I: Inbox>(
 /// The most transactions that are shown in a console at once.
 const MOST_SHOWN: usize = 64;
 
-/// The transactions that are open, in order of their ids, as the console of the entity
+/// Returns the transactions that are open, in order of their ids, as the console of the entity
 /// `own` shows them: the first 64.
 ///
 /// # Errors
 ///
-/// `AllocError` where there is no memory for them.
+/// `AllocError` if there is no memory for them.
 pub fn shown_open<O: Outbox, I: Inbox>(
     alloc: Global,
     register: &Register,
     station: &Station<O, I>,
-    now: u64,
+    clock: Clock,
     own: u64,
 ) -> Result<Vec<cfdp_console::Open>, AllocError> {
     let mut shown = Vec::new(alloc);
     for (id, phase) in open_ids(alloc, station)?.iter().take(MOST_SHOWN) {
-        let open = open_at(station, *id, *phase, now);
-        shown.push(shown_one(alloc, own, open, register.get(*id))?)?;
+        let open = open_at(station, *id, *phase, clock.now);
+        shown.push(shown_one(alloc, own, open, register.get(*id), clock)?)?;
     }
     Ok(shown)
 }
 
-/// The transaction of this id, which is a word as `1:7`, as the console of the entity `own` shows
-/// it; nothing where none is open.
+/// Returns the transaction of this id, which is a word as `1:7`, as the console of the entity `own`
+/// shows it; the vector is empty if none is open.
 ///
 /// # Errors
 ///
-/// `AllocError` where there is no memory for it.
+/// `AllocError` if there is no memory for it.
 pub fn shown_alone<O: Outbox, I: Inbox>(
     alloc: Global,
     register: &Register,
     station: &Station<O, I>,
-    now: u64,
+    clock: Clock,
     own: u64,
     word: &[u8],
 ) -> Result<Vec<cfdp_console::Open>, AllocError> {
@@ -174,8 +217,8 @@ pub fn shown_alone<O: Outbox, I: Inbox>(
         && let Some(phase) = station.phase(id)
         && phase != Phase::Closed
     {
-        let open = open_at(station, id, phase, now);
-        shown.push(shown_one(alloc, own, open, register.get(id))?)?;
+        let open = open_at(station, id, phase, clock.now);
+        shown.push(shown_one(alloc, own, open, register.get(id), clock)?)?;
     }
     Ok(shown)
 }
@@ -216,6 +259,7 @@ fn shown_one(
     own: u64,
     open: Open,
     known: Option<&Known>,
+    clock: Clock,
 ) -> Result<cfdp_console::Open, AllocError> {
     let (source, destination) = match known.and_then(|known| known.names.as_ref()) {
         Some(names) => (
@@ -238,10 +282,12 @@ fn shown_one(
         octets: open.progress,
         is_suspended: is_suspended(known),
         waits_for: waits_for(open, is_suspended(known)),
+        deadline: peer_gives_up(known, clock),
+        began: known.and_then(|known| known.began),
     })
 }
 
-/// What a transaction waits for, in words; empty where it waits for its turn alone.
+/// What a transaction waits for, in words; empty if it waits for its turn alone.
 fn waits_for(open: Open, is_suspended: bool) -> &'static str {
     if is_suspended {
         return "resume";
@@ -296,13 +342,18 @@ fn write_lines<W: fmt::Write>(
         writeln!(out, "{stopped}")?;
     }
     for it in open {
-        write_line(out, *it, register.get(it.id))?;
+        write_line(out, *it, register.get(it.id), waiting.clock())?;
     }
     Ok(())
 }
 
 /// Writes the line of a transaction.
-fn write_line<W: fmt::Write>(out: &mut W, open: Open, known: Option<&Known>) -> fmt::Result {
+fn write_line<W: fmt::Write>(
+    out: &mut W,
+    open: Open,
+    known: Option<&Known>,
+    clock: Clock,
+) -> fmt::Result {
     let Open {
         id,
         phase,
@@ -326,15 +377,15 @@ fn write_line<W: fmt::Write>(out: &mut W, open: Open, known: Option<&Known>) -> 
     if let Some(held) = known.and_then(|known| known.held) {
         write!(out, " held {held}")?;
     }
-    if is_suspended(known) {
-        write!(out, " suspended")?;
+    if let Some(left) = peer_gives_up(known, clock) {
+        write!(out, " suspended peer-gives-up {left}")?;
     }
     writeln!(out)
 }
 
 fn is_suspended(known: Option<&Known>) -> bool {
     match known {
-        Some(known) => known.is_suspended && !known.is_over,
+        Some(known) => known.suspended_at.is_some() && !known.is_over,
         None => false,
     }
 }
@@ -359,13 +410,18 @@ fn write_array<W: fmt::Write>(
         if place > 0 {
             write!(out, ",")?;
         }
-        write_object(out, *it, register.get(it.id))?;
+        write_object(out, *it, register.get(it.id), waiting.clock())?;
     }
     writeln!(out, "]}}")
 }
 
 /// Writes the object of a transaction.
-fn write_object<W: fmt::Write>(out: &mut W, open: Open, known: Option<&Known>) -> fmt::Result {
+fn write_object<W: fmt::Write>(
+    out: &mut W,
+    open: Open,
+    known: Option<&Known>,
+    clock: Clock,
+) -> fmt::Result {
     let Open {
         id,
         phase,
@@ -391,6 +447,8 @@ fn write_object<W: fmt::Write>(out: &mut W, open: Open, known: Option<&Known>) -
         out,
         ",\"size\":{size},\"progress\":{progress},\"held\":{held},\"suspended\":{suspended}"
     )?;
+    let deadline = OrNull(peer_gives_up(known, clock));
+    write!(out, ",\"deadline\":{deadline}")?;
     match next {
         Some(next) => {
             let (left, word) = (next.left, timer_word(next.timer));
@@ -408,21 +466,21 @@ fn write_object<W: fmt::Write>(out: &mut W, open: Open, known: Option<&Known>) -
 pub fn write_counters<O: Outbox, I: Inbox, W: fmt::Write>(
     out: &mut W,
     form: Form,
-    totals: &Totals,
-    exchange: &Exchange,
+    figures: Figures<'_>,
     station: &Station<O, I>,
 ) -> fmt::Result {
     match form {
         Form::Text => {
-            for (name, count) in figures(totals, exchange, station) {
+            for (name, count) in counts(figures, station) {
                 writeln!(out, "{name} {count}")?;
             }
-            write_refused_lines(out, exchange)?;
+            write_failed_lines(out, &figures.totals.failures)?;
+            write_refused_lines(out, figures.exchange)?;
             write_dropped_lines(out, station)
         }
         Form::Json => {
             write!(out, "{{")?;
-            write_counter_members(out, totals, exchange, station)?;
+            write_counter_members(out, figures, station)?;
             writeln!(out, "}}")
         }
     }
@@ -435,22 +493,26 @@ pub fn write_counters<O: Outbox, I: Inbox, W: fmt::Write>(
 /// That of the writer.
 pub fn write_counter_members<O: Outbox, I: Inbox, W: fmt::Write>(
     out: &mut W,
-    totals: &Totals,
-    exchange: &Exchange,
+    figures: Figures<'_>,
     station: &Station<O, I>,
 ) -> fmt::Result {
-    let figures = figures(totals, exchange, station);
-    write_members(out, &figures)?;
-    write_refused_members(out, exchange)?;
+    let counts = counts(figures, station);
+    write_members(out, &counts)?;
+    write_failed_members(out, &figures.totals.failures)?;
+    write_refused_members(out, figures.exchange)?;
     write_dropped_members(out, station)
 }
 
-/// The counters but for what was dropped, by their names.
-fn figures<O: Outbox, I: Inbox>(
-    totals: &Totals,
-    exchange: &Exchange,
+/// The counters except what was dropped and by what transactions failed, by their names.
+fn counts<O: Outbox, I: Inbox>(
+    figures: Figures<'_>,
     station: &Station<O, I>,
-) -> [(&'static str, u64); 15] {
+) -> [(&'static str, u64); 18] {
+    let Figures {
+        totals,
+        exchange,
+        noted,
+    } = figures;
     let (sent, gaps) = (station.counters().sent, &exchange.gaps);
     let pdus = sent
         .file_data
@@ -476,7 +538,57 @@ fn figures<O: Outbox, I: Inbox>(
             station.link_drops(LinkDrop::Frame(FrameError::Damaged)),
         ),
         ("datagrams_thrown_away", gaps.thrown_away()),
+        ("sends_failed", totals.sends_failed as u64),
+        ("notes", noted.notes()),
+        ("errors", noted.errors()),
     ]
+}
+
+/// Writes a line for each condition by which transactions failed.
+fn write_failed_lines<W: fmt::Write>(out: &mut W, failures: &Failures) -> fmt::Result {
+    for code in 0..CONDITIONS {
+        write_failed(out, "send", code, failures.sends_by(code))?;
+    }
+    for code in 0..CONDITIONS {
+        write_failed(out, "reception", code, failures.receptions_by(code))?;
+    }
+    Ok(())
+}
+
+/// Writes the line of a condition, if its count isn't zero.
+fn write_failed<W: fmt::Write>(out: &mut W, of: &str, code: usize, count: u64) -> fmt::Result {
+    if count > 0 {
+        writeln!(out, "failed {of} {code} {} {count}", code_name(code))?;
+    }
+    Ok(())
+}
+
+/// Returns the standard's name of the condition of this code.
+fn code_name(code: usize) -> &'static str {
+    match u8::try_from(code) {
+        Ok(code) => name_of_code(code),
+        Err(_) => "RESERVED",
+    }
+}
+
+/// Writes by what transactions failed as two members of an object.
+fn write_failed_members<W: fmt::Write>(out: &mut W, failures: &Failures) -> fmt::Result {
+    write!(out, ",\"failed_sends\":{{")?;
+    let mut has_one = false;
+    for code in 0..CONDITIONS {
+        has_one = write_member(out, code_name(code), failures.sends_by(code), has_one)?;
+    }
+    write!(out, "}},\"failed_receptions\":{{")?;
+    write_failed_receptions(out, failures)?;
+    write!(out, "}}")
+}
+
+fn write_failed_receptions<W: fmt::Write>(out: &mut W, failures: &Failures) -> fmt::Result {
+    let mut has_one = false;
+    for code in 0..CONDITIONS {
+        has_one = write_member(out, code_name(code), failures.receptions_by(code), has_one)?;
+    }
+    Ok(())
 }
 
 /// Writes a line for each cause by which frames of a secured link were refused.
@@ -513,7 +625,7 @@ fn write_pdus_dropped<O: Outbox, I: Inbox, W: fmt::Write>(
     Ok(())
 }
 
-/// Writes the line of a cause, where its count isn't zero.
+/// Writes the line of a cause, if its count isn't zero.
 fn write_dropped<W: fmt::Write>(
     out: &mut W,
     of: &str,
@@ -583,7 +695,7 @@ fn write_pdu_members<O: Outbox, I: Inbox, W: fmt::Write>(
     Ok(())
 }
 
-/// Writes a cause and its count, where it isn't zero, behind the one before if there is one.
+/// Writes a cause and its count, if it isn't zero, after the one before if there is one.
 /// Answers whether there is one now.
 fn write_member<W: fmt::Write>(
     out: &mut W,

@@ -19,11 +19,13 @@ pub struct Known {
     pub size: Option<u64>,
     /// Up to which offset its receiver said that it holds the file, by a Keep Alive.
     pub held: Option<u64>,
-    /// Whether it is suspended.
-    pub is_suspended: bool,
+    /// When it began, in milliseconds since 1970, if that is known.
+    pub began: Option<u64>,
+    /// When it was suspended, if it is, in units of the station's clock.
+    pub suspended_at: Option<u64>,
     /// What went wrong last, or why it is over.
     pub condition: Option<Condition>,
-    /// Whether the user was told that it is over.
+    /// Whether its end was indicated to the user.
     pub is_over: bool,
 }
 
@@ -34,16 +36,26 @@ impl Known {
             names: None,
             size: None,
             held: None,
-            is_suspended: false,
+            began: None,
+            suspended_at: None,
             condition: None,
             is_over: false,
         }
     }
 }
 
+/// What time it is.
+#[derive(Clone, Copy)]
+pub struct Hour {
+    /// In units of the station's clock.
+    pub told: u64,
+    /// In milliseconds since 1970; 0 if the clock can't be read.
+    pub unix: u64,
+}
+
 /// What is known of the transactions that are open, by what the station's user hears. So many that
 /// are closed may be in it too, at most twice those that are over and not closed, and 16 more: so
-/// memory follows what is open. Where there is no memory, less is known.
+/// memory follows what is open. If there is no memory, less is known.
 #[derive(Drop)]
 pub struct Register {
     alloc: Global,
@@ -54,7 +66,7 @@ pub struct Register {
 }
 
 impl Register {
-    /// Before the first transaction.
+    /// Returns a register before the first transaction.
     pub fn new(alloc: Global) -> Register {
         Register {
             alloc,
@@ -64,12 +76,12 @@ impl Register {
         }
     }
 
-    /// What is known of a transaction; `None` where that is nothing.
+    /// Returns what is known of a transaction; `None` if nothing is.
     pub fn get(&self, id: TransactionId) -> Option<&Known> {
         self.known.get(&id)
     }
 
-    /// The names of its file, where they are known.
+    /// Returns the names of its file, if they are known.
     pub fn names(&self, id: TransactionId) -> Option<&PutNames> {
         match self.known.get(&id) {
             Some(known) => known.names.as_ref(),
@@ -77,7 +89,12 @@ impl Register {
         }
     }
 
-    /// How many octets its file has, where that is known.
+    /// Returns the names of the file of a transaction, if there is one and they are known.
+    pub fn names_of(&self, id: Option<TransactionId>) -> Option<&PutNames> {
+        self.names(id?)
+    }
+
+    /// Returns how many octets its file has, if that is known.
     pub fn size(&self, id: TransactionId) -> Option<u64> {
         match self.known.get(&id) {
             Some(known) => known.size,
@@ -85,7 +102,7 @@ impl Register {
         }
     }
 
-    /// Whether the user was told that the transaction is over.
+    /// Returns `true` if the end of the transaction was indicated to the user.
     pub fn is_over(&self, id: TransactionId) -> bool {
         match self.known.get(&id) {
             Some(known) => known.is_over,
@@ -93,9 +110,9 @@ impl Register {
         }
     }
 
-    /// Notes that a put of these names was accepted, of a file of so many octets where that is
-    /// known.
-    pub fn begins(&mut self, id: TransactionId, names: &PutNames, size: Option<u64>) {
+    /// Notes that a put of these names was accepted at this time, in milliseconds since 1970, of a
+    /// file of so many octets if that is known.
+    pub fn begins(&mut self, id: TransactionId, names: &PutNames, size: Option<u64>, time: u64) {
         let names = copied(
             self.alloc,
             names.source.as_slice(),
@@ -104,21 +121,22 @@ impl Register {
         if let Some(known) = self.known_mut(id) {
             known.names = names.ok();
             known.size = size;
+            known.began = Some(time);
         }
     }
 
-    /// Notes what the user hears.
-    pub fn hears(&mut self, indication: &Indication) {
+    /// Notes what the user hears at this time.
+    pub fn hears(&mut self, indication: &Indication, now: Hour) {
         match indication {
             Indication::MetadataRecv {
                 id,
                 source,
                 destination,
                 size,
-            } => self.comes(*id, source, destination, *size),
+            } => self.comes(*id, source, destination, *size, now.unix),
             Indication::Finished { id, condition, .. } => self.ends(*id, *condition),
             Indication::Abandoned(id, condition) => self.ends(*id, *condition),
-            Indication::Suspended(id, condition) => self.suspends(*id, Some(*condition)),
+            Indication::Suspended(id, _) => self.suspends(*id, Some(now.told)),
             Indication::Resumed(id) => self.suspends(*id, None),
             Indication::Fault(id, condition) => self.fails(*id, *condition),
             Indication::Progress(id, octets) => self.comes_to(*id, *octets),
@@ -126,8 +144,8 @@ impl Register {
         }
     }
 
-    /// The condition by which a file of this entity failed last, by its name at either entity;
-    /// `None` where none is known.
+    /// Returns the condition by which a file of this entity failed last, by its name at either
+    /// entity; `None` if none is known.
     pub fn condition_of(&self, own: u64, name: &[u8]) -> Option<Condition> {
         let mut found = None;
         for (id, known) in self.known.iter() {
@@ -138,7 +156,7 @@ impl Register {
         found
     }
 
-    /// Lets go of transactions that are over, once many are, and closed at this station.
+    /// Drops transactions that are over, once many are, and closed at this station.
     pub fn lets_go<O: Outbox, I: Inbox>(&mut self, station: &Station<O, I>) {
         if self.over <= self.left.saturating_mul(2).saturating_add(SPARE) {
             return;
@@ -149,7 +167,7 @@ impl Register {
         self.left = self.over;
     }
 
-    /// What is known of a transaction, which is nothing where it is new; `None` where there is no
+    /// What is known of a transaction, which is nothing if it is new; `None` if there is no
     /// memory for it.
     fn known_mut(&mut self, id: TransactionId) -> Option<&mut Known> {
         match self.known.entry(id) {
@@ -158,11 +176,19 @@ impl Register {
         }
     }
 
-    fn comes(&mut self, id: TransactionId, source: &Octets, destination: &Octets, size: u64) {
+    fn comes(
+        &mut self,
+        id: TransactionId,
+        source: &Octets,
+        destination: &Octets,
+        size: u64,
+        time: u64,
+    ) {
         let names = copied(self.alloc, source.as_slice(), destination.as_slice());
         if let Some(known) = self.known_mut(id) {
             known.names = names.ok();
             known.size = Some(size);
+            known.began = Some(known.began.unwrap_or(time));
         }
     }
 
@@ -172,9 +198,9 @@ impl Register {
         }
     }
 
-    fn suspends(&mut self, id: TransactionId, condition: Option<Condition>) {
+    fn suspends(&mut self, id: TransactionId, since: Option<u64>) {
         if let Some(known) = self.known_mut(id) {
-            known.is_suspended = condition.is_some();
+            known.suspended_at = since;
         }
     }
 
@@ -195,7 +221,7 @@ impl Register {
     }
 }
 
-/// The transaction of which an indication tells.
+/// Returns the transaction that an indication is about.
 pub fn told_id(indication: &Indication) -> TransactionId {
     match indication {
         Indication::Transaction(id)
@@ -219,12 +245,12 @@ fn is_named(known: &Known, name: &[u8]) -> bool {
     }
 }
 
-/// Whether a name is one of these.
+/// Returns `true` if a name is one of these.
 pub fn is_one_of(name: &[u8], names: &PutNames) -> bool {
     names.source.as_slice() == name || names.destination.as_slice() == name
 }
 
-/// Whether a transaction has a record at the station, and isn't closed there.
+/// Returns `true` if a transaction has a record at the station, and isn't closed there.
 pub fn is_open<O: Outbox, I: Inbox>(station: &Station<O, I>, id: TransactionId) -> bool {
     match station.phase(id) {
         None | Some(Phase::Closed) => false,
@@ -232,11 +258,11 @@ pub fn is_open<O: Outbox, I: Inbox>(station: &Station<O, I>, id: TransactionId) 
     }
 }
 
-/// Names with an owner of their own.
+/// Copies names into memory of their own.
 ///
 /// # Errors
 ///
-/// `AllocError` where there is no memory for them.
+/// `AllocError` if there is no memory for them.
 pub fn copied(alloc: Global, source: &[u8], destination: &[u8]) -> Result<PutNames, AllocError> {
     Ok(PutNames {
         source: Vec::from_slice(alloc, source)?,

@@ -1,4 +1,4 @@
-//! How the log of a station tells each thing, by its style. The writer isn't flushed.
+//! How the log of a station reports each thing, by its style. The writer isn't flushed.
 ghost use Rattle.std.specs.Io.KnownBytes.{Appends};
 ghost use Rattle.std.specs.Prelude.{◌≡◌, OnOk, Some};
 ghost use Rattle.cfdp_journal.specs.Journal.Lines as lines;
@@ -8,16 +8,15 @@ ghost use Rattle.cfdp_report.specs.Report.Lines.{answer_text, count_line, indica
 ghost use Rattle.cfdp_report.specs.Report.Lines.{indication_text};
 
 use crate::journal::json::{
-    begin_object, end_object, write_change_object, write_count_object, write_file_object,
-    write_indication_object, write_put_object,
+    PlainText, begin_object, end_object, write_change_object, write_count_object,
+    write_file_object, write_indication_object, write_note_object, write_put_object,
 };
 use crate::journal::line::{add_names, add_time, write_line};
 use crate::journal::meaning::condition_words;
-use crate::journal::overview::{Form, write_counter_members, write_counters};
+use crate::journal::overview::{Figures, Form, write_counter_members, write_counters};
 use crate::journal::style::{Log, Style};
-use crate::journal::totals::Totals;
 use cfdp_directives::{Condition, Indication};
-use cfdp_exchange::Exchange;
+use cfdp_exchange::Note;
 use cfdp_report::{Answer, Answered, Name, write_answer, write_indications};
 use cfdp_service::{Outcome, PutNames};
 use cfdp_station::{PutError, RequestError, Station};
@@ -59,7 +58,7 @@ fn refusal_answer(error: PutError) -> Answer
     }
 }
 
-/// Tells of a put that is refused, the made-th of all.
+/// Reports a put that is refused, the made-th of all.
 ///
 /// # Errors
 ///
@@ -114,10 +113,10 @@ fn make_answer(
     line.clear();
     add_time(line, log)?;
     write_refusal(line, made, answer)?;
-    add_names(line, Some(names))
+    add_names(line, Some(names), None)
 }
 
-/// Tells what the station indicates, with the names of the transaction's file where they are known.
+/// Reports what the station indicates, with the transaction's names of the file if they are known.
 ///
 /// # Errors
 ///
@@ -163,10 +162,10 @@ fn make_indication(
     line.clear();
     add_time(line, log)?;
     write_indication(line, log.own, indication)?;
-    add_names(line, names_behind(indication, names))
+    add_names(line, names_behind(indication, names), fault_of(indication))
 }
 
-/// The names that are put behind the line of an indication.
+/// The names that are put after the line of an indication.
 fn names_behind<'a>(indication: &Indication, names: Option<&'a PutNames>) -> Option<&'a PutNames> {
     match indication {
         Indication::MetadataRecv { .. } => None,
@@ -174,7 +173,18 @@ fn names_behind<'a>(indication: &Indication, names: Option<&'a PutNames>) -> Opt
     }
 }
 
-/// Tells that the change of a transaction was refused.
+/// Returns the condition by which an indication reports a fault, if it reports one.
+fn fault_of(indication: &Indication) -> Option<Condition> {
+    match indication {
+        Indication::Finished { condition, .. } if condition.code() != 0 => Some(*condition),
+        Indication::Suspended(_, condition)
+        | Indication::Fault(_, condition)
+        | Indication::Abandoned(_, condition) => Some(*condition),
+        _ => None,
+    }
+}
+
+/// Reports that the change of a transaction was refused.
 ///
 /// # Errors
 ///
@@ -224,7 +234,47 @@ pub fn tell_rekey<V: Write>(out: &mut V, line: &mut Vec<u8>, log: Log<'_>) -> io
     }
 }
 
-/// Tells what became of a file that lay in a spool, and why, where that is known.
+/// Reports a note for the operator, with the names of its transaction's file if
+/// they are known.
+///
+/// # Errors
+///
+/// Those of the writer.
+pub fn tell_note<V: Write>(
+    out: &mut V,
+    line: &mut Vec<u8>,
+    log: Log<'_>,
+    note: &Note,
+    names: Option<&PutNames>,
+) -> io::Result<()>
+    ensures { OnOk result (WritesAs log.entry.own log.entry.style Notes (V.contents out.old)
+        (V.contents out.new)) }
+{
+    match log.style {
+        Style::Plain => Ok(()),
+        Style::Text => {
+            make_note(line, log, note, names)?;
+            write_line(out, line.as_slice())
+        }
+        Style::Json { .. } => write_note_object(out, log, note, names),
+    }
+}
+
+/// Makes the line of a note.
+fn make_note(
+    line: &mut Vec<u8>,
+    log: Log<'_>,
+    note: &Note,
+    names: Option<&PutNames>,
+) -> io::Result<()> {
+    line.clear();
+    add_time(line, log)?;
+    let (word, text) = (note.kind.word(), note.text.as_str());
+    writeln!(line, "{word} {}", PlainText(text.as_bytes()))?;
+    add_names(line, names, None)
+}
+
+/// Reports what became of a file that lay in a spool, and why, if that is known.
 ///
 /// # Errors
 ///
@@ -276,7 +326,7 @@ fn make_file(
     }
 }
 
-/// Tells the counters of a station at its end, and how many of the files that it was to send were
+/// Reports the counters of a station at its end, and how many of the files that it had to send were
 /// sent.
 ///
 /// # Errors
@@ -286,26 +336,25 @@ pub fn tell_end<O: Outbox, I: Inbox, V: Write>(
     out: &mut V,
     line: &mut Vec<u8>,
     log: Log<'_>,
-    totals: &Totals,
-    exchange: &Exchange,
+    figures: Figures<'_>,
     station: &Station<O, I>,
 ) -> io::Result<()>
     ensures { OnOk result (WritesAs log.entry.own log.entry.style
-        (Completes totals.now.complete totals.now.asked) (V.contents out.old)
+        (Completes figures.entry.totals.now.complete figures.entry.totals.now.asked) (V.contents out.old)
         (V.contents out.new)) }
 {
-    let (complete, asked) = (totals.complete, totals.asked);
+    let (complete, asked) = (figures.totals.complete, figures.totals.asked);
     match log.style {
         Style::Plain => write_count(out, complete, asked),
         Style::Text => {
             line.clear();
-            add_counters(line, log, totals, exchange, station)?;
+            add_counters(line, log, figures, station)?;
             add_time(line, log)?;
             write_count(line, complete, asked)?;
             write_line(out, line.as_slice())
         }
         Style::Json { .. } => {
-            write_counters_object(out, log, totals, exchange, station)?;
+            write_counters_object(out, log, figures, station)?;
             write_count_object(out, log, complete, asked)
         }
     }
@@ -319,16 +368,15 @@ fn write_count<W: Write>(out: &mut W, complete: usize, asked: usize) -> io::Resu
     writeln!(out, "complete {complete} of {asked}")
 }
 
-/// Adds a line for each counter. Where there is no memory for them, less is told.
+/// Adds a line for each counter. If there is no memory for them, less is reported.
 fn add_counters<O: Outbox, I: Inbox>(
     line: &mut Vec<u8>,
     log: Log<'_>,
-    totals: &Totals,
-    exchange: &Exchange,
+    figures: Figures<'_>,
     station: &Station<O, I>,
 ) -> io::Result<()> {
     let mut text = String::new(log.rt.alloc());
-    let _ = write_counters(&mut text, Form::Text, totals, exchange, station);
+    let _ = write_counters(&mut text, Form::Text, figures, station);
     for row in text.as_str().lines() {
         add_time(line, log)?;
         writeln!(line, "{row}")?;
@@ -340,12 +388,11 @@ fn add_counters<O: Outbox, I: Inbox>(
 fn write_counters_object<O: Outbox, I: Inbox, V: Write>(
     out: &mut V,
     log: Log<'_>,
-    totals: &Totals,
-    exchange: &Exchange,
+    figures: Figures<'_>,
     station: &Station<O, I>,
 ) -> io::Result<()> {
     let mut text = String::new(log.rt.alloc());
-    if write_counter_members(&mut text, totals, exchange, station).is_err() {
+    if write_counter_members(&mut text, figures, station).is_err() {
         return Ok(());
     }
     begin_object(out, log, "counters")?;

@@ -1,4 +1,4 @@
--- How a file goes from one station to another in turns, over two wires, and what is told of it.
+-- How a file goes from one station to another in turns, over two wires, and what is reported of it.
 use Rattle.std.specs.Prelude.{◌≡◌, ◌⊎◌, ℕ, ◌==◌, ◌&&◌, ◌||◌, not, Bool, true, false, List, ◌++◌, count_by, drop, Option, Some, None, Result, Ok, Err, ⊤}
 use Rattle.std.specs.FinMap.{empty}
 use Rattle.std.specs.Io.KnownBytes.{Appends, Keeps}
@@ -27,17 +27,17 @@ use Rattle.cfdp_report.specs.declared.exit.Exit.{Exit}
 use Rattle.cfdp_report.specs.declared.exit.Exit.TheVariants.{Device}
 use Rattle.cfdp_report.specs.declared.exit.Fault.TheVariants.{Unwritable, NoMemoryAtStart}
 
--- what a station told its user: no step of a turn lets any of that go
+-- what a station indicated to its user: no step of a turn drops any of that
 abbrev pub told : StationState → List Indication
 told s = drop s.entity.state.table.gone s.entity.state.table.told
 
--- whether a put was refused for want of memory
+-- whether a put was refused because memory ran out
 abbrev pub is_no_memory : PutError → Bool
 is_no_memory put_errors.NoMemory = true
 is_no_memory _ = false
 
 module _ {W : Type 0} (Steps : W → WireCall → W → Type 0) where
-  -- What follows the put, and whether memory was wanting in it or in the put.
+  -- What follows the put, and whether memory ran out in it or in the put.
   abbrev pub Follows : (most : ℕ) → Result TransactionId PutError → Bool
       → (old new : PairState W) → Type 0
   Follows most (Ok id) false old new = RunsTurns Steps id most old new
@@ -45,21 +45,22 @@ module _ {W : Type 0} (Steps : W → WireCall → W → Type 0) where
   Follows most (Err by) short old new = (short ≡ is_no_memory by) × (new ≡ old)
 
 -- ---- the report
--- how a refused put is told
+-- how a refused put is reported
 abbrev pub refusal_answer : PutError → Answer
 refusal_answer put_errors.NoMemory = Ended (Settle settle_errors.NoMemory)
 refusal_answer by = Refused (Put by)
 
--- the answer of the put, where it wasn't accepted
+-- the answer of the put, if it wasn't accepted
 abbrev pub put_answer : Result TransactionId PutError → Option Answer
 put_answer (Ok id) = None
 put_answer (Err by) = Some (refusal_answer by)
 
--- how many puts the first station was told complete
+-- how many puts were indicated as complete to the first station's user
 abbrev pub completed : StationState → ℕ
 completed one = count_by (is_own_completion 1) (told one)
 
--- a put that answered so, what both stations told their users, and whether the put was completed
+-- a put that answered so, what both stations indicated to their users, and whether the put was
+-- completed
 abbrev pub loop_text : Option Answer → (one two : StationState) → List ℕ
 loop_text answer one two = answer_text 1 answer
     ++ flat_map (indication_line 1) (told one)
@@ -76,7 +77,7 @@ abbrev pub has_failed : (one two one_now two_now : StationState) → Bool
 has_failed one two =
     more_failures one.entity.outbox_failures two.entity.inbox_failures
 
--- the exit, by whether memory was wanting, how many puts were completed, and whether a store failed
+-- the exit, by whether memory ran out, how many puts were completed, and whether a store failed
 abbrev pub loop_exit : (short : Bool) → (complete : ℕ) → (failed : Bool) → Exit
 loop_exit short complete failed = run_exit short (failed && not (complete == 1)) complete 1
 
@@ -87,7 +88,7 @@ IsTold (Device Unwritable) so = ⊤
 IsTold _ so = so
 
 module _ {W : Type 0} (Steps : W → WireCall → W → Type 0) where
-  -- A put was made and answered so, turns followed, and memory was wanting in either or not.
+  -- A put was made and answered so, turns followed, and memory ran out in either or not.
   pub record LoopRuns (source destination : List ℕ) (most : ℕ) (answer : Option Answer)
       (short : Bool) (first last : PairState W) : Type 0 where
     pub put : Result TransactionId PutError
@@ -96,7 +97,7 @@ module _ {W : Type 0} (Steps : W → WireCall → W → Type 0) where
     pub follows : Follows Steps most put short (record first { one = one }) last
     pub answered : answer ≡ put_answer put
 
-  -- That happened, whatever the put answered, and whether or not memory was wanting.
+  -- That happened, whatever the put answered, and whether or not memory ran out.
   abbrev pub HasRun : (source destination : List ℕ) → (most : ℕ)
       → (first last : PairState W) → Type 0
   HasRun source destination most first last = (answer : Option Answer) × (short : Bool)
@@ -113,7 +114,7 @@ module _ {W : Type 0} (Steps : W → WireCall → W → Type 0) where
         (has_failed first.one.station first.two.station last.one.station last.two.station)
     pub written : Appends old new (loop_text answer last.one.station last.two.station)
 
-  -- That is so; and it happened also where the report can't be written.
+  -- That is so; and it happened also if the report can't be written.
   abbrev pub EndsBoth : (source destination : List ℕ) → (most : ℕ)
       → (first last : PairState W) → (exit : Exit) → (old new : Option (List ℕ)) → Type 0
   EndsBoth source destination most first last exit old new =
@@ -131,7 +132,7 @@ EndsFromOne Steps exit one config files wire source destination most old new =
     × ((last : PairState _) × LoopsAll Steps source destination most (pair one two) last exit
     old new))
 
--- A file went so, from two new stations of these configurations, of which the first has these files
+-- A file went so, from two new stations of these configurations; the first has these files
 -- to send, which stand or don't, and the second published those before; or there was no memory for
 -- the stations, and nothing is written.
 abbrev pub EndsLoop : {W : Type 0} → (W → WireCall → W → Type 0) → Exit → WorldConfig

@@ -8,12 +8,13 @@ use crate::looping::{LoopEnds, LoopOptions, run_loop};
 use crate::transfers::named_files::{
     check_file, check_name, folder, folder_outbox, tell_of_file, tell_untold,
 };
-use crate::transfers::telling::{LoopLookout, TellingInbox, TellingOutbox};
+use crate::transfers::teller::Teller;
+use crate::transfers::telling::{InboxRules, LoopLookout, TellingInbox, TellingOutbox};
 use cfdp_command_line::{LoopRequest, frame_losses, note_losses};
 use cfdp_files::HeldFolder;
 use cfdp_port::{FrameLosses, Lookout, LossyWire, Wire};
 use cfdp_report::{Exit, Fault, cause_text};
-use cfdp_store::{FolderError, FolderOutbox, Inbox, Outbox};
+use cfdp_store::{FolderError, FolderOutbox, Inbox, NameRule, Outbox};
 use cfdp_watch::{Onlooker, Progress, Ran, Screen, shown_status};
 use station_pair::WorldConfig;
 use std::alloc::{AllocError, Global};
@@ -26,17 +27,24 @@ use valid_config::Valid;
 /// The exit status of bad arguments.
 const MISTAKE: u8 = 2;
 
-/// The exit status where a folder, a file, a socket or memory failed.
+/// The exit status if a folder, a file, a socket or memory failed.
 const DEVICE: u8 = 3;
 
 /// The most turns that may be asked for, by the grammar of `loop`.
 const MOST_TURNS: u64 = 1_000_000;
 
+/// Which files the other folder accepts.
+const RULES: InboxRules = InboxRules {
+    replaces: true,
+    most_size: 0,
+    names: NameRule::Portable,
+};
+
 /// Sends the file that is asked for, writes the report to standard output, and says on standard
 /// error what went wrong. Answers the exit status.
 ///
 /// What may be wrong is looked for in this order: what is set, the file of keys, both names, the
-/// folder and the file that is to be sent, the other folder, the sockets.
+/// folder and the file that must be sent, the other folder, the sockets.
 pub fn loop_status(rt: &HostRuntime, request: &LoopRequest) -> u8 {
     let (told, progress) = (Cell::new(false), Progress::new(rt));
     match prepared(rt, request) {
@@ -45,31 +53,36 @@ pub fn loop_status(rt: &HostRuntime, request: &LoopRequest) -> u8 {
     }
 }
 
-/// What is to be sent and how, and how frames are authenticated, if they are.
+/// What must be sent and how, and how frames are authenticated, if they are.
 type Prepared = (LoopOptions, Option<LoopSecurity>);
 
 /// Looks at what is set and at the keys.
 ///
 /// # Errors
 ///
-/// The exit status, where something is wrong, which was told on standard error.
+/// The exit status, if something is wrong, as standard error says.
 fn prepared(rt: &HostRuntime, request: &LoopRequest) -> Result<Prepared, u8> {
     let options = options(rt, request)?;
     secured(rt, request, options)
 }
 
 /// Sends the file of its folder.
-fn from_folder(
-    rt: &HostRuntime,
-    request: &LoopRequest,
+fn from_folder<'a>(
+    rt: &'a HostRuntime,
+    request: &'a LoopRequest,
     prepared: &Prepared,
-    told: &Cell<bool>,
-    progress: &Progress<'_>,
+    told: &'a Cell<bool>,
+    progress: &'a Progress<'a>,
 ) -> u8 {
     match found(rt, request) {
         Ok(outbox) => {
             let from = request.from.as_str();
-            let outbox = TellingOutbox::over(rt, from, outbox, told, progress);
+            let outbox = TellingOutbox::over(
+                rt,
+                from,
+                outbox,
+                Teller::new(rt, progress, told, None),
+            );
             sent_status(rt, request, prepared, outbox, told, progress)
         }
         Err(status) => status,
@@ -87,7 +100,7 @@ type Way<'a> = ((SharedWire<'a>, SharedWire<'a>), HeldFolder);
 ///
 /// # Errors
 ///
-/// The exit status, where something is wrong, which was told on standard error.
+/// The exit status, if something is wrong, as standard error says.
 fn way<'a>(
     rt: &HostRuntime,
     request: &LoopRequest,
@@ -111,20 +124,20 @@ fn way<'a>(
     }
 }
 
-/// The folder of the file that is to be sent, which was looked for there, after both names.
+/// The folder of the file that must be sent, which was looked for there, after both names.
 ///
 /// # Errors
 ///
-/// The exit status, where it can't be sent, which was told on standard error.
+/// The exit status, if it can't be sent, as standard error says.
 fn found<'a>(
     rt: &'a HostRuntime,
     request: &LoopRequest,
 ) -> Result<FolderOutbox<&'a HostRuntime>, u8> {
     let (path, name) = (request.from.as_str(), request.source.as_str());
-    check_name(rt, name)?;
-    check_name(rt, request.destination.as_str())?;
+    check_name(rt, NameRule::Portable, name)?;
+    check_name(rt, NameRule::Portable, request.destination.as_str())?;
     folder(rt, path)?;
-    let Ok(mut outbox) = folder_outbox(rt, path) else {
+    let Ok(mut outbox) = folder_outbox(rt, path, NameRule::Portable) else {
         tell_of_file(rt, path, name, FolderError::System(ErrorKind::OutOfMemory));
         return Err(DEVICE);
     };
@@ -137,7 +150,7 @@ fn found<'a>(
 ///
 /// # Errors
 ///
-/// The exit status if it can't be, which was told on standard error.
+/// The exit status if it can't be, as standard error says.
 fn check_open(rt: &HostRuntime, path: &str, name: &str) -> Result<(), u8> {
     let kind = match format!(in rt.alloc(); "{path}/{name}") {
         Ok(file) => match File::open(rt, file.as_str()) {
@@ -154,13 +167,13 @@ fn check_open(rt: &HostRuntime, path: &str, name: &str) -> Result<(), u8> {
 }
 
 /// Sends the file, shows what is seen of that, and answers the exit status.
-fn sent_status<O: Outbox>(
-    rt: &HostRuntime,
-    request: &LoopRequest,
+fn sent_status<'a, O: Outbox>(
+    rt: &'a HostRuntime,
+    request: &'a LoopRequest,
     prepared: &Prepared,
     outbox: O,
-    told: &Cell<bool>,
-    progress: &Progress<'_>,
+    told: &'a Cell<bool>,
+    progress: &'a Progress<'a>,
 ) -> u8 {
     let losses = Cell::new(frame_losses(request.losses));
     let (options, security) = prepared;
@@ -182,16 +195,17 @@ fn sent_status<O: Outbox>(
 }
 
 /// Sends the file into the folder that is asked for.
-fn sent<O: Outbox, W: Wire>(
-    rt: &HostRuntime,
-    request: &LoopRequest,
+fn sent<'a, O: Outbox, W: Wire>(
+    rt: &'a HostRuntime,
+    request: &'a LoopRequest,
     options: &LoopOptions,
     outbox: O,
     wires: (W, W),
-    told: &Cell<bool>,
-    progress: &Progress<'_>,
+    told: &'a Cell<bool>,
+    progress: &'a Progress<'a>,
 ) -> Ran {
-    match TellingInbox::new(rt, request.to.as_str(), true, 0, told, progress) {
+    let teller = Teller::new(rt, progress, told, None);
+    match TellingInbox::new(rt, request.to.as_str(), RULES, teller, progress) {
         Ok(inbox) => {
             let ends = LoopEnds {
                 outbox,
@@ -261,16 +275,16 @@ fn reported<O: Outbox, I: Inbox, W: Wire, L: Lookout>(
         return Exit::Device(Fault::NoMemoryAtStart);
     };
     let exit = run_loop(alloc, options, ends, &mut out, lookout);
-    // What a failed write left in the buffer is let go: a `BufWriter` would write it once more.
+    // What a failed write left in the buffer is dropped: a `BufWriter` would write it once more.
     let _ = out.into_parts();
     exit
 }
 
-/// What is to be sent, and how.
+/// What must be sent, and how.
 ///
 /// # Errors
 ///
-/// The exit status, where what is set can't be, which was told on standard error, or where there is
+/// The exit status, if what is set can't be, as standard error says, or if there is
 /// no memory.
 fn options(rt: &HostRuntime, request: &LoopRequest) -> Result<LoopOptions, u8>
     ensures { IfOk result (AreAsked request.now) }
@@ -287,7 +301,7 @@ fn options(rt: &HostRuntime, request: &LoopRequest) -> Result<LoopOptions, u8>
     }
 }
 
-/// What is to be sent, by stations that are set up so.
+/// What must be sent, by stations that are set up so.
 fn named(
     alloc: Global,
     request: &LoopRequest,

@@ -18,11 +18,11 @@ impl UdpWire {
         Ok(UdpWire { socket })
     }
 
-    /// Two sockets of this machine, each the other's peer.
+    /// Opens two sockets of this machine, each the other's peer.
     ///
     /// # Errors
     ///
-    /// That of the system, where there is no room for a socket.
+    /// That of the system, if there is no room for a socket.
     pub fn pair<R: Net>(net: &R) -> io::Result<(UdpWire, UdpWire)> {
         let one = UdpWire::open(net)?;
         let two = UdpWire::open(net)?;

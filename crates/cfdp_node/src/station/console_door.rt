@@ -1,12 +1,12 @@
-//! The console's address, and the token that it wants.
+//! The console's address, and the token that it asks for.
 use cfdp_command_line::StationRequest;
-use cfdp_control::{DoorError, WebDoor};
+use cfdp_control::{DoorError, WebDoor, is_malformed};
 use cfdp_files::{SecretError, read_secret};
 
 /// The exit status of bad arguments.
 const MISTAKE: u8 = 2;
 
-/// The exit status where a file, a socket or memory failed.
+/// The exit status if a file, a socket or memory failed.
 const DEVICE: u8 = 3;
 
 /// The fewest and the most characters of a token.
@@ -14,11 +14,11 @@ const LEAST_TOKEN: usize = 16;
 
 const MOST_TOKEN: usize = 256;
 
-/// The console, where one is asked for.
+/// Opens the console, if one is asked for.
 ///
 /// # Errors
 ///
-/// The exit status, where its address or its token can't be had, which was told on standard error.
+/// The exit status, if its address or its token can't be had, as standard error says.
 pub fn door<'a>(rt: &'a HostRuntime, request: &StationRequest) -> Result<Option<WebDoor<'a>>, u8> {
     let Some(address) = &request.console else {
         if request.console_token.is_some() {
@@ -31,7 +31,7 @@ pub fn door<'a>(rt: &'a HostRuntime, request: &StationRequest) -> Result<Option<
         Some(path) => Some(token_in(rt, path.as_str())?),
         None => None,
     };
-    match WebDoor::new(rt, address.as_str(), token) {
+    match WebDoor::new(rt, address.as_str(), token, proxy_host(rt, request)?) {
         Ok(door) => Ok(Some(door)),
         Err(error) => {
             let _ = eprintln!(rt; "error: --console {address}: {error}");
@@ -40,10 +40,28 @@ pub fn door<'a>(rt: &'a HostRuntime, request: &StationRequest) -> Result<Option<
     }
 }
 
-/// The exit status where a console can't be had for this reason.
+/// Returns the name of the host by which a proxy asks; empty if none does.
+///
+/// # Errors
+///
+/// The exit status, if no token is asked of those who come through the proxy, which was reported on
+/// standard error.
+fn proxy_host<'a>(rt: &HostRuntime, request: &'a StationRequest) -> Result<&'a str, u8> {
+    match (&request.console_host, &request.console_token) {
+        (None, _) => Ok(""),
+        (Some(host), Some(_)) => Ok(host.as_str()),
+        (Some(_), None) => {
+            let _ = eprintln!(rt; "error: --console-host needs --console-token FILE");
+            Err(MISTAKE)
+        }
+    }
+}
+
+/// The exit status if a console can't be had for this reason.
 fn status_of(error: &DoorError) -> u8 {
     match error {
         DoorError::WantsToken => MISTAKE,
+        DoorError::System(error) if is_malformed(error.kind()) => MISTAKE,
         DoorError::System(_) => DEVICE,
     }
 }
@@ -53,7 +71,7 @@ fn status_of(error: &DoorError) -> u8 {
 ///
 /// # Errors
 ///
-/// The exit status, where it can't be read or is none, which was told on standard error.
+/// The exit status, if it can't be read or is none, as standard error says.
 fn token_in(rt: &HostRuntime, path: &str) -> Result<String, u8> {
     let text = match read_secret(rt, path) {
         Ok(text) => text,

@@ -1,41 +1,53 @@
-//! What an operator is told on standard error while a station runs.
+//! What a station reports to its operator while it runs.
+use crate::station::operation::unit_word;
+use crate::transfers::teller::Teller;
 use crate::transfers::telling::LoopLookout;
 use cfdp_command_line::{CarrierKind, TimeUnit};
 use cfdp_datagrams::frame_len;
 use cfdp_directives::{Handler, Indication, Phase, Policy};
-use cfdp_exchange::{Beacon, CarrierDrop, Exchange, FrameMonitor, REFUSALS, is_often_late};
+use cfdp_exchange::{
+    Beacon, CarrierDrop, Exchange, FrameMonitor, NoteTopic, REFUSALS, is_often_late,
+};
 use cfdp_header::TransactionId;
-use cfdp_journal::Stopped;
+use cfdp_journal::{PduWatch, Stopped};
 use cfdp_port::{Lookout, Passed};
 use cfdp_report::cause_text;
 use cfdp_station::{EntityDrop, FrameError, LinkDrop, Station, StationConfig};
 use cfdp_store::{Inbox, Outbox};
 use station_pair::Side;
+use std::alloc::AllocError;
+use std::cell::Cell;
 use std::fmt;
 use std::io::ErrorKind;
 use std::time::Instant;
+use transfer_journal::TransferJournal;
 
-/// For so many seconds a thing that was told isn't told again.
+/// For so many seconds a thing that was reported isn't reported again.
 const PAUSE: u64 = 60;
 
-/// Of so many transactions whose EOF was sent those that are over are let go: more than can be open
-/// at once.
+/// Of so many transactions whose EOF was sent those that are over are dropped: more than can be
+/// open at once.
 const MOST_ENDED: usize = 8192;
 
-/// After so many seconds in which nothing came it is told what is waited for.
+/// After so many seconds in which nothing came it is reported what is waited for.
 const QUIET: u64 = 10;
 
 /// Over so many seconds it is looked how many frames come late.
 const LOOK: u64 = 10;
 
+/// What a peer that is set up otherwise may be the cause of is reported so many seconds after it
+/// happened: until then the peer's beacon may say in what it differs.
+const HOLD: u64 = 3;
+
 /// How often something was dropped for a cause.
 #[derive(Clone, Copy)]
 struct Tally {
-    /// As of the last look, and as of the last time that it was told.
+    /// As of the last look, and as of the last time that it was reported.
     seen: u64,
     told: u64,
-    /// When it was told last.
+    /// When it was reported last, and since when there is something to report.
     at: Option<u64>,
+    since: Option<u64>,
 }
 
 impl Tally {
@@ -43,6 +55,7 @@ impl Tally {
         seen: 0,
         told: 0,
         at: None,
+        since: None,
     };
 
     /// Whether it is more now than as of the last look.
@@ -52,23 +65,38 @@ impl Tally {
         grows
     }
 
-    /// Takes what there is so far as told.
+    /// Takes what there is so far as reported.
     fn passes_over(&mut self) {
         self.told = self.seen;
+        self.since = None;
     }
 
-    /// How often since it was told last, where it is to be told at this time.
+    /// How often since it was reported last, if it must be reported at this time: so many seconds
+    /// after it began.
+    fn news_after(&mut self, now: u64, hold: u64) -> Option<u64> {
+        if self.seen == self.told {
+            return None;
+        }
+        let since = self.since.unwrap_or(now);
+        self.since = Some(since);
+        if now < since.saturating_add(hold) {
+            return None;
+        }
+        self.news(now)
+    }
+
+    /// How often since it was reported last, if it must be reported at this time.
     fn news(&mut self, now: u64) -> Option<u64> {
         let news = self.seen.saturating_sub(self.told);
         if news == 0 || !is_over(&mut self.at, now) {
             return None;
         }
-        self.told = self.seen;
+        self.passes_over();
         Some(news)
     }
 }
 
-/// Whether what was told at some time may be told again now. If so it is taken to be.
+/// Whether what was reported at some time may be reported again now. If so it is taken to be.
 fn is_over(at: &mut Option<u64>, now: u64) -> bool {
     if let Some(before) = *at
         && now < before.saturating_add(PAUSE)
@@ -100,7 +128,7 @@ struct Foreign {
 #[derive(Clone, Copy)]
 struct MoreOctets(usize);
 
-/// What goes on from the octets of a zone; nothing where there are no such fields.
+/// What goes on from the octets of a zone; nothing if there are no such fields.
 impl fmt::Display for MoreOctets {
     fn fmt<W: fmt::Write>(&self, f: &mut fmt::Formatter<W>) -> fmt::Result {
         match self.0 {
@@ -110,18 +138,25 @@ impl fmt::Display for MoreOctets {
     }
 }
 
-/// One who looks on at a station, and tells its operator on standard error what is wrong with the
+/// An onlooker at a station that says to its operator on standard error what is wrong with the
 /// link: each thing at once, and then once a minute at most.
 #[derive(Drop)]
 pub struct Notices<'a> {
     pub lookout: LoopLookout<'a>,
+    /// What looks at the PDUs for the console, if there is one.
+    pub watch: Option<PduWatch<'a>>,
+    /// The journal by which transfers go on, if there is one.
+    pub journal: Option<&'a TransferJournal<'a>>,
     rt: &'a HostRuntime,
+    teller: Teller<'a>,
     exchange: &'a Exchange,
-    // How the station is set up, and the same with the frames that are on the link, which are longer
-    // if they are secured.
+    // How the station is set up, and the same with the frames that are on the link, which are
+    // longer if they are secured.
     config: StationConfig,
     on_link: StationConfig,
     to: &'a str,
+    // The path of the file of reserved numbers.
+    state: Option<String>,
     start: Option<Instant>,
     foreign: Foreign,
     link: [Tally; 12],
@@ -129,7 +164,7 @@ pub struct Notices<'a> {
     datagrams: [Tally; 8],
     refused: [Tally; 5],
     // Whether something of the link came in this turn. When something did last, when it was looked
-    // what is waited for, and when what was told last.
+    // what is waited for, and when what was reported last.
     hears: bool,
     heard: u64,
     looked: u64,
@@ -146,23 +181,30 @@ pub struct Notices<'a> {
 }
 
 impl<'a> Notices<'a> {
-    /// Before the first turn of a station whose peer has this address, and which is set up like the
-    /// first configuration; the second one has the frames that are on the link.
+    /// Returns the notices before the first turn of a station whose peer has this address, and
+    /// which is set up like the first configuration; the second one has the frames that are on the
+    /// link. Its file of reserved numbers has this path, if it has one.
     pub fn new(
         rt: &'a HostRuntime,
+        teller: Teller<'a>,
         lookout: LoopLookout<'a>,
         exchange: &'a Exchange,
         configs: (StationConfig, StationConfig),
         to: &'a str,
+        state: Option<String>,
     ) -> Notices<'a> {
         let (config, on_link) = configs;
         Notices {
             lookout,
+            watch: None,
+            journal: None,
             rt,
+            teller,
             exchange,
             config,
             on_link,
             to,
+            state,
             start: Instant::now(rt).ok(),
             foreign: Foreign {
                 len: 0,
@@ -224,14 +266,40 @@ impl<'a> Notices<'a> {
         }
     }
 
-    /// Tells what was dropped.
+    /// Reports what there is to report at this time: causes before what follows from them.
+    fn tells<O: Outbox, I: Inbox>(&mut self, now: u64, station: &Station<O, I>) {
+        self.tell_beacon(now);
+        self.tell_failure(now);
+        self.tell_stop(now);
+        self.tell_journal();
+        self.tell_drops(now, station);
+        self.tell_datagram_drops(now);
+        self.tell_refusals(now);
+        self.tell_order(now);
+        self.tell_waiting(now, station);
+    }
+
+    /// Returns `true` if the peer's beacon said lately in what the peer is set up otherwise. What
+    /// follows from that isn't reported then.
+    fn is_explained(&self, now: u64) -> bool {
+        match self.beacon_at {
+            Some(before) => now < before.saturating_add(PAUSE),
+            None => false,
+        }
+    }
+
+    /// Reports what was dropped.
     fn tell_drops<O: Outbox, I: Inbox>(&mut self, now: u64, station: &Station<O, I>) {
+        let is_explained = self.is_explained(now);
         for (place, by) in LinkDrop::ALL.iter().enumerate() {
-            if self.link[place].grows(station.link_drops(*by)) && is_misfit(*by) {
+            let hold = if is_misfit(*by) { HOLD } else { 0 };
+            if self.link[place].grows(station.link_drops(*by)) && hold > 0 {
                 self.exchange.differs.set(true);
             }
-            if is_wrong(*by)
-                && let Some(count) = self.link[place].news(now)
+            if hold > 0 && is_explained {
+                self.link[place].passes_over();
+            } else if is_wrong(*by)
+                && let Some(count) = self.link[place].news_after(now, hold)
             {
                 self.tell_link_drop(*by, count);
             }
@@ -240,26 +308,49 @@ impl<'a> Notices<'a> {
     }
 
     fn tell_pdu_drops<O: Outbox, I: Inbox>(&mut self, now: u64, station: &Station<O, I>) {
-        let is_full = station.records_left() == 0;
+        let (is_full, is_explained) = (station.records_left() == 0, self.is_explained(now));
         for (place, by) in EntityDrop::ALL.iter().enumerate() {
-            if self.pdus[place].grows(station.drops(*by)) && *by == EntityDrop::NotForUs {
+            let is_misfit = *by == EntityDrop::NotForUs;
+            let hold = if is_misfit { HOLD } else { 0 };
+            if self.pdus[place].grows(station.drops(*by)) && is_misfit {
                 self.exchange.differs.set(true);
             }
-            if !is_told(*by, is_full) {
+            if !is_told(*by, is_full) || is_misfit && is_explained {
                 self.pdus[place].passes_over();
-            } else if let Some(count) = self.pdus[place].news(now) {
+            } else if let Some(count) = self.pdus[place].news_after(now, hold) {
                 self.tell_pdu_drop(*by, count);
             }
         }
     }
 
-    /// Tells which datagrams were dropped of which nothing was given to the station.
+    /// Reports at the end what was held back in case that a beacon would say its cause.
+    fn tell_held(&mut self, now: u64) {
+        if self.is_explained(now) {
+            return;
+        }
+        for (place, by) in LinkDrop::ALL.iter().enumerate() {
+            if is_misfit(*by)
+                && let Some(count) = self.link[place].news(now)
+            {
+                self.tell_link_drop(*by, count);
+            }
+        }
+        for (place, by) in EntityDrop::ALL.iter().enumerate() {
+            if *by == EntityDrop::NotForUs
+                && let Some(count) = self.pdus[place].news(now)
+            {
+                self.tell_pdu_drop(*by, count);
+            }
+        }
+    }
+
+    /// Reports which datagrams were dropped if nothing of them was given to the station.
     fn tell_datagram_drops(&mut self, now: u64) {
         for (place, by) in CarrierDrop::ALL.iter().enumerate() {
             let _ = self.datagrams[place].grows(self.exchange.dropped.of(*by));
             if let Some(count) = self.datagrams[place].news(now) {
-                self.lookout.progress.yields();
-                let _ = eprintln!(self.rt; "note: {count} dropped: {by}");
+                let text = format!(in self.rt.alloc(); "{count} dropped: {by}");
+                self.teller.notes(NoteTopic::Datagram(*by), text);
             }
         }
     }
@@ -269,57 +360,62 @@ impl<'a> Notices<'a> {
         for (place, cause) in REFUSALS.iter().enumerate() {
             let _ = self.refused[place].grows(self.exchange.refused.of(*cause));
             if let Some(count) = self.refused[place].news(now) {
-                self.lookout.progress.yields();
-                let _ = eprintln!(self.rt; "note: {count} dropped: {cause}");
+                let text = format!(in self.rt.alloc(); "{count} dropped: {cause}");
+                self.teller.notes(NoteTopic::Refused(*cause), text);
             }
         }
     }
 
     fn tell_link_drop(&self, by: LinkDrop, count: u64) {
-        let (up, foreign) = (self.on_link.receives, self.foreign);
+        self.teller
+            .notes(NoteTopic::Link(by), self.link_drop_text(by, count));
+    }
+
+    fn link_drop_text(&self, by: LinkDrop, count: u64) -> Result<String, AllocError> {
+        let (up, foreign, alloc) = (self.on_link.receives, self.foreign, self.rt.alloc());
         let more = frame_len(&up).saturating_sub(frame_len(&self.config.receives));
-        self.lookout.progress.yields();
-        let _ = match by {
-            LinkDrop::Frame(FrameError::Length) => eprintln!(self.rt;
-                "note: {count} dropped: a frame has {} octets, but must have {}: the zone is {}{}",
+        match by {
+            LinkDrop::Frame(FrameError::Length) => format!(in alloc;
+                "{count} dropped: a frame has {} octets, but must have {}: the zone is {}{}",
                 foreign.len.saturating_add(more),
                 frame_len(&up),
                 up.zone,
                 MoreOctets(up.fields.extra())
             ),
-            LinkDrop::Frame(FrameError::OtherSpacecraft) => eprintln!(self.rt;
-                "note: {count} dropped: a frame has spacecraft id {}, but must have {}",
+            LinkDrop::Frame(FrameError::OtherSpacecraft) => format!(in alloc;
+                "{count} dropped: a frame has spacecraft id {}, but must have {}",
                 foreign.spacecraft, up.spacecraft
             ),
-            LinkDrop::Frame(FrameError::OtherChannel) => eprintln!(self.rt;
-                "note: {count} dropped: a frame has channel {}, but must have {} or {}",
+            LinkDrop::Frame(FrameError::OtherChannel) => format!(in alloc;
+                "{count} dropped: a frame has channel {}, but must have {} or {}",
                 foreign.virtual_channel, up.virtual_channel, up.data_virtual_channel
             ),
-            LinkDrop::OtherApid => eprintln!(self.rt;
-                "note: {count} dropped: a packet has another APID, but must have {}",
+            LinkDrop::OtherApid => format!(in alloc;
+                "{count} dropped: a packet has another APID, but must have {}",
                 up.apid
             ),
-            _ => eprintln!(self.rt; "note: {count} dropped: {by}"),
-        };
+            _ => format!(in alloc; "{count} dropped: {by}"),
+        }
     }
 
     fn tell_pdu_drop(&self, by: EntityDrop, count: u64) {
-        let entity = self.config.entity;
-        self.lookout.progress.yields();
-        let _ = match by {
-            EntityDrop::NotForUs => eprintln!(self.rt;
-                "note: {count} dropped: a PDU has other ids: here the id of the peer is {}, ours {}",
+        let (entity, alloc) = (self.config.entity, self.rt.alloc());
+        let text = match by {
+            EntityDrop::NotForUs => format!(in alloc;
+                "{count} dropped: a PDU has other ids: here the id of the peer is {}, ours {}",
                 entity.peer, entity.entity
             ),
-            EntityDrop::TableFull => eprintln!(self.rt;
-                "note: {count} dropped: the table is full: 4096 transactions are open, and a new \
-                 one must wait until one of them ends"
+            EntityDrop::TableFull => format!(in alloc;
+                "{count} dropped: the table is full: 4096 transactions are open, and a new one \
+                 must wait until one of them ends"
             ),
-            _ => eprintln!(self.rt; "note: {count} dropped: {by}"),
+            _ => format!(in alloc; "{count} dropped: {by}"),
         };
+        self.teller.notes(NoteTopic::Pdu(by), text);
     }
 
-    /// Tells in what the peer is set up otherwise, where its beacon came.
+    /// Reports in what the peer is set up otherwise, if its beacon came: in the ids alone if these
+    /// differ, since the defaults of channels and APIDs follow from them.
     fn tell_beacon(&mut self, now: u64) {
         let Some(beacon) = self.exchange.beacon.take() else {
             return;
@@ -329,17 +425,19 @@ impl<'a> Notices<'a> {
             return;
         }
         self.exchange.differs.set(true);
-        self.lookout.progress.yields();
+        let has_other_ids = beacon.has_other_ids(&own);
         for (what, theirs, ours) in beacon.beside(&own) {
-            if theirs != ours {
-                let _ = eprintln!(self.rt;
-                    "note: {what} differs: {theirs} at the peer, {ours} here"
+            if theirs != ours && (what.is_id() || !has_other_ids) {
+                let name = what.name();
+                let text = format!(in self.rt.alloc();
+                    "{name} differs: {theirs} at the peer, {ours} here"
                 );
+                self.teller.notes(NoteTopic::Differs(what), text);
             }
         }
     }
 
-    /// Tells why the system failed to send, where it did.
+    /// Reports why the system failed to send, if it did.
     fn tell_failure(&mut self, now: u64) {
         let Some(kind) = self.exchange.failed.take() else {
             return;
@@ -347,14 +445,12 @@ impl<'a> Notices<'a> {
         if !is_over(&mut self.failure_at, now) {
             return;
         }
-        self.lookout.progress.yields();
-        let _ = match kind {
-            ErrorKind::ConnectionRefused => eprintln!(self.rt;
-                "note: nothing listens at {}",
-                self.to
-            ),
-            kind => eprintln!(self.rt; "note: the socket failed: {}", cause_text(kind)),
+        let alloc = self.rt.alloc();
+        let text = match kind {
+            ErrorKind::ConnectionRefused => format!(in alloc; "nothing listens at {}", self.to),
+            kind => format!(in alloc; "the socket failed: {}", cause_text(kind)),
         };
+        self.teller.notes(NoteTopic::Socket, text);
     }
 
     /// Says that nothing is sent if counts of frames can't be reserved, or that no file is sent if
@@ -363,23 +459,46 @@ impl<'a> Notices<'a> {
         if let Some(stopped) = Stopped::at(self.exchange)
             && is_over(&mut self.stopped_at, now)
         {
-            self.lookout.progress.yields();
-            let _ = eprintln!(self.rt; "note: {stopped}");
+            let alloc = self.rt.alloc();
+            let text = match &self.state {
+                Some(path) => format!(in alloc; "{stopped} ({path})"),
+                None => format!(in alloc; "{stopped}"),
+            };
+            self.teller.notes(NoteTopic::StateFile, text);
         }
     }
 
-    /// Tells that frames change places on their way or come twice, where many do, and what to do.
+    /// Says that the journal couldn't be written, and what follows from that.
+    fn tell_journal(&self) {
+        if let Some(journal) = self.journal
+            && let Some(kind) = journal.take_fault()
+        {
+            let (path, cause) = (journal.path(), cause_text(kind));
+            let text = if journal.is_stuck() {
+                format!(in self.rt.alloc();
+                    "{path}: {cause}, and it can't be removed: the station stops"
+                )
+            } else {
+                format!(in self.rt.alloc();
+                    "{path}: {cause}: transfers don't go on after a restart until it can be written"
+                )
+            };
+            self.teller.notes(NoteTopic::Journal, text);
+        }
+    }
+
+    /// Reports that frames change places on their way or come twice, if many do, and what to do.
     fn tell_order(&mut self, now: u64) {
         let gaps = &self.exchange.gaps;
         let late = gaps.late().saturating_sub(self.order.late);
         let came = gaps.came().saturating_sub(self.order.came);
         if is_often_late(late, came) && is_over(&mut self.order_at, now) {
-            self.lookout.progress.yields();
-            let _ = eprintln!(self.rt;
-                "note: {late} of {came} frames arrived out of order, or twice: PDUs in several \
-                 frames are lost then; use --carrier pdus at both ends, or a zone so large that \
-                 a PDU fits in a frame"
+            let text = format!(in self.rt.alloc();
+                "{late} of {came} frames arrived out of order, or twice: PDUs in several frames \
+                 are lost then; use --carrier pdus at both ends, or a zone so large that a PDU \
+                 fits in a frame"
             );
+            self.teller.notes(NoteTopic::Order, text);
         }
         if now >= self.order.at.saturating_add(LOOK) {
             self.order = OrderLook {
@@ -404,10 +523,10 @@ impl<'a> Notices<'a> {
         }
     }
 
-    /// Tells which file the peer doesn't tell to be finished, where nothing has come for a while.
+    /// Reports which file the peer doesn't say to be finished, if nothing has come for a while.
     fn tell_waiting<O: Outbox, I: Inbox>(&mut self, now: u64, station: &Station<O, I>) {
         let is_early = now == self.looked || now < self.heard.saturating_add(QUIET);
-        if is_early || self.exchange.is_frozen.get() {
+        if is_early || self.exchange.is_frozen.get() || self.is_explained(now) {
             return;
         }
         self.looked = now;
@@ -417,18 +536,18 @@ impl<'a> Notices<'a> {
         };
         if is_over(&mut self.waits_at, now) {
             let quiet = now.saturating_sub(self.heard);
-            self.lookout.progress.yields();
-            let _ = eprintln!(self.rt;
-                "note: {}:{} waits for the peer's Finished; nothing received for {quiet} seconds",
+            let text = format!(in self.rt.alloc();
+                "{}:{} waits for the peer's Finished; nothing received for {quiet} seconds",
                 id.source, id.number
             );
+            self.teller.notes(NoteTopic::Finished, text);
         }
     }
 }
 
 /// Says that a transaction ends before anything of it is sent again, if a time after which that is
 /// done is longer than that of inactivity.
-pub fn tell_timers(rt: &HostRuntime, config: &StationConfig, unit: TimeUnit) {
+pub fn tell_timers(rt: &HostRuntime, teller: Teller<'_>, config: &StationConfig, unit: TimeUnit) {
     let Policy {
         times,
         handlers,
@@ -438,30 +557,40 @@ pub fn tell_timers(rt: &HostRuntime, config: &StationConfig, unit: TimeUnit) {
     if times.inactivity >= longest || handlers.inactivity == Handler::Ignore {
         return;
     }
-    let unit = match unit {
-        TimeUnit::Seconds => "s",
-        TimeUnit::Milliseconds => "ms",
-    };
+    let unit = unit_word(unit);
     let inactivity = times.inactivity;
-    let _ = eprintln!(rt;
-        "note: inactivity_time is {inactivity} {unit}, but requests are repeated after up to \
+    let text = format!(in rt.alloc();
+        "inactivity_time is {inactivity} {unit}, but requests are repeated after up to \
          {longest} {unit}: a silent peer ends a transaction before that"
     );
+    teller.notes(NoteTopic::Timers, text);
 }
 
 /// Says whether frames are authenticated, by MACs of so many octets.
-pub fn tell_authentication(rt: &HostRuntime, carrier: CarrierKind, mac_len: Option<u64>) {
-    let _ = match (mac_len, carrier) {
+pub fn tell_authentication(
+    rt: &HostRuntime,
+    teller: Teller<'_>,
+    carrier: CarrierKind,
+    mac_len: Option<u64>,
+) {
+    let alloc = rt.alloc();
+    let text = match (mac_len, carrier) {
         (Some(octets), _) => {
-            eprintln!(rt; "note: frames are authenticated: MAC of {octets} octets")
+            format!(in alloc; "frames are authenticated: MAC of {octets} octets")
         }
-        (None, CarrierKind::Frames) => eprintln!(rt;
-            "note: frames are not authenticated: without --keys anybody on the network can send them"
+        (None, CarrierKind::Frames) => format!(in alloc;
+            "frames are not authenticated: without --keys anybody on the network can send them"
         ),
-        (None, CarrierKind::Packets | CarrierKind::Pdus) => eprintln!(rt;
-            "note: datagrams are not authenticated: anybody on the network can send them"
+        (None, CarrierKind::Packets | CarrierKind::Pdus) => format!(in alloc;
+            "datagrams are not authenticated: anybody on the network can send them"
         ),
     };
+    teller.notes(NoteTopic::Authentication, text);
+}
+
+/// Adds a length to a count.
+fn adds(count: &Cell<u64>, len: usize) {
+    count.set(count.get().saturating_add(len as u64));
 }
 
 /// Whether a transaction is open at its sender.
@@ -478,8 +607,8 @@ fn is_misfit(by: LinkDrop) -> bool {
     }
 }
 
-/// Whether a PDU that was dropped for this is told of, where the table of transactions is full or
-/// isn't. Where it isn't, `TableFull` says that too many answers to PDUs of unknown transactions
+/// Whether a PDU that was dropped for this is reported, if the table of transactions is full or
+/// isn't. If it isn't, `TableFull` says that too many answers to PDUs of unknown transactions
 /// wait, and the peer sends such a PDU once more.
 fn is_told(by: EntityDrop, is_full: bool) -> bool {
     match by {
@@ -505,11 +634,24 @@ impl Lookout for Notices<'_> {
         passed: Passed<'_>,
         station: &Station<O, I>,
     ) {
+        if let Some(journal) = self.journal {
+            journal.sees(passed, station);
+        }
         self.note_ended(station);
         match passed {
             Passed::Took(datagram) => {
                 self.monitor.takes(datagram);
                 self.looks_at(datagram);
+                adds(&self.exchange.octets_received, datagram.len());
+                if let Some(watch) = &mut self.watch {
+                    watch.received(datagram, station);
+                }
+            }
+            Passed::Left { frame, .. } => {
+                adds(&self.exchange.octets_sent, frame.len());
+                if let Some(watch) = &mut self.watch {
+                    watch.leaves(frame, station);
+                }
             }
             Passed::Ticked(_) => {
                 let now = self.now();
@@ -517,16 +659,9 @@ impl Lookout for Notices<'_> {
                     self.hears = false;
                     self.heard = now;
                 }
-                self.tell_drops(now, station);
-                self.tell_datagram_drops(now);
-                self.tell_refusals(now);
-                self.tell_beacon(now);
-                self.tell_failure(now);
-                self.tell_stop(now);
-                self.tell_order(now);
-                self.tell_waiting(now, station);
+                self.tells(now, station);
             }
-            Passed::Put | Passed::Polled(_) | Passed::Left { .. } => {}
+            Passed::Put | Passed::Polled(_) => {}
         }
         self.lookout.sees(side, passed, station);
     }
@@ -536,6 +671,9 @@ impl Lookout for Notices<'_> {
     }
 
     fn ends(&mut self) {
+        let now = self.now();
+        self.tell_held(now);
+        self.tell_journal();
         self.lookout.ends();
     }
 }

@@ -1,36 +1,45 @@
 //! A station that serves its operator over its stores, from its first turn to its last.
+use crate::station::earlier::keep_earlier;
 use crate::station::notices::{Notices, tell_authentication, tell_timers};
 use crate::station::operator::{OperatorConsole, OperatorPost};
-use crate::station::{outbox_of, side_of};
+use crate::station::refusals::FileLimits;
+use crate::station::resuming::{Found, run_resumed};
+use crate::station::{outbox_of, side_of, state_path};
 use crate::transfers::named_files::folder_outbox;
-use crate::transfers::telling::{LoopLookout, TellingInbox, TellingNoInbox, TellingOutbox};
-use cfdp_command_line::{CarrierKind, StationRequest, frame_losses};
+use crate::transfers::teller::{SpoolNotes, Teller};
+use crate::transfers::telling::{
+    InboxRules, LoopLookout, TellingInbox, TellingNoInbox, TellingOutbox,
+};
+use cfdp_command_line::{CarrierKind, StationRequest, TimeUnit, VERSION, frame_losses};
 use cfdp_console::LogLines;
 use cfdp_control::LineSources;
 use cfdp_datagrams::{Carrier, CarrierWire, PeerSocket, SharedNumbers, StationKeeper, frame_len};
 use cfdp_exchange::Exchange;
-use cfdp_journal::{Board, BoardSetup, Form, Journal, JournalSetup, KeptLog, Log, LossyLog, Style};
+use cfdp_journal::{
+    Board, BoardSetup, Form, Journal, JournalSetup, KeptLog, Log, LossyLog, PduWatch, SeenPdus,
+    Style,
+};
 use cfdp_port::{Lookout, LossyWire, PeerWire};
 use cfdp_report::{Exit, Fault};
 use cfdp_service::{
     Clerk, ClerkLimits, NoSpool, PutNames, ServiceEnds, ServiceOptions, Spool, run,
 };
-use cfdp_spool::{FolderSpool, StandardErrorTeller};
-use cfdp_station::StationConfig;
-use cfdp_store::{Inbox, SeekingOutbox};
-use cfdp_watch::{Onlooker, Progress, Ran, Screen};
+use cfdp_spool::FolderSpool;
+use cfdp_station::{Limits, StationConfig};
+use cfdp_store::{ResumingInbox, SeekingOutbox};
+use cfdp_watch::{Onlooker, Progress, Ran, Screen, Shown};
 use frame_security::{Opener, Sealer};
 use secured_wire::SecuredWire;
 use station_pair::WorldConfig;
 use std::alloc::{AllocError, Global};
-use std::cell::Cell;
+use transfer_journal::{Survey, TransferJournal};
 use valid_config::Valid;
 
 /// The longest frame over which a wire can be secured.
 const MOST_FRAME: usize = 65_536;
 
-/// A spool over a folder, which tells what its operator has to know on standard error.
-pub type StationSpool<'a> = FolderSpool<'a, StandardErrorTeller<'a>>;
+/// A spool over a folder, which reports to its operator on standard error and in the log.
+pub type StationSpool<'a> = FolderSpool<'a, SpoolNotes<'a>>;
 
 /// What a station needs to run.
 #[derive(Drop)]
@@ -63,10 +72,17 @@ pub struct SecuredEnds {
 
 /// What a station serves, before it has its wire.
 #[derive(Drop)]
-struct Served<'a, O: SeekingOutbox, I: Inbox, S: Spool> {
+struct Served<'a, O: SeekingOutbox, I: ResumingInbox, S: Spool> {
     stores: (O, I),
     spool: S,
     sources: LineSources<'a>,
+}
+
+/// The journal of a station, and what it said before the start.
+#[derive(Clone, Copy)]
+pub struct Transfers<'a> {
+    pub journal: &'a TransferJournal<'a>,
+    pub found: &'a Found,
 }
 
 /// What a run is shown by, and what was asked for.
@@ -75,9 +91,13 @@ pub struct Context<'a> {
     pub rt: &'a HostRuntime,
     pub request: &'a StationRequest,
     pub exchange: &'a Exchange,
+    /// The PDUs that the console's board doesn't know yet.
+    pub pdus: &'a SeenPdus,
+    /// The journal by which transfers go on, if there is one.
+    pub transfers: Option<Transfers<'a>>,
     pub progress: &'a Progress<'a>,
-    /// Whether it was said why a store failed.
-    pub told: &'a Cell<bool>,
+    /// Who reports to the operator what is wrong.
+    pub teller: Teller<'a>,
 }
 
 /// Runs the station over the folder that it sends from. Without one it has no put, and asks for no
@@ -89,9 +109,9 @@ pub fn ran<'a>(
 ) -> Ran {
     let rt = context.rt;
     let path = outbox_of(context.request).unwrap_or("");
-    match folder_outbox(rt, path) {
+    match folder_outbox(rt, path, context.request.names) {
         Ok(outbox) => {
-            let outbox = TellingOutbox::over(rt, path, outbox, context.told, context.progress);
+            let outbox = TellingOutbox::over(rt, path, outbox, context.teller);
             match spool {
                 Some(spool) => ran_from(context, parts, outbox, spool),
                 None => ran_from(context, parts, outbox, NoSpool::new()),
@@ -111,28 +131,52 @@ fn ran_from<'a, O: SeekingOutbox, S: Spool>(
     let Context {
         rt,
         request,
-        progress,
-        told,
+        teller,
         ..
     } = context;
     match &request.inbox {
         Some(path) => {
-            let replaces = !request.flags.no_overwrite;
-            let most = request.limits.most_size;
-            match TellingInbox::new(rt, path.as_str(), replaces, most, told, progress) {
+            let rules = InboxRules {
+                replaces: !request.flags.no_overwrite,
+                most_size: request.limits.most_size,
+                names: request.names,
+            };
+            match inbox_at(context, path.as_str(), rules) {
                 Ok(inbox) => ran_over(context, parts, (outbox, inbox), spool),
                 Err(AllocError) => Ran::unseen(Exit::Device(Fault::NoMemoryAtStart)),
             }
         }
         None => {
-            let inbox = TellingNoInbox::new(rt, told, progress);
+            let inbox = TellingNoInbox::new(rt, teller);
             ran_over(context, parts, (outbox, inbox), spool)
         }
     }
 }
 
+/// Returns the inbox over a folder. If there is a journal, it has the parts that it goes on with.
+fn inbox_at<'a>(
+    context: Context<'a>,
+    path: &'a str,
+    rules: InboxRules,
+) -> Result<TellingInbox<'a>, AllocError> {
+    let Context {
+        rt,
+        transfers,
+        progress,
+        teller,
+        ..
+    } = context;
+    match transfers {
+        Some(Transfers { journal, found }) => {
+            let parts = found.part_names(rt);
+            TellingInbox::with_journal(rt, path, rules, teller, progress, (journal, &parts))
+        }
+        None => TellingInbox::new(rt, path, rules, teller, progress),
+    }
+}
+
 /// Runs the station over these stores. One looks on if that is asked for.
-fn ran_over<'a, O: SeekingOutbox, I: Inbox, S: Spool>(
+fn ran_over<'a, O: SeekingOutbox, I: ResumingInbox, S: Spool>(
     context: Context<'a>,
     parts: StationParts<'a, '_>,
     stores: (O, I),
@@ -142,26 +186,33 @@ fn ran_over<'a, O: SeekingOutbox, I: Inbox, S: Spool>(
         rt,
         request,
         exchange,
+        pdus,
+        transfers,
         progress,
-        ..
+        teller,
     } = context;
     let config = parts.config;
     let screen = Screen {
         rt,
         progress: Some(progress),
     };
-    match Onlooker::new(screen, config, &request.shown) {
+    keep_seen(rt, &request.shown);
+    match Onlooker::at_station(screen, config, &request.shown) {
         Ok(onlooker) => {
             let own = WorldConfig::station(config, side_of(request)).get();
             let lookout = LoopLookout::new(onlooker, progress);
-            tell_timers(rt, &own, request.unit);
+            tell_timers(rt, teller, &own, request.unit);
             tell_authentication(
                 rt,
+                teller,
                 request.carrier,
                 parts.ends.as_ref().map(|it| it.mac_len),
             );
-            let configs = (own, parts.on_link);
-            let mut notices = Notices::new(rt, lookout, exchange, configs, request.to.as_str());
+            let (configs, to) = ((own, parts.on_link), request.to.as_str());
+            let state = state_path(rt, request);
+            let mut notices = Notices::new(rt, teller, lookout, exchange, configs, to, state);
+            notices.watch = pdu_watch(context, config);
+            notices.journal = transfers.map(|it| it.journal);
             let exit = wired(context, parts, stores, spool, &mut notices);
             Ran {
                 exit,
@@ -172,8 +223,25 @@ fn ran_over<'a, O: SeekingOutbox, I: Inbox, S: Spool>(
     }
 }
 
+/// What looks at the PDUs for the console, if there is one and there is memory for that.
+fn pdu_watch<'a>(context: Context<'a>, config: Valid<WorldConfig>) -> Option<PduWatch<'a>> {
+    let _address = context.request.console.as_ref()?;
+    let own = WorldConfig::station(config, side_of(context.request));
+    PduWatch::new(context.rt.alloc(), own, context.pdus).ok()
+}
+
+/// Keeps the capture and the chart of an earlier run, if there are any.
+fn keep_seen(rt: &HostRuntime, shown: &Shown) {
+    if let Some(path) = &shown.pcap {
+        keep_earlier(rt, path.as_str());
+    }
+    if let Some(path) = &shown.chart {
+        keep_earlier(rt, path.as_str());
+    }
+}
+
 /// Runs the station over its socket, which loses some of its datagrams if that is asked for.
-fn wired<'a, O: SeekingOutbox, I: Inbox, S: Spool, L: Lookout>(
+fn wired<'a, O: SeekingOutbox, I: ResumingInbox, S: Spool, L: Lookout>(
     context: Context<'a>,
     parts: StationParts<'a, '_>,
     stores: (O, I),
@@ -212,7 +280,7 @@ fn wired<'a, O: SeekingOutbox, I: Inbox, S: Spool, L: Lookout>(
 }
 
 /// Runs the station over a wire whose frames are authenticated.
-fn secured<'a, O: SeekingOutbox, I: Inbox, S: Spool, W: PeerWire, L: Lookout>(
+fn secured<'a, O: SeekingOutbox, I: ResumingInbox, S: Spool, W: PeerWire, L: Lookout>(
     context: Context<'a>,
     options: ServiceOptions,
     served: Served<'a, O, I, S>,
@@ -231,7 +299,7 @@ fn secured<'a, O: SeekingOutbox, I: Inbox, S: Spool, W: PeerWire, L: Lookout>(
 }
 
 /// Runs the station over a wire whose datagrams are frames, packets or PDUs.
-fn carried<'a, O: SeekingOutbox, I: Inbox, S: Spool, W: PeerWire, L: Lookout>(
+fn carried<'a, O: SeekingOutbox, I: ResumingInbox, S: Spool, W: PeerWire, L: Lookout>(
     context: Context<'a>,
     options: ServiceOptions,
     served: Served<'a, O, I, S>,
@@ -247,7 +315,7 @@ fn carried<'a, O: SeekingOutbox, I: Inbox, S: Spool, W: PeerWire, L: Lookout>(
 }
 
 /// Runs the station for its operator. The buffer of its log is there before the first turn.
-fn operated<'a, O: SeekingOutbox, I: Inbox, W: PeerWire, S: Spool, L: Lookout>(
+fn operated<'a, O: SeekingOutbox, I: ResumingInbox, W: PeerWire, S: Spool, L: Lookout>(
     context: Context<'a>,
     options: ServiceOptions,
     served: Served<'a, O, I, S>,
@@ -258,8 +326,10 @@ fn operated<'a, O: SeekingOutbox, I: Inbox, W: PeerWire, S: Spool, L: Lookout>(
         rt,
         request,
         exchange,
+        pdus,
+        transfers,
         progress,
-        ..
+        teller,
     } = context;
     let Served {
         stores,
@@ -286,21 +356,49 @@ fn operated<'a, O: SeekingOutbox, I: Inbox, W: PeerWire, S: Spool, L: Lookout>(
     } else {
         Form::Text
     };
-    let board = has_console.then(|| Board::new(board_setup(context)));
+    let own_policy = options.config.get().entity.policy;
+    let board = has_console.then(|| Board::new(board_setup(context, own_policy.limits)));
     let post = OperatorPost {
         sources,
         journal,
         board,
+        pdus,
         form,
         keys: keys_of(request),
+        outbox: outbox_of(request),
+        names: request.names,
+        limits: FileLimits {
+            most_size: request.limits.most_size,
+            most_open: request.limits.most_open,
+        },
+        inactivity: u64::from(own_policy.times.inactivity),
+        unit: unit_word(request.unit),
+        transfers: transfers.map(|it| it.journal),
+        teller,
     };
     let console = OperatorConsole::new(rt, post, exchange, progress);
     let own = request.numbers.id;
-    let mut clerk = Clerk::new(rt.alloc(), own, limits(request), spool, console);
-    if add_puts(rt.alloc(), &mut clerk, request.puts.as_slice()).is_err() {
+    let most_gaps = own_policy.most_gaps.unwrap_or(0);
+    let mut clerk = Clerk::new(rt.alloc(), own, limits(request, most_gaps), spool, console);
+    let survey = transfers.and_then(|it| it.found.take());
+    if add_puts(
+        rt.alloc(),
+        &mut clerk,
+        request.puts.as_slice(),
+        survey.as_ref(),
+    )
+    .is_err()
+    {
         return Exit::Device(Fault::NoMemoryAtStart);
     }
-    let exit = match run(rt.alloc(), options, ends, &mut clerk, lookout) {
+    let ran = match (transfers, survey) {
+        (Some(Transfers { journal, .. }), Some(survey)) => {
+            let journal = (journal, survey);
+            run_resumed(rt, teller, options, ends, journal, &mut clerk, lookout)
+        }
+        (Some(_), None) | (None, _) => run(rt.alloc(), options, ends, &mut clerk, lookout),
+    };
+    let exit = match ran {
         Ok(ended) => clerk.console().exit(ended.is_short, ended.has_failed),
         Err(AllocError) => Exit::Device(Fault::NoMemoryAtStart),
     };
@@ -334,8 +432,8 @@ fn journal_setup(context: Context<'_>) -> JournalSetup<'_> {
     }
 }
 
-/// Of which station the console's board is.
-fn board_setup(context: Context<'_>) -> BoardSetup<'_> {
+/// The station that the console's board is of.
+fn board_setup(context: Context<'_>, limits: Limits) -> BoardSetup<'_> {
     let Context {
         rt,
         request,
@@ -352,8 +450,18 @@ fn board_setup(context: Context<'_>) -> BoardSetup<'_> {
             CarrierKind::Pdus => "pdus",
         },
         to: request.to.as_str(),
+        version: VERSION,
         is_authenticated: request.keys.is_some(),
+        limits,
         exchange,
+    }
+}
+
+/// Returns the word for a unit of times.
+pub fn unit_word(unit: TimeUnit) -> &'static str {
+    match unit {
+        TimeUnit::Seconds => "s",
+        TimeUnit::Milliseconds => "ms",
     }
 }
 
@@ -365,29 +473,35 @@ fn keys_of(request: &StationRequest) -> Option<&str> {
     }
 }
 
-/// What limits the station's clerk.
-fn limits(request: &StationRequest) -> ClerkLimits {
+/// What limits the station's clerk; `most_gaps` are the most of a file, and 0 stands for no limit.
+fn limits(request: &StationRequest, most_gaps: u64) -> ClerkLimits {
     let limits = request.limits;
     ClerkLimits {
         at_once: limits.at_once as usize,
         retries: u32::try_from(limits.retries).unwrap_or(u32::MAX),
         most_size: limits.most_size,
         most_open: limits.most_open as usize,
+        most_gaps,
     }
 }
 
-/// Asks for the files that are to be sent, by pairs of words.
+/// Asks for the files that must be sent, by pairs of words, except for those that an earlier run
+/// began to send.
 fn add_puts<S: Spool>(
     alloc: Global,
     clerk: &mut Clerk<S, OperatorConsole<'_>>,
     words: &[String],
+    survey: Option<&Survey>,
 ) -> Result<(), AllocError> {
     for pair in 0..words.len() / 2 {
-        let names = PutNames {
-            source: Vec::from_slice(alloc, words[2 * pair].as_bytes())?,
-            destination: Vec::from_slice(alloc, words[2 * pair + 1].as_bytes())?,
-        };
-        clerk.add(names, false)?;
+        let (source, destination) = (words[2 * pair].as_bytes(), words[2 * pair + 1].as_bytes());
+        if !survey.is_some_and(|it| it.sends(source, destination)) {
+            let names = PutNames {
+                source: Vec::from_slice(alloc, source)?,
+                destination: Vec::from_slice(alloc, destination)?,
+            };
+            clerk.add(names, false)?;
+        }
     }
     Ok(())
 }

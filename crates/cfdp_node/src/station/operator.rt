@@ -1,38 +1,62 @@
 //! Where the operator of a station stands: the lines of commands, the console, and the log.
+use crate::station::refusals::{FileLimits, Refusing, put_fault, sendable_names};
+use crate::transfers::teller::Teller;
 use cfdp_console::{Answer, Ask, Look, Shown};
-use cfdp_control::{Asked, CommandHelp, LineFault, LineSources, Speaker, parse_command};
+use cfdp_control::{
+    Asked, CommandHelp, LineFault, LineSources, Speaker, parse_command, printed_names, split_form,
+};
 use cfdp_directives::Indication;
-use cfdp_exchange::Exchange;
+use cfdp_exchange::{Exchange, NoteTopic};
 use cfdp_files::{SecretError, read_keys};
 use cfdp_header::TransactionId;
-use cfdp_journal::{Board, Form, Journal, KeptLog, LossyLog, Moment, Stopped, Waiting};
+use cfdp_journal::{
+    Board, Clock, Form, Journal, KeptLog, LossyLog, Moment, SeenPdus, Stopped, Waiting,
+};
 use cfdp_report::{Exit, Fault};
 use cfdp_service::{Command, Console, Outcome, PutNames, Reply};
-use cfdp_station::Station;
-use cfdp_store::{Inbox, Outbox};
+use cfdp_station::{Phase, Request, Station};
+use cfdp_store::{Inbox, NameRule, Outbox};
 use cfdp_watch::Progress;
 use std::alloc::AllocError;
 use std::fmt;
 use std::io::Write;
+use transfer_journal::TransferJournal;
 
 /// The most lines that are answered before one turn.
 const MOST_LINES: u32 = 64;
+
+/// Milliseconds of a second.
+const SECOND: u64 = 1_000;
 
 /// What an operator has before the first command.
 #[derive(Drop)]
 pub struct OperatorPost<'a> {
     pub sources: LineSources<'a>,
     pub journal: Journal<'a, KeptLog<LossyLog<'a>>>,
-    /// What the console shows, where there is one.
+    /// What the console shows, if there is one, and the PDUs that it doesn't know yet.
     pub board: Option<Board<'a>>,
+    pub pdus: &'a SeenPdus,
     /// How questions are answered.
     pub form: Form,
     /// The path of the file of keys, if frames are authenticated.
     pub keys: Option<&'a str>,
+    /// The path of the folder that files are sent from, if there is one.
+    pub outbox: Option<&'a str>,
+    /// Which names files may have.
+    pub names: NameRule,
+    /// What limits the files that are received.
+    pub limits: FileLimits,
+    /// After how many units of time without a PDU a transaction is given up, and the unit's name.
+    pub inactivity: u64,
+    pub unit: &'static str,
+    /// The journal by which transfers go on, if there is one.
+    pub transfers: Option<&'a TransferJournal<'a>>,
+    /// Who reports to the operator what is wrong.
+    pub teller: Teller<'a>,
 }
 
 /// Where the operator of a station stands: lines of commands come from standard input and from a
-/// control address, others from the console, and what the station does goes to its log and, where
+/// control address, others from the console, and what the station does goes to its log and, if
 /// there is a console, to its board.
 #[derive(Drop)]
 pub struct OperatorConsole<'a> {
@@ -40,14 +64,16 @@ pub struct OperatorConsole<'a> {
     post: OperatorPost<'a>,
     exchange: &'a Exchange,
     progress: &'a Progress<'a>,
-    // Who asked for the change of a transaction that is being made.
-    asker: Option<Speaker>,
+    // Who asked for the change of a transaction that is being made, and whether it suspends that.
+    asker: Option<(Speaker, bool)>,
+    // The files that are refused since they are beyond the limits.
+    refusing: Refusing,
     // Whether a file waits for which no number was reserved.
     wants_number: bool,
 }
 
 impl<'a> OperatorConsole<'a> {
-    /// Before the first command.
+    /// Returns the console before the first command.
     pub fn new(
         rt: &'a HostRuntime,
         post: OperatorPost<'a>,
@@ -60,11 +86,12 @@ impl<'a> OperatorConsole<'a> {
             exchange,
             progress,
             asker: None,
+            refusing: Refusing::NONE,
             wants_number: false,
         }
     }
 
-    /// How the run ended, by whether memory was wanting for a turn and whether a store failed.
+    /// Returns how the run ended, by whether memory ran out for a turn and whether a store failed.
     pub fn exit(&self, is_short: bool, has_store_failed: bool) -> Exit {
         if self.post.journal.has_failed() {
             Exit::Device(Fault::Unwritable)
@@ -73,7 +100,7 @@ impl<'a> OperatorConsole<'a> {
         }
     }
 
-    /// The writer of its log.
+    /// Returns the writer of its log.
     pub fn into_writer(self) -> KeptLog<LossyLog<'a>> {
         let post = self.post;
         let OperatorPost { journal, .. } = post;
@@ -107,23 +134,50 @@ impl<'a> OperatorConsole<'a> {
         station: &Station<O, I>,
         waiting: usize,
     ) -> Option<Command> {
+        let (is_json, line) = split_form(line);
+        let form = if is_json { Form::Json } else { self.post.form };
         match parse_command(self.rt.alloc(), line) {
-            Ok(Asked::Command(command)) => {
-                self.accepts(speaker, &command);
-                Some(command)
-            }
+            Ok(Asked::Command(command)) => self.commanded(speaker, command),
             Ok(Asked::Rekey) => {
                 self.rekeys(speaker);
                 None
             }
             Ok(asked) => {
-                self.answers(speaker, &asked, station, waiting);
+                self.answers(speaker, &asked, form, station, waiting);
                 None
             }
             Err(error) => {
                 self.refuses(speaker, &error);
                 None
             }
+        }
+    }
+
+    /// Accepts a command, unless it is a put of a file that can't be sent.
+    fn commanded(&mut self, speaker: Speaker, command: Command) -> Option<Command> {
+        let Ok(command) = self.named(command) else {
+            self.refuses(speaker, &"out of memory");
+            return None;
+        };
+        if let Command::Put { names, .. } = &command
+            && let Some(fault) = put_fault(self.rt, self.post.outbox, self.post.names, names)
+        {
+            self.refuses(speaker, &fault);
+            return None;
+        }
+        self.accepts(speaker, &command);
+        Some(command)
+    }
+
+    /// Returns a command with the names that its words stand for: if files may have any names, the
+    /// words are names as they are printed, otherwise the names themselves.
+    fn named(&self, command: Command) -> Result<Command, AllocError> {
+        match (command, self.post.names) {
+            (Command::Put { names, is_first }, NameRule::Any) => Ok(Command::Put {
+                names: printed_names(self.rt.alloc(), &names)?,
+                is_first,
+            }),
+            (command, _) => Ok(command),
         }
     }
 
@@ -134,7 +188,10 @@ impl<'a> OperatorConsole<'a> {
         waiting: usize,
     ) -> Option<Command> {
         let now = self.post.sources.now();
-        self.post.board.as_mut()?.notes_frames(now);
+        let pdus = self.post.pdus.take();
+        let board = self.post.board.as_mut()?;
+        board.notes_frames(now);
+        board.notes_pdus(pdus.as_slice(), station);
         let (speaker, ask) = self.post.sources.next_ask()?;
         match ask {
             Ask::Command(line) => self.obeys(speaker, line.as_slice(), station, waiting),
@@ -157,16 +214,32 @@ impl<'a> OperatorConsole<'a> {
         let (Some(board), Some(log)) = (&self.post.board, self.post.journal.writer().lines()) else {
             return Err(AllocError);
         };
-        let status = board.status(station, self.moment(waiting))?;
-        let (journal, told) = (&self.post.journal, self.exchange.told.get());
+        let journal = &self.post.journal;
+        let status = board.status(station, self.moment(waiting), journal.noted())?;
+        let clock = Clock {
+            now: self.exchange.told.get(),
+            inactivity: self.post.inactivity,
+        };
         let open = match look {
-            Look::Transactions(_) => journal.shown(station, told)?,
-            Look::Transaction(id) => journal.shown_alone(station, told, id.as_slice())?,
+            Look::Transactions(_) => journal.shown(station, clock)?,
+            Look::Transaction(id) | Look::Details(id) => {
+                journal.shown_alone(station, clock, id.as_slice())?
+            }
+            _ => Vec::new(alloc),
+        };
+        let details = match look {
+            Look::Details(id) => board.details(station, id.as_slice())?,
+            _ => None,
+        };
+        let files = match (look, self.post.outbox) {
+            (Look::Files, Some(folder)) => sendable_names(self.rt, folder, self.post.names)?,
             _ => Vec::new(alloc),
         };
         let shown = Shown {
             status: &status,
             open: open.as_slice(),
+            files: files.as_slice(),
+            details: details.as_ref(),
             ledger: board.ledger(),
             log,
             samples: board.samples(),
@@ -186,8 +259,8 @@ impl<'a> OperatorConsole<'a> {
         }
     }
 
-    /// What waits, where so many files are known to wait for their put. How many lie in a spool
-    /// isn't known: there is one, where one is wanted and no number can be reserved for it.
+    /// What waits, if so many files are known to wait for their put. How many lie in a spool
+    /// isn't known: there is one, if one is wanted and no number can be reserved for it.
     fn waiting(&self, files: usize) -> Waiting {
         let stopped = match Stopped::at(self.exchange) {
             Some(Stopped::Puts(_)) if !self.wants_number => None,
@@ -201,13 +274,16 @@ impl<'a> OperatorConsole<'a> {
             files,
             stopped,
             now: self.exchange.told.get(),
+            inactivity: self.post.inactivity,
         }
     }
 
     /// Answers a command: the change of a transaction once it is made, any other at once.
     fn accepts(&mut self, speaker: Speaker, command: &Command) {
         match command {
-            Command::Change(..) => self.asker = Some(speaker),
+            Command::Change(_, request) => {
+                self.asker = Some((speaker, matches!(request, Request::Suspend)));
+            }
             Command::Put { .. } | Command::Stop | Command::StopNow => self.is_done(speaker, ""),
         }
     }
@@ -217,6 +293,7 @@ impl<'a> OperatorConsole<'a> {
         &mut self,
         speaker: Speaker,
         asked: &Asked,
+        form: Form,
         station: &Station<O, I>,
         waiting: usize,
     ) {
@@ -226,7 +303,7 @@ impl<'a> OperatorConsole<'a> {
             Asked::List | Asked::Counters | Asked::Rekey | Asked::Help | Asked::Command(_) => {}
         }
         let mut text = String::new(self.rt.alloc());
-        match self.tells(&mut text, asked, station, waiting) {
+        match self.tells(&mut text, asked, form, station, waiting) {
             Ok(()) => self.is_done(speaker, text.as_str()),
             Err(fmt::Error) => self.refuses(speaker, &"out of memory"),
         }
@@ -263,31 +340,65 @@ impl<'a> OperatorConsole<'a> {
         &self,
         out: &mut String,
         asked: &Asked,
+        form: Form,
         station: &Station<O, I>,
         waiting: usize,
     ) -> fmt::Result {
         match asked {
             Asked::List => {
                 let waiting = self.waiting(waiting);
-                self.post
-                    .journal
-                    .list(out, self.post.form, station, waiting)
+                self.post.journal.list(out, form, station, waiting)
             }
-            Asked::Counters => self.post.journal.counters(out, self.post.form, station),
+            Asked::Counters => self.post.journal.counters(out, form, station),
             Asked::Help => fmt::Write::write_fmt(out, format_args!("{CommandHelp}")),
             Asked::Freeze | Asked::Thaw | Asked::Rekey | Asked::Command(_) => Ok(()),
         }
     }
 
-    /// Answers that it is done, behind these lines.
+    /// Answers that it is done, after these lines.
     fn is_done(&mut self, speaker: Speaker, lines: &str) {
         if let Some(text) = self.post.sources.done(speaker, lines) {
             self.says(text.as_str());
         }
     }
 
-    /// Something is told to the log, which is written out when commands are looked for next: so the
-    /// turn until then doesn't wait.
+    /// Answers that a transaction is suspended, and after how long the peer gives it up.
+    fn is_suspended(&mut self, speaker: Speaker) {
+        let (inactivity, unit) = (self.post.inactivity, self.post.unit);
+        let text = format!(in self.rt.alloc();
+            "the peer gives the transaction up after {inactivity} {unit}, as inactivity_time says, \
+             unless it is resumed before\n"
+        );
+        match text {
+            Ok(text) => self.is_done(speaker, text.as_str()),
+            Err(AllocError) => self.is_done(speaker, ""),
+        }
+    }
+
+    /// Gives the log and the counters the notes since the last time.
+    fn takes_notes(&mut self) {
+        let second = self.post.sources.now() / SECOND;
+        let notes = self.exchange.notes.take();
+        for note in notes.iter() {
+            self.post.journal.notes(note, second);
+        }
+    }
+
+    /// Says which file was refused, and why, if an indication ends one that was.
+    fn tells_refusal(&mut self, indication: &Indication) {
+        let Some(id) = self.refusing.ends(self.post.journal.own(), indication) else {
+            return;
+        };
+        let (limits, teller) = (self.post.limits, self.post.teller);
+        let size = self.post.journal.size(id);
+        let names = self.post.journal.names(id);
+        let is_short = self.refusing.is_short(id);
+        let text = limits.refusal_text(self.rt.alloc(), id, names, size, is_short);
+        teller.refuses(NoteTopic::Limits, id, text);
+    }
+
+    /// Something is given to the log, which is written out when commands are looked for next: so
+    /// the turn until then doesn't wait.
     fn is_told(&self) {
         self.exchange.is_stirred.set(true);
     }
@@ -297,6 +408,56 @@ impl<'a> OperatorConsole<'a> {
         let size = self.post.journal.size(id);
         if let Some(board) = &mut self.post.board {
             board.put_accepted(id, names, size);
+        }
+    }
+
+    /// Has the line on a terminal say how far a file is that is being sent, if one is.
+    fn shows_sending<O: Outbox, I: Inbox>(&self, station: &Station<O, I>) {
+        if !self.progress.is_shown() {
+            return;
+        }
+        match self.sending_id(station) {
+            Some(id) => self.shows_file(id, station.progress(id).unwrap_or(0)),
+            None => self.progress.sends_nothing(),
+        }
+    }
+
+    /// Has the line on a terminal say that so many octets of the file of this transaction were
+    /// sent, if its size and its name are known.
+    fn shows_file(&self, id: TransactionId, octets: u64) {
+        let journal = &self.post.journal;
+        if let Some(size) = journal.size(id)
+            && let Some(names) = journal.names(id)
+        {
+            self.progress.sends(id, names.source.as_slice(), size);
+            self.progress.comes_to(octets);
+        }
+    }
+
+    /// The first transaction whose file isn't sent to its end, of all that this station sends; the
+    /// first of all if they are.
+    fn sending_id<O: Outbox, I: Inbox>(&self, station: &Station<O, I>) -> Option<TransactionId> {
+        let mut first = None;
+        for (id, phase) in station.transactions() {
+            if phase == Phase::Sending {
+                if self.is_partly_sent(station, id) {
+                    return Some(id);
+                }
+                first = first.or(Some(id));
+            }
+        }
+        first
+    }
+
+    /// Whether some of the file of this transaction wasn't sent yet.
+    fn is_partly_sent<O: Outbox, I: Inbox>(
+        &self,
+        station: &Station<O, I>,
+        id: TransactionId,
+    ) -> bool {
+        match (station.progress(id), self.post.journal.size(id)) {
+            (Some(octets), Some(size)) => octets < size,
+            _ => false,
         }
     }
 
@@ -334,6 +495,15 @@ impl Console for OperatorConsole<'_> {
         if let Some(command) = self.serves_console(station, waiting) {
             return Some(command);
         }
+        if self
+            .post
+            .transfers
+            .is_some_and(|journal| journal.is_stuck())
+        {
+            return Some(Command::StopNow);
+        }
+        self.takes_notes();
+        self.shows_sending(station);
         self.post.journal.looks_at(station);
         let mut watched = self.post.sources.watched();
         self.post.journal.writer().inner().watches(&mut watched);
@@ -366,13 +536,20 @@ impl Console for OperatorConsole<'_> {
 
     fn change_answered(&mut self, reply: Reply) {
         self.is_told();
-        if let Some(speaker) = self.asker.take() {
-            match reply {
-                Reply::Change(Err(error)) => self.refuses(speaker, &error),
-                Reply::Change(Ok(())) | Reply::Put(_) => self.is_done(speaker, ""),
-            }
+        match (self.asker.take(), reply) {
+            (Some((speaker, _)), Reply::Change(Err(error))) => self.refuses(speaker, &error),
+            (Some((speaker, true)), Reply::Change(Ok(()))) => self.is_suspended(speaker),
+            (Some((speaker, _)), _) => self.is_done(speaker, ""),
+            // Nobody asked for it: the clerk cancelled a file that is beyond the limits, or that
+            // takes memory which is short.
+            (None, Reply::Change(Ok(()))) => self.refusing.begins(),
+            (None, _) => {}
         }
         self.post.journal.change_answered(reply);
+    }
+
+    fn gives_up(&mut self, id: TransactionId) {
+        self.refusing.gives_up(id);
     }
 
     fn hears(&mut self, indication: &Indication) {
@@ -380,6 +557,7 @@ impl Console for OperatorConsole<'_> {
         if let Some(board) = &mut self.post.board {
             board.hears(indication);
         }
+        self.tells_refusal(indication);
         self.post.journal.hears(indication);
     }
 
@@ -390,8 +568,9 @@ impl Console for OperatorConsole<'_> {
     }
 
     fn ends<O: Outbox, I: Inbox>(&mut self, station: &Station<O, I>) {
-        // The line that says how far it is stands in front of the last lines.
+        // The line that says how far it is stands before the last lines.
         self.progress.ends();
+        self.takes_notes();
         self.post.journal.ends(station);
     }
 

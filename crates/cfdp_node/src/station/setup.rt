@@ -1,9 +1,10 @@
-//! What the words behind `--set` set.
+//! What the words after `--set` set.
 ghost use Rattle.std.specs.Prelude.{◌≡◌, ◌+◌, false, true, Some, IfSome, unwrap_or};
 ghost use Rattle.frame_fields.specs.Fields.{no_fields};
 
 use crate::transfers::secured_links::{SECURITY_HEADER, bare_link};
 use cfdp_command_line::CarrierKind;
+use cfdp_config::OPTIONS;
 use cfdp_datagrams::{Carrier, PacketForm};
 use cfdp_report::{Keys, Nearest, Setting, Settings, consider_keys, parse_setting};
 use cfdp_station::{LinkConfig, StationConfig};
@@ -39,7 +40,7 @@ impl FieldNumbers {
         error_control: 0,
     };
 
-    /// The fields, where each value fits its own.
+    /// The fields, if each value fits its own.
     fn fields(self) -> Option<FrameFields> {
         Some(FrameFields {
             insert_zone: u8::try_from(self.insert_zone).ok()?,
@@ -87,6 +88,9 @@ const MOST_PACKET_TYPE: u64 = 1;
 /// The most octets of a secondary header.
 const MOST_SECONDARY_HEADER: u64 = 63;
 
+/// The most gaps of a file that is received, unless something else is set: they take 4 MiB.
+const MOST_GAPS: u64 = 65_536;
+
 /// What packets are that have one PDU each, as numbers that may fit none.
 #[derive(Clone, Copy)]
 struct PacketNumbers {
@@ -100,9 +104,9 @@ struct PacketNumbers {
 pub enum Misfit {
     /// Both ids are this one.
     OneId(u64),
-    /// The id of this option doesn't fit so many octets, which `id_width` sets.
+    /// The id of this option doesn't fit the octets that `id_width` sets.
     WideId(&'static str, u64),
-    /// The number of the first transaction doesn't fit so many octets, which `number_width` sets.
+    /// The number of the first transaction doesn't fit the octets that `number_width` sets.
     WideNumber(u64),
     /// The value of this key is the first number, which is greater than the second.
     TooGreat(&'static str, u64, u64),
@@ -115,6 +119,22 @@ pub enum Misfit {
     OneChannel(&'static str, &'static str, u64),
     /// Something else is.
     Other,
+}
+
+impl Misfit {
+    /// Returns the key or the option that is set wrongly, if it is one.
+    pub fn key(&self) -> Option<&'static str> {
+        match self {
+            Misfit::OneId(_) => Some("id"),
+            Misfit::WideId(option, _) => Some(*option),
+            Misfit::WideNumber(_) => Some("first-number"),
+            Misfit::TooGreat(key, _, _) => Some(*key),
+            Misfit::Mac(_) => Some("mac"),
+            Misfit::ShortZone(..) => Some("zone"),
+            Misfit::OneChannel(key, _, _) => Some(*key),
+            Misfit::Other => None,
+        }
+    }
 }
 
 impl fmt::Display for Misfit {
@@ -147,7 +167,7 @@ impl fmt::Display for Misfit {
     }
 }
 
-/// The keys of a station beside those of a script, of which `insert_zone`, `control_field` and
+/// The keys of a station beside those of a script; `insert_zone`, `control_field` and
 /// `error_control` are of the frames that it sends.
 const OWN_KEYS: [&'static str; 14] = [
     "spacecraft",
@@ -166,11 +186,13 @@ const OWN_KEYS: [&'static str; 14] = [
     "mac",
 ];
 
-/// What may stand where a key is none.
+/// What may stand in place of a key that is none.
 #[derive(Clone, Copy)]
 pub enum KeyHint {
     /// The key that is most like it.
     Nearest(&'static str),
+    /// It is an option, and no key.
+    Option(&'static str),
     /// All keys.
     All,
 }
@@ -180,6 +202,10 @@ impl fmt::Display for KeyHint {
     fn fmt<W: fmt::Write>(&self, f: &mut fmt::Formatter<W>) -> fmt::Result {
         match self {
             KeyHint::Nearest(key) => write!(f, "; did you mean {key}"),
+            KeyHint::Option(name) => write!(
+                f,
+                "; it is the option --{name}, which stands above [set] in a settings file"
+            ),
             KeyHint::All => {
                 write!(f, "; the keys are {Keys}")?;
                 for key in &OWN_KEYS {
@@ -191,8 +217,13 @@ impl fmt::Display for KeyHint {
     }
 }
 
-/// What may stand in the place of this word, which is no key.
+/// Returns what may stand in the place of this word, which is no key.
 pub fn key_hint(alloc: Global, word: &str) -> KeyHint {
+    for option in OPTIONS {
+        if option.name == word {
+            return KeyHint::Option(option.name);
+        }
+    }
     match nearest(alloc, word) {
         Ok(Some(key)) => KeyHint::Nearest(key),
         Ok(None) | Err(AllocError) => KeyHint::All,
@@ -209,7 +240,7 @@ fn nearest(alloc: Global, word: &str) -> Result<Option<&'static str>, AllocError
     Ok(nearest.found())
 }
 
-/// Whether an id fits so many octets.
+/// Whether an id fits `width` octets.
 fn fits(id: u64, width: u64) -> bool {
     width >= 8 || id >> (8 * width) == 0
 }
@@ -239,7 +270,8 @@ pub struct Securities {
 impl StationSetup {
     /// Returns what holds without `--set`. The station with the lesser id sends on the channels of
     /// the first station of a script. PDUs have a CRC, since no other check covers the names in a
-    /// Metadata PDU unless frames have error control.
+    /// Metadata PDU unless frames have error control; and the gaps of a file have a limit, since
+    /// each takes memory.
     pub fn new(is_lesser: bool) -> StationSetup {
         let one = Direction {
             virtual_channel: 5,
@@ -256,6 +288,7 @@ impl StationSetup {
             settings: Settings {
                 number_width: 8,
                 pdu_crc: 1,
+                most_gaps: MOST_GAPS,
                 ..Settings::DEFAULT
             },
             spacecraft: 42,
@@ -299,7 +332,7 @@ impl StationSetup {
         }
     }
 
-    /// Sets the value of a key. False where there is no such key.
+    /// Sets the value of a key. Returns `false` if there is no such key.
     pub fn set(&mut self, key: &str, value: u64) -> bool {
         if key == "spacecraft" {
             self.spacecraft = value;
@@ -337,28 +370,29 @@ impl StationSetup {
         true
     }
 
-    /// The same, with this number for its first transaction.
+    /// Returns this setup with `number` for the station's first transaction.
     pub fn beginning_at(mut self, number: u64) -> StationSetup {
         self.settings.first_number = number;
         self
     }
 
-    /// The octets of a sequence number.
+    /// Returns how many octets a sequence number has.
     pub fn number_width(&self) -> u64 {
         self.settings.number_width
     }
 
-    /// The number of its first transaction.
+    /// Returns the number of its first transaction.
     pub fn first_number(&self) -> u64 {
         self.settings.first_number
     }
 
-    /// The first setting of those of scripts whose value is out of its range, with the value.
+    /// Returns the first setting of those of scripts whose value is out of its range, with the
+    /// value.
     pub fn out_of_range(&self) -> Option<(Setting, u64)> {
         self.settings.out_of_range()
     }
 
-    /// What is wrong with the ids and the link of a station that can't be set up so.
+    /// Returns what is wrong with the ids and the link of a station that can't be set up so.
     pub fn misfit(&self, id: u64, peer: u64) -> Misfit {
         let (own, other, width) = (self.own, self.peer, self.settings.id_width);
         let packets = self.packets;
@@ -424,7 +458,7 @@ impl StationSetup {
         }
     }
 
-    /// What is wrong with the number of the first transaction, if something is.
+    /// Returns what is wrong with the number of the first transaction, if something is.
     pub fn number_misfit(&self) -> Option<Misfit> {
         let Settings {
             first_number,
@@ -469,7 +503,8 @@ impl StationSetup {
         }
     }
 
-    /// Whether the frames of both directions are bare: they have a header and an M_PDU alone.
+    /// Returns `true` if the frames of both directions are bare: they have a header and an M_PDU
+    /// alone.
     pub fn has_bare_frames(&self) -> bool {
         self.own_fields().are_none() && self.peer_fields.are_none()
     }
@@ -484,9 +519,9 @@ impl StationSetup {
         }
     }
 
-    /// The configuration of this station and its peer, of which that with the lesser id is the
-    /// first; `None` where they can't be set up so. If frames are secured, the station's own ones
-    /// have a shorter zone and no fields, since a layer below the station adds these.
+    /// Returns the configuration of this station and its peer; the station with the lesser id is
+    /// the first. It is `None` if they can't be set up so. If frames are secured, the station's own
+    /// ones have a shorter zone and no fields, since a layer below the station adds these.
     pub fn config(&self, id: u64, peer: u64) -> Option<Valid<WorldConfig>> {
         let _form = self.packet_form()?;
         if self.security_misfit().is_some() {
@@ -501,8 +536,8 @@ impl StationSetup {
         }
     }
 
-    /// Returns the configuration of this station with the frames that are on the link: the same if a
-    /// value doesn't fit its field.
+    /// Returns the configuration of this station with the frames that are on the link: the same if
+    /// a value doesn't fit its field.
     pub fn on_link(&self, own: &StationConfig) -> StationConfig {
         let sends = self.link(self.own, self.own_fields());
         let receives = self.link(self.peer, self.peer_fields);
@@ -550,7 +585,7 @@ impl StationSetup {
         bare_link(link, u16::try_from(self.mac_len()).ok()?)
     }
 
-    /// What a datagram is, by the word for it; `None` where packets can't be set up so.
+    /// Returns what a datagram is, by the word for it; `None` if packets can't be set up so.
     pub fn carrier(&self, kind: CarrierKind) -> Option<Carrier> {
         match kind {
             CarrierKind::Frames => Some(Carrier::Frames),
@@ -559,7 +594,7 @@ impl StationSetup {
         }
     }
 
-    /// What packets are that have one PDU each, where each value is in its range.
+    /// What packets are that have one PDU each, if each value is in its range.
     fn packet_form(&self) -> Option<PacketForm> {
         let packets = self.packets;
         let packet_type = match packets.packet_type {
@@ -579,7 +614,7 @@ impl StationSetup {
         })
     }
 
-    /// A direction of the link, whose frames have these fields, where each value fits its own.
+    /// A direction of the link, whose frames have these fields, if each value fits its own.
     fn link(&self, direction: Direction, fields: FieldNumbers) -> Option<LinkConfig> {
         Some(LinkConfig {
             spacecraft: u8::try_from(self.spacecraft).ok()?,

@@ -3,7 +3,7 @@ use cfdp_report::cause_text;
 use cfdp_store::FolderError;
 use std::io::ErrorKind;
 
-/// Why a file of a folder can't be read or written, as it is told to an operator.
+/// Returns why a file of a folder can't be read or written, as it is reported to an operator.
 pub fn fault_text(fault: FolderError) -> &'static str {
     match fault {
         FolderError::Name => "a file cannot have that name here",

@@ -1,7 +1,8 @@
 //! The folders and files that a command line names, looked at before anything is sent.
 use crate::transfers::fault::fault_text;
 use cfdp_report::{Exit, Input, Name, cause_text};
-use cfdp_store::{FolderError, FolderOutbox, SeekingOutbox, is_folder_name};
+use cfdp_spool::rule_text;
+use cfdp_store::{FolderError, FolderOutbox, NameRule, SeekingOutbox};
 use past::Past;
 use std::alloc::AllocError;
 use std::cell::Cell;
@@ -11,20 +12,21 @@ use std::snapshot::Snapshot;
 /// The exit status of bad arguments.
 const MISTAKE: u8 = 2;
 
-/// The exit status where a folder, a file, a socket or memory failed.
+/// The exit status if a folder, a file, a socket or memory failed.
 const DEVICE: u8 = 3;
 
-/// Looks whether a file in a folder may have this name.
+/// Looks whether a file in a folder may have this name by a rule.
 ///
 /// # Errors
 ///
-/// The exit status, where it may not, which was told on standard error.
-pub fn check_name(rt: &HostRuntime, name: &str) -> Result<(), u8> {
-    if is_folder_name(name.as_bytes()) {
+/// The exit status, if it may not, as standard error says.
+pub fn check_name(rt: &HostRuntime, rule: NameRule, name: &str) -> Result<(), u8> {
+    if rule.allows(name.as_bytes()) {
         return Ok(());
     }
     let _ = eprintln!(rt;
-        "error: a file name must be 1 to 64 of A-Z a-z 0-9 . _ -, no leading dot (got {})",
+        "error: a file name must be {}, no leading dot (got {})",
+        rule_text(rule),
         Name(name.as_bytes())
     );
     Err(MISTAKE)
@@ -34,7 +36,7 @@ pub fn check_name(rt: &HostRuntime, name: &str) -> Result<(), u8> {
 ///
 /// # Errors
 ///
-/// The exit status, where it is none, which was told on standard error.
+/// The exit status, if it is none, as standard error says.
 pub fn folder(rt: &HostRuntime, path: &str) -> Result<(), u8> {
     match fs::metadata(rt, path) {
         Ok(found) if found.is_dir() => return Ok(()),
@@ -48,25 +50,27 @@ pub fn folder(rt: &HostRuntime, path: &str) -> Result<(), u8> {
     Err(DEVICE)
 }
 
-/// An outbox over this folder, which is there. Nothing was looked for yet.
+/// Returns an outbox over this folder, which must be there, of files whose names a rule allows.
+/// Nothing was looked for yet.
 ///
 /// # Errors
 ///
-/// `AllocError` where there is no memory for the folder's name.
+/// `AllocError` if there is no memory for the folder's name.
 pub fn folder_outbox<'a>(
     rt: &'a HostRuntime,
     path: &str,
+    names: NameRule,
 ) -> Result<FolderOutbox<&'a HostRuntime>, AllocError> {
     // What is expected of files is for clauses alone, and none speaks of what a disk has.
     let expected = Snapshot::of(&Past::new());
-    FolderOutbox::new(rt, rt.alloc(), path, expected)
+    FolderOutbox::with_names(rt, rt.alloc(), path, names, expected)
 }
 
-/// Looks for a file in the folder of an outbox. It may be missing, which is told.
+/// Looks for a file in the folder of an outbox. It may be missing, which is reported.
 ///
 /// # Errors
 ///
-/// The exit status, where it can't be sent, which was told on standard error.
+/// The exit status, if it can't be sent, as standard error says.
 pub fn check_file(
     rt: &HostRuntime,
     outbox: &mut FolderOutbox<&HostRuntime>,
@@ -76,7 +80,7 @@ pub fn check_file(
     match outbox.look_for(name.as_bytes()) {
         Ok(true) => Ok(()),
         Ok(false) => {
-            let _ = eprintln!(rt; "note: {path}/{name}: no such file");
+            let _ = eprintln!(rt; "note: {path}/{}: no such file", Name(name.as_bytes()));
             Ok(())
         }
         Err(_) => {
@@ -90,7 +94,11 @@ pub fn check_file(
 
 /// Says on standard error what is wrong with a file of a folder.
 pub fn tell_of_file(rt: &HostRuntime, path: &str, name: &str, fault: FolderError) {
-    let _ = eprintln!(rt; "error: {path}/{name}: {}", fault_text(fault));
+    let _ = eprintln!(rt;
+        "error: {path}/{}: {}",
+        Name(name.as_bytes()),
+        fault_text(fault)
+    );
 }
 
 /// Says on standard error what failed, unless that was said.

@@ -13,7 +13,7 @@ pub const SECURITY_HEADER: u16 = 10;
 /// The exit status of bad arguments.
 const MISTAKE: u8 = 2;
 
-/// The exit status where a file failed.
+/// The exit status if a file failed.
 const DEVICE: u8 = 3;
 
 /// Returns the frames that a station makes for a direction of a link whose frames are these: with

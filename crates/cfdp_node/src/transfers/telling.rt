@@ -1,27 +1,33 @@
 //! Stores in folders that say on standard error why a call failed, and one who looks on at turns.
 use crate::transfers::fault::fault_text;
+use crate::transfers::teller::Teller;
+use cfdp_exchange::NoteTopic;
 use cfdp_files::InboxFiles;
 use cfdp_header::TransactionId;
 use cfdp_port::{Lookout, Passed};
 use cfdp_report::Name;
 use cfdp_station::{Polled, Station};
-use cfdp_store::{FolderInbox, FolderOutbox, Inbox, NoInbox, Outbox, SeekingOutbox, StoreError};
+use cfdp_store::{
+    FolderInbox, FolderOutbox, Inbox, NameRule, NoInbox, Outbox, ResumingInbox, SeekingOutbox,
+    StoreError,
+};
 use cfdp_watch::{Onlooker, Progress, Reception};
 use station_pair::Side;
 use std::alloc::AllocError;
-use std::cell::Cell;
+use std::collections::BTreeSet;
+use transfer_journal::TransferJournal;
 
 /// One who looks on at the turns, and says how far the transfer is.
 #[derive(Drop)]
 pub struct LoopLookout<'a> {
     pub onlooker: Onlooker<'a>,
     pub progress: &'a Progress<'a>,
-    /// How many turns were taken, where those were all and the transfer wasn't over.
+    /// How many turns were taken, if those were all and the transfer wasn't over.
     pub used_up: Option<u64>,
 }
 
 impl<'a> LoopLookout<'a> {
-    /// One who has seen nothing yet.
+    /// Returns a lookout that has seen nothing yet.
     pub fn new(onlooker: Onlooker<'a>, progress: &'a Progress<'a>) -> LoopLookout<'a> {
         LoopLookout {
             onlooker,
@@ -68,37 +74,88 @@ pub struct TellingInbox<'a> {
     rt: &'a HostRuntime,
     folder: &'a str,
     inbox: FolderInbox<InboxFiles<'a>>,
-    /// Whether it said so.
-    told: &'a Cell<bool>,
+    teller: Teller<'a>,
     progress: &'a Progress<'a>,
     reception: Reception<'a>,
+    rules: InboxRules,
+    // The journal by which transfers go on, if there is one.
+    journal: Option<&'a TransferJournal<'a>>,
+}
+
+/// Which files an inbox accepts.
+#[derive(Clone, Copy)]
+pub struct InboxRules {
+    /// Whether a file that comes takes the place of the one that has its name; otherwise it is
+    /// refused, and the other stays.
+    pub replaces: bool,
+    /// The most octets of a file; 0 for any number.
+    pub most_size: u64,
+    /// Which names files may have.
+    pub names: NameRule,
 }
 
 impl<'a> TellingInbox<'a> {
-    /// An inbox over this folder, which is there. Where it `replaces`, a file that comes takes the
-    /// place of the one that has its name; else it is refused, and the other stays. One of more
-    /// than `most_size` octets is refused, unless that is 0. It sets `told` once it said so.
+    /// Returns an inbox over this folder, which must be there, that accepts files by these rules.
     ///
     /// # Errors
     ///
-    /// `AllocError` where there is no memory for the folder's name.
+    /// `AllocError` if there is no memory for the folder's name.
     pub fn new(
         rt: &'a HostRuntime,
         folder: &'a str,
-        replaces: bool,
-        most_size: u64,
-        told: &'a Cell<bool>,
+        rules: InboxRules,
+        teller: Teller<'a>,
         progress: &'a Progress<'a>,
     ) -> Result<TellingInbox<'a>, AllocError> {
-        let files = InboxFiles::new(rt, replaces, most_size);
+        let files = InboxFiles::new(rt, rules.replaces, rules.most_size);
+        TellingInbox::over(rt, folder, (files, rules), teller, progress)
+    }
+
+    /// Returns such an inbox over these files.
+    fn over(
+        rt: &'a HostRuntime,
+        folder: &'a str,
+        files: (InboxFiles<'a>, InboxRules),
+        teller: Teller<'a>,
+        progress: &'a Progress<'a>,
+    ) -> Result<TellingInbox<'a>, AllocError> {
+        let (files, rules) = files;
         Ok(TellingInbox {
             rt,
             folder,
-            inbox: FolderInbox::new(files, rt.alloc(), folder)?,
-            told,
+            inbox: FolderInbox::with_names(files, rt.alloc(), folder, rules.names)?,
+            teller,
             progress,
             reception: Reception::new(rt.alloc(), progress),
+            rules,
+            journal: None,
         })
+    }
+
+    /// Returns such an inbox whose files are noted in a journal before they are published, and which
+    /// has these part files of an earlier run.
+    ///
+    /// # Errors
+    ///
+    /// As with `new`.
+    pub fn with_journal(
+        rt: &'a HostRuntime,
+        folder: &'a str,
+        rules: InboxRules,
+        teller: Teller<'a>,
+        progress: &'a Progress<'a>,
+        journal: (&'a TransferJournal<'a>, &BTreeSet<String>),
+    ) -> Result<TellingInbox<'a>, AllocError> {
+        let (journal, parts) = journal;
+        let files = InboxFiles::new(rt, rules.replaces, rules.most_size);
+        for name in parts.iter() {
+            let path = format!(in rt.alloc(); "{folder}/{name}")?;
+            // If it isn't there any more, the file is received again.
+            let _ = files.takes_back(path.as_str());
+        }
+        let mut inbox = TellingInbox::over(rt, folder, (files, rules), teller, progress)?;
+        inbox.journal = Some(journal);
+        Ok(inbox)
     }
 
     /// Says why a call of this transaction failed, if it did, of a file that has no name yet.
@@ -106,10 +163,13 @@ impl<'a> TellingInbox<'a> {
         if answer.is_err()
             && let Some(fault) = self.inbox.fault()
         {
-            self.begins_to_tell();
             let (folder, cause) = (self.folder, fault_text(fault));
             let TransactionId { source, number } = id;
-            let _ = eprintln!(self.rt; "error: {folder}: {cause} (transaction {source}:{number})");
+            let text = format!(in self.rt.alloc();
+                "{folder}: {cause} (transaction {source}:{number})"
+            );
+            self.progress.ends();
+            self.teller.fails(NoteTopic::Inbox, Some(id), text);
         }
     }
 
@@ -118,18 +178,14 @@ impl<'a> TellingInbox<'a> {
         if answer.is_err()
             && let Some(fault) = self.inbox.fault()
         {
-            self.begins_to_tell();
             let (folder, name, cause) = (self.folder, Name(name), fault_text(fault));
             let TransactionId { source, number } = id;
-            let _ = eprintln!(self.rt;
-                "error: {folder}/{name}: {cause} (transaction {source}:{number})"
+            let text = format!(in self.rt.alloc();
+                "{folder}/{name}: {cause} (transaction {source}:{number})"
             );
+            self.progress.ends();
+            self.teller.fails(NoteTopic::Inbox, Some(id), text);
         }
-    }
-
-    fn begins_to_tell(&self) {
-        self.told.set(true);
-        self.progress.ends();
     }
 }
 
@@ -158,6 +214,11 @@ impl<'a> Inbox for TellingInbox<'a> {
     }
 
     fn publish(&mut self, id: TransactionId, name: &[u8], size: u64) -> Result<(), StoreError> {
+        if let Some(journal) = self.journal
+            && self.rules.names.allows(name)
+        {
+            journal.publishes(id, name, size);
+        }
         let answer = self.inbox.publish(id, name, size);
         self.tell(answer, id, name);
         answer
@@ -174,40 +235,49 @@ impl<'a> Inbox for TellingInbox<'a> {
     }
 }
 
+impl<'a> ResumingInbox for TellingInbox<'a> {
+    ghost resumes = { λ i call j.
+        ⟦<FolderInbox<InboxFiles<'a>> as ResumingInbox>⟧.resumes i.inbox call j.inbox };
+
+    fn adopt(&mut self, id: TransactionId, end: u64) -> Result<bool, StoreError> {
+        let answer = self.inbox.adopt(id, end);
+        self.tell_unnamed(answer.map(|_| ()), id);
+        answer
+    }
+
+    fn read(&mut self, id: TransactionId, offset: u64, out: &mut [u8]) -> Result<bool, StoreError> {
+        let answer = self.inbox.read(id, offset, out);
+        self.tell_unnamed(answer.map(|_| ()), id);
+        answer
+    }
+}
+
 /// No inbox: it takes no file, and says once on standard error that one came.
 #[derive(Drop)]
 pub struct TellingNoInbox<'a> {
     rt: &'a HostRuntime,
     inbox: NoInbox,
-    /// Whether something was said.
-    told: &'a Cell<bool>,
-    progress: &'a Progress<'a>,
+    teller: Teller<'a>,
 }
 
 impl<'a> TellingNoInbox<'a> {
-    /// It sets `told` once it said so.
-    pub fn new(
-        rt: &'a HostRuntime,
-        told: &'a Cell<bool>,
-        progress: &'a Progress<'a>,
-    ) -> TellingNoInbox<'a> {
+    /// Returns an inbox that reports this through `teller`.
+    pub fn new(rt: &'a HostRuntime, teller: Teller<'a>) -> TellingNoInbox<'a> {
         TellingNoInbox {
             rt,
             inbox: NoInbox::new(),
-            told,
-            progress,
+            teller,
         }
     }
 
-    /// Says that a file came, where that wasn't said: the first one, of this transaction.
+    /// Says that a file came, if that wasn't said: the first one, of this transaction.
     fn tell(&self, id: TransactionId) {
         if self.inbox.failures() == 0 {
-            self.told.set(true);
-            self.progress.yields();
             let TransactionId { source, number } = id;
-            let _ = eprintln!(self.rt;
-                "error: a file arrived, but there is no --inbox (transaction {source}:{number})"
+            let text = format!(in self.rt.alloc();
+                "a file arrived, but there is no --inbox (transaction {source}:{number})"
             );
+            self.teller.fails(NoteTopic::NoInbox, Some(id), text);
         }
     }
 }
@@ -245,42 +315,53 @@ impl<'a> Inbox for TellingNoInbox<'a> {
     }
 }
 
+/// It has no part of a file.
+impl<'a> ResumingInbox for TellingNoInbox<'a> {
+    fn adopt(&mut self, _id: TransactionId, _end: u64) -> Result<bool, StoreError> {
+        Ok(false)
+    }
+
+    fn read(
+        &mut self,
+        _id: TransactionId,
+        _offset: u64,
+        _out: &mut [u8],
+    ) -> Result<bool, StoreError> {
+        Ok(false)
+    }
+}
+
 /// An outbox over a folder, which says on standard error why a file of it can't be sent.
 #[derive(Drop)]
 pub struct TellingOutbox<'a> {
     rt: &'a HostRuntime,
     folder: &'a str,
     outbox: FolderOutbox<&'a HostRuntime>,
-    /// Whether it said so.
-    told: &'a Cell<bool>,
-    progress: &'a Progress<'a>,
+    teller: Teller<'a>,
 }
 
 impl<'a> TellingOutbox<'a> {
-    /// One over this outbox of this folder. It sets `told` once it said so.
+    /// Returns an outbox over `outbox`, which has this folder. It reports through `teller`.
     pub fn over(
         rt: &'a HostRuntime,
         folder: &'a str,
         outbox: FolderOutbox<&'a HostRuntime>,
-        told: &'a Cell<bool>,
-        progress: &'a Progress<'a>,
+        teller: Teller<'a>,
     ) -> TellingOutbox<'a> {
         TellingOutbox {
             rt,
             folder,
             outbox,
-            told,
-            progress,
+            teller,
         }
     }
 
     /// Says why the last call failed, which was of this file.
     fn tell(&self, name: &[u8]) {
         if let Some(fault) = self.outbox.fault() {
-            self.told.set(true);
-            self.progress.yields();
             let (folder, cause) = (self.folder, fault_text(fault));
-            let _ = eprintln!(self.rt; "error: {folder}/{}: {cause}", Name(name));
+            let text = format!(in self.rt.alloc(); "{folder}/{}: {cause}", Name(name));
+            self.teller.fails(NoteTopic::Outbox, None, text);
         }
     }
 }
@@ -317,8 +398,8 @@ impl<'a> Outbox for TellingOutbox<'a> {
 }
 
 impl<'a> SeekingOutbox for TellingOutbox<'a> {
-    ghost answers = { λ name answer. ⟦<FolderOutbox<&'a HostRuntime> as SeekingOutbox>⟧.answers
-        name answer };
+    ghost answers = { λ o name answer p.
+        ⟦<FolderOutbox<&'a HostRuntime> as SeekingOutbox>⟧.answers o.outbox name answer p.outbox };
 
     fn look_for(&mut self, name: &[u8]) -> Result<bool, StoreError> {
         let answer = self.outbox.look_for(name);

@@ -17,13 +17,13 @@ answer_name (Refused LossRunTooLong) = codes "LossRunTooLong"
 answer_name (Refused NotDamaged) = codes "NotDamaged"
 answer_name (Ended error) = recover_error_name error
 
--- the answer of an event, of a command of which so many events happened before: only Nothing keeps
+-- the answer of an event, of a command so many of whose events happened before: only Nothing keeps
 -- how many
 abbrev pub answer_after : ℕ → Answer → Answer
 answer_after before (Nothing after) = Nothing before
 answer_after before answer = answer
 
--- whether memory was wanting, or a store failed
+-- whether memory ran out, or a store failed
 abbrev pub is_device_fault : Option Answer → Bool
 is_device_fault (Some (Ended (Settle NoMemory))) = true
 is_device_fault (Some (Ended (Settle StoreFailed))) = true

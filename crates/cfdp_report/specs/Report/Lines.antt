@@ -11,7 +11,7 @@ use Rattle.cfdp_report.specs.Report.Answers.{answer_name}
 use Rattle.cfdp_report.specs.Report.Wording.{id_text, delivery_word, status_word}
 
 -- ---- lines of indications
--- what a station tells its user, behind its number
+-- what a station indicates to its user, after its number
 abbrev pub told_text : Indication → List ℕ
 told_text (Transaction id) = codes "transaction " ++ id_text id
 told_text (EofSent id) = codes "eof-sent " ++ id_text id
@@ -30,7 +30,7 @@ told_text (Abandoned id condition) = codes "abandoned " ++ id_text id ++ codes "
     ++ decimal condition
 told_text (Progress id octets) = codes "progress " ++ id_text id ++ codes " " ++ decimal octets
 
--- what station S tells its user
+-- what station S indicates to its user
 abbrev pub indication_text : ℕ → Indication → List ℕ
 indication_text station told = decimal station ++ codes " " ++ told_text told
 
@@ -39,7 +39,7 @@ abbrev pub indication_line : ℕ → Indication → List ℕ
 indication_line station told = indication_text station told ++ 10 ∷ []
 
 -- ---- lines of commands
--- the line of a command, where it has an answer
+-- the line of a command, if it has an answer
 abbrev pub answer_text : ℕ → Option Answer → List ℕ
 answer_text line None = []
 answer_text line (Some answer) =
@@ -54,7 +54,7 @@ abbrev pub bad_script_text : ℕ → List ℕ
 bad_script_text line = codes "line " ++ decimal line ++ codes ": bad script"
 
 -- ---- the count of puts
--- whether by this a station that sends a transaction is told that its file was delivered
+-- whether by this a station that sends a transaction indicates that its file was delivered
 abbrev pub is_own_completion : ℕ → Indication → Bool
 is_own_completion own (Finished id condition delivery status) =
     is_complete condition delivery status && id.source == own

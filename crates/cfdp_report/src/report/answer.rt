@@ -4,7 +4,7 @@ ghost use Rattle.cfdp_report.specs.Report.Answers.{answer_after, answer_name};
 use station_pair::{RecoverError, Refusal, SettleError};
 use std::fmt;
 
-/// Why a command didn't do its work, or not all of it. The report tells it.
+/// Why a command didn't do its work, or not all of it. The report says it.
 #[derive(Clone, Copy)]
 pub enum Answer {
     /// There was nothing to do, or nothing more after so many events of the command. The report
@@ -21,12 +21,12 @@ pub enum Answer {
 pub struct Answered {
     /// The number of its line, from 1 on.
     pub line: usize,
-    /// What it answered, where it wasn't done, or not to its end.
+    /// What it answered, if it wasn't done, or not to its end.
     pub answer: Option<Answer>,
 }
 
 impl Answered {
-    /// Whether memory or a store failed in it.
+    /// Returns `true` if memory or a store failed in it.
     pub fn is_device_fault(self) -> bool
         ensures { result ≡ Rattle.cfdp_report.specs.Report.Answers.is_device_fault self.answer }
     {
@@ -44,8 +44,8 @@ impl Answer {
     /// There was no memory for an event.
     pub const NO_MEMORY: Answer = Answer::Ended(RecoverError::Settle(SettleError::NoMemory));
 
-    /// This answer of an event, as that of a command of which so many events happened before: only
-    /// Nothing keeps how many.
+    /// Returns this answer of an event as the answer of a command, so many of whose events happened
+    /// before: only Nothing keeps how many.
     pub fn told_after(self, before: u64) -> Answer
         ensures { result ≡ answer_after before self }
     {

@@ -38,14 +38,14 @@ impl fmt::Display for NameOctet {
     }
 }
 
-/// Whether an octet is printed as it is.
+/// Returns `true` if an octet is printed as it is.
 fn is_plain(octet: u8) -> bool
     ensures { result ≡ Rattle.cfdp_report.specs.Report.Name.is_plain octet }
 {
     octet.is_ascii_graphic() && octet != b'%'
 }
 
-/// The upper-case hexadecimal digit of a value.
+/// Returns the upper-case hexadecimal digit of a value.
 pub fn hex_digit(value: u8) -> char
     requires { value < 16 }
     ensures { result ≡ Rattle.cfdp_report.specs.Report.Name.hex_digit value }

@@ -18,7 +18,7 @@ impl fmt::Display for Id {
     }
 }
 
-/// The word for a delivery code.
+/// Returns the word for a delivery code.
 pub fn delivery_word(delivery: Delivery) -> &'static str
     ensures { result.now ≡ Rattle.cfdp_report.specs.Report.Wording.delivery_word delivery }
 {
@@ -28,7 +28,7 @@ pub fn delivery_word(delivery: Delivery) -> &'static str
     }
 }
 
-/// The word for a file status.
+/// Returns the word for a file status.
 pub fn status_word(status: FileStatus) -> &'static str
     ensures { result.now ≡ Rattle.cfdp_report.specs.Report.Wording.status_word status }
 {

@@ -45,12 +45,14 @@ pub enum Setting {
     FinishedTime,
     /// How long any PDU of a transaction is waited for.
     InactivityTime,
-    /// The number of what is done where no ACK comes.
+    /// The number of what is done if no ACK comes.
     OnAckLimit,
-    /// The number of what is done where nothing comes after NAKs.
+    /// The number of what is done if nothing comes after NAKs.
     OnNakLimit,
-    /// The number of what is done where nothing at all comes.
+    /// The number of what is done if nothing at all comes.
     OnInactivity,
+    /// How many gaps a file that is received may have; 0: no limit.
+    MostGaps,
 }
 
 /// What is known of a setting.
@@ -62,14 +64,14 @@ pub struct Row {
     pub key: &'static str,
     /// The values that it may have.
     pub range: Range,
-    /// What it is where nothing sets it.
+    /// Its value if nothing sets it.
     pub default: u64,
-    /// What the help says of it; nothing where what it says of the next one holds of it too.
+    /// What the help says of it; nothing if what it says of the next one holds of it too.
     pub help: &'static str,
 }
 
 /// All settings, in the order of `Setting`.
-pub const TABLE: [Row; 20] = [
+pub const TABLE: [Row; 21] = [
     Row {
         setting: Setting::Zone,
         key: "zone",
@@ -210,6 +212,13 @@ pub const TABLE: [Row; 20] = [
         default: 0,
         help: "then: 0 cancel, 1 suspend, 2 ignore, 3 abandon",
     },
+    Row {
+        setting: Setting::MostGaps,
+        key: "most_gaps",
+        range: Range::Between(0, u64::MAX),
+        default: 0,
+        help: "most gaps of a file that is received, 0: no limit",
+    },
 ];
 
 /// The values that a setting may have.
@@ -222,7 +231,7 @@ pub enum Range {
 }
 
 impl Range {
-    /// Whether a value is one of them.
+    /// Returns `true` if a value is one of them.
     pub fn has(self, value: u64) -> bool {
         match self {
             Range::Between(least, most) => least <= value && value <= most,
@@ -233,7 +242,7 @@ impl Range {
     }
 }
 
-/// In words.
+/// Writes it in words.
 impl fmt::Display for Range {
     fn fmt<W: fmt::Write>(&self, f: &mut fmt::Formatter<W>) -> fmt::Result {
         match self {
@@ -251,25 +260,25 @@ impl Setting {
         TABLE[self as usize]
     }
 
-    /// Its key in a script.
+    /// Returns its key in a script.
     pub fn key(self) -> &'static str {
         self.row().key
     }
 
-    /// The values that it may have.
+    /// Returns the values that it may have.
     pub fn range(self) -> Range {
         self.row().range
     }
 }
 
-/// The setting that has this key.
+/// Returns the setting that has this key.
 pub fn parse_setting(word: &[u8]) -> Option<Setting>
     ensures { result ≡ setting_of word.now }
 {
     with_key(&TABLE, word)
 }
 
-/// The setting of the first of these rows that has this key.
+/// Returns the setting of the first of these rows that has this key.
 fn with_key(rows: &[Row], word: &[u8]) -> Option<Setting>
     ensures { result ≡ key_among (map row_key rows.now) word.now }
 {
@@ -288,7 +297,8 @@ impl Row {
         word == self.key.as_bytes()
     }
 
-    /// Writes what the help says of it. It is the first of those of which that holds, or not.
+    /// Writes what the help says of it. `is_first` says whether it is the first setting that this
+    /// text holds for.
     fn write_help<W: fmt::Write>(&self, f: &mut fmt::Formatter<W>, is_first: bool) -> fmt::Result {
         let (key, default, help) = (self.key, self.default, self.help);
         f.write_str(if is_first { "  " } else { ", " })?;
@@ -303,7 +313,7 @@ impl Row {
     }
 }
 
-/// Lines of help: all settings with what they are where nothing sets them, and what they mean.
+/// Lines of help: all settings with their values if nothing sets them, and what they mean.
 #[derive(Clone, Copy)]
 pub struct SettingsHelp;
 
@@ -337,7 +347,7 @@ impl fmt::Display for Keys {
 ///
 /// # Errors
 ///
-/// `AllocError` where there is no memory.
+/// `AllocError` if there is no memory.
 pub fn consider_keys(alloc: Global, nearest: &mut Nearest<'_>) -> Result<(), AllocError> {
     for row in &TABLE {
         nearest.consider(alloc, row.key)?;

@@ -31,14 +31,14 @@ pub record IsTold (steps : List Step) (answered : List Answered) (last : WorldSt
   pub ends : exit ≡ exit_of answered (puts_completed last) (puts_asked steps)
   pub written : Appends old new (report_text (puts_asked steps) answered last)
 
--- All commands ran from this world and ended so, and that was told to its end.
+-- All commands ran from this world and ended so, and their end was reported.
 abbrev pub RunsTold : List Step → WorldState → Exit → (old new : Option (List ℕ)) → Type 0
 RunsTold steps first exit old new =
     (ran : RunsAll steps first) × IsTold steps ran.answered ran.last exit old new
 
--- A run stopped for one of these. Where the report couldn't be written to its end, all commands ran
--- before that, and of what was written nothing is said: a writer doesn't say which failures it has.
--- Where there was no memory at the start nothing is written. A run reads nothing.
+-- A run stopped for one of these. If the report couldn't be written to its end, all commands ran
+-- before that, and nothing is said of what was written: a writer doesn't say which failures it has.
+-- If there was no memory at the start, nothing is written. A run reads nothing.
 abbrev pub StopsRun : Fault → (old new : Option (List ℕ)) → (ran told : Type 0) → Type 0
 StopsRun NoMemory old new ran told = told
 StopsRun NoMemoryAtStart old new ran told = Keeps old new

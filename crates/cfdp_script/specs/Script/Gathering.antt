@@ -35,7 +35,7 @@ at_start = record { files = []; steps = []; settings = default_settings; last = 
 abbrev pub noted : Gathered → ℕ → Gathered
 noted g number = record g { wrong = option_or g.wrong (Some number) }
 
--- what is so before the first command, and what behind it
+-- what is so before the first command, and what after it
 abbrev pub before : {A : Type 0} → List Step → A → A → A
 before [] a b = a
 before (step ∷ steps) a b = b

@@ -43,7 +43,7 @@ abbrev pub lane_of : List ℕ → Option Lane
 lane_of word = if is word (codes "dir") then Some Directives
     else if is word (codes "data") then Some Data else None
 
--- ---- what the words behind the first one mean
+-- ---- what the words after the first one mean
 
 -- a station, and nothing else
 abbrev pub station_words : List (List ℕ) → Option Side
@@ -61,25 +61,25 @@ abbrev pub number_words : List (List ℕ) → Option (Side × ℕ)
 number_words words = option_and_then (λ w. both (λ at n. (at, n)) (station_of w.0) (number_of w.1))
     (two_of words)
 
--- how many: one where no number stands there
+-- how many: one if no number is given
 abbrev pub count_of : List (List ℕ) → Option ℕ
 count_of words = if is_some (nothing_of words) then Some 1
     else option_and_then number_of (one_of words)
 
--- the event in which that befalls the oldest waiting frame which a station sent in a lane
+-- the event that has this effect on the oldest waiting frame which a station sent in a lane
 abbrev pub befalls : Fate → Side → Lane → Event
 befalls Arrives from lane = event.Deliver from lane
 befalls IsLost from lane = event.Strike from lane
 
--- of which frames, where this word, which is the name of a lane or of none, stands there: those of
--- the lane; or those sent first, so many as the word says
+-- the frames that this word chooses, which is the name of a lane or of none: those of the lane, or
+-- those sent first, as many as the word says
 abbrev pub which_by : Fate → Side → List ℕ → Option Lane → List (List ℕ) → Option Command
 which_by fate from word (Some lane) words = option_map (Repeat (befalls fate from lane))
     (count_of words)
 which_by fate from word None words = both (λ _ count. First fate from count) (nothing_of words)
     (number_of word)
 
--- of the one sent first, where nothing stands there
+-- of the one sent first, if no word is given
 abbrev pub which_of : Fate → Side → List (List ℕ) → Option Command
 which_of fate from words = if is_some (nothing_of words) then Some (First fate from 1)
     else option_and_then (λ w. which_by fate from w.0 (lane_of w.0) w.1) (next_word words)
@@ -93,8 +93,8 @@ frames_of fate words = option_and_then (λ w. option_and_then (λ from. which_of
 abbrev pub damage_of : List ℕ → List ℕ → Option Damage
 damage_of at octet = both (λ n o. record { at = n; octet = o }) (number_of at) (octet_of octet)
 
--- what of which frame, where this word, which is the name of a lane or of none, stands there: of
--- the oldest one in the lane, or of the one sent first
+-- what is damaged, by this word, which is the name of a lane or of none: the oldest frame in the
+-- lane, or the frame sent first
 abbrev pub damage_by : Side → List ℕ → Option Lane → List (List ℕ) → Option Command
 damage_by from word (Some lane) words =
     option_and_then (λ w. option_map (DamageOne from (Some lane)) (damage_of w.0 w.1))
@@ -128,8 +128,8 @@ abbrev pub frame_number : List ℕ → Option ℕ
 frame_number word = option_and_then (λ number. if nat_le 1 number then Some number else None)
     (number_of word)
 
--- one frame of a station, where this word, which is the name of a lane or of none, stands there: of
--- the lane, or of both
+-- one frame of a station, by this word, which is the name of a lane or of none: of the lane, or of
+-- both
 abbrev pub pick_by : Side → List ℕ → Option Lane → List (List ℕ) → Option Pick
 pick_by from word (Some lane) words =
     option_and_then (λ w. option_map (λ n. record { from = from; lane = Some lane; number = n })
@@ -155,7 +155,7 @@ disorder_of verb words =
     else if is verb (codes "restart") then option_map Restart (station_words words)
     else None
 
--- a command without words behind it
+-- a command without words after it
 abbrev pub alone : Command → List (List ℕ) → Option Command
 alone command words = option_map (λ _. command) (nothing_of words)
 
@@ -211,7 +211,7 @@ file_of words =
     (λ name. both (λ octets. file_line name.0 (Text octets)) (text_of name.1)
     (station_of station.0)) (next_word station.1)) (next_word words)
 
--- so many times an octet: at most 1,048,576
+-- how often an octet stands in a file: at most 1,048,576 times
 abbrev pub fill_count : List ℕ → Option ℕ
 fill_count word = option_and_then (λ count. if nat_le count 1048576 then Some count else None)
     (number_of word)
@@ -234,13 +234,14 @@ verb_meaning verb words =
 abbrev pub meaning : List (List ℕ) → Option Line
 meaning words = option_and_then (λ w. verb_meaning w.0 w.1) (next_word words)
 
--- A line that is to be read has at most 4,096 octets, all of them ASCII. Its words mean something.
+-- A line that must be read has at most 4,096 octets, all of them ASCII, and its words mean
+-- something.
 abbrev pub line_of : List ℕ → Option Line
 line_of text =
     if nat_le (length text) 4096 && list_all (λ octet. nat_lt octet 128) text
     then meaning (words_of text) else None
 
--- What was read is what this means. Where there was no memory nothing is said.
+-- What was read is what this means. If there was no memory, nothing is said.
 abbrev pub Reads : {A : Type 0} → Result A Unread → Option A → Type 0
 Reads (Ok read) meant = meant ≡ Some read
 Reads (Err (Bad error)) meant = meant ≡ None
@@ -252,7 +253,7 @@ Reads (Err NoMemory) meant = ⊤
 abbrev pub ReadLine : Type 0
 ReadLine = ℕ × Option Line
 
--- the lines with their numbers, the first of which is this one
+-- the lines with their numbers; the first has this one
 abbrev pub numbered : ℕ → List (List ℕ) → List (ℕ × List ℕ)
 numbered number [] = []
 numbered number (text ∷ rest) = (number, text) ∷ numbered (number + 1) rest
@@ -269,7 +270,7 @@ abbrev pub read_line : ℕ × List ℕ → Option ReadLine
 read_line numbered_line = read_cut numbered_line.0 (without_return numbered_line.1)
 
 -- the lines of a script, which stand between its line feeds, each of which may have a carriage
--- return in front; the first is line 1
+-- return before it; the first is line 1
 abbrev pub lines_of : List ℕ → List ReadLine
 lines_of text = filter_map read_line (numbered 1 (parts 10 text))
 
@@ -277,12 +278,12 @@ abbrev pub is_command : Option Line → Bool
 is_command (Some (line.Command command)) = true
 is_command _ = false
 
--- the lines in front of the first command
+-- the lines before the first command
 abbrev pub front : List ReadLine → List ReadLine
 front [] = []
 front (l ∷ rest) = if is_command l.1 then [] else l ∷ front rest
 
--- the first command and all lines behind it
+-- the first command and all lines after it
 abbrev pub behind : List ReadLine → List ReadLine
 behind [] = []
 behind (l ∷ rest) = if is_command l.1 then l ∷ rest else behind rest
@@ -292,7 +293,7 @@ abbrev pub first_where : (Option Line → Bool) → List ReadLine → Option ℕ
 first_where test [] = None
 first_where test (l ∷ rest) = if test l.1 then Some l.0 else first_where test rest
 
--- A line is misread that means nothing, or that is no command and stands behind one.
+-- A line is misread if it means nothing, or if it is no command and stands after one.
 abbrev pub misread : List ReadLine → Option ℕ
 misread all = option_or (first_where is_none (front all))
     (first_where (λ meant. not (is_command meant)) (behind all))
@@ -327,7 +328,7 @@ steps_of text = filter_map (λ l. step_in l.0 l.1) (lines_of text)
 unfoldable pub settings_of : List ℕ → Settings
 settings_of text = fold (λ s l. set_in s l.1) default_settings (front (lines_of text))
 
--- the line of the last `set`, 0 where there is none
+-- the line of the last `set`, 0 if there is none
 unfoldable pub last_set : List ℕ → ℕ
 last_set text = fold (λ number l. if is_set l.1 then l.0 else number) 0 (front (lines_of text))
 
@@ -341,8 +342,8 @@ abbrev pub earlier : Option ℕ → ℕ → ℕ
 earlier None last = last
 earlier (Some number) last = min number last
 
--- Which line is the first bad one, if any: the first that is misread, or the last `set` where the
--- settings are not valid after it, whichever comes earlier. A `set` that is misread isn't the last.
+-- Which line is the first bad one, if any: the first that is misread, or the last `set` if the
+-- settings aren't valid after it, whichever comes earlier. A `set` that is misread isn't the last.
 abbrev pub IsFirst : Option ℕ → ℕ → Settings → Option ℕ → Type 0
 IsFirst wrong last s None = (wrong ≡ None) × AreValid s
 IsFirst wrong last s (Some number) = ((wrong ≡ Some number) × AreValid s)

@@ -20,7 +20,7 @@ inbox_line station (name, octets) =
     ++ decimal (length octets) ++ codes " " ++ hex_number_text (modular_checksum octets) ++ 10 ∷ []
 
 -- ---- the count of puts
--- how many puts their senders were told complete
+-- how many puts were indicated as complete to their senders
 abbrev pub puts_completed : WorldState → ℕ
 puts_completed w =
     count_by (is_own_completion 1) (told One w) + count_by (is_own_completion 2) (told Two w)
@@ -30,7 +30,7 @@ abbrev pub puts_asked : List Step → ℕ
 puts_asked steps = sum_by puts_in steps
 
 -- ---- the whole report
--- of so many puts asked for, of commands that answered so, and of the world that they left
+-- of so many puts asked for, of commands with these answers, and of the world that they left
 abbrev pub report_text : ℕ → List Answered → WorldState → List ℕ
 report_text all answered w =
     flat_map answer_line answered

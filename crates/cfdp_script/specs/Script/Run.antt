@@ -26,7 +26,7 @@ use Rattle.cfdp_script.specs.declared.script.command.Fate.{Fate}
 use Rattle.cfdp_script.specs.Script.Lines.{befalls}
 use Rattle.cfdp_script.specs.declared.script.Step.{Step}
 
--- what a station told its user so far, and the files that it received
+-- what a station indicated to its user so far, and the files that it received
 abbrev pub told : Side → WorldState → List Indication
 told s w = (entity_at s w).table.told
 
@@ -34,7 +34,7 @@ abbrev pub received : Side → WorldState → FileMap
 received s w = (entity_at s w).table.files
 
 -- ---- one command
--- Memory was wanting, and then it came so.
+-- Memory ran out, and then this came about.
 abbrev pub ForMemory : RecoverError → Type 0 → Type 0
 ForMemory (Settle NoMemory) so = so
 ForMemory _ so = ⊥
@@ -48,8 +48,8 @@ HappensOnce e (Some (Refused by)) old new = Steps e (did.Refused by) old new
 HappensOnce e (Some (Ended error)) old new =
     ForMemory error (WantsMemory e × FindsNoMemory (side_in e) old new)
 
--- It happened so many times; or less often, and then an event had another answer. That is the
--- command's, and tells, where there was nothing more to do, how often it happened.
+-- It happened `count` times; or less often, and then an event had another answer. The command has
+-- that answer, which says, if there was nothing more to do, how often it happened.
 abbrev pub HappensOften : Event → ℕ → Option Answer → (old new : WorldState) → Type 0
 HappensOften e count None old new = Times (Steps e did.Applied) count old new
 HappensOften e count (Some answer) old new = (before : ℕ) × (before < count)
@@ -62,14 +62,14 @@ abbrev pub MayTake : Side → Lane → WorldState → Type 0
 MayTake s lane w = (length (lane_from s lane w).marks < length (lane_from s lane w).frames)
     ⊎ ((l : Lane) → NoneWaits s l w)
 
--- That befell the oldest waiting frame of a lane in which one waited, or the answer says why it
--- didn't: that there was nothing to do only where none waited in either.
+-- That happened to the oldest waiting frame of a lane in which one waited, or the answer says why
+-- it didn't: that there was nothing to do only if none waited in either lane.
 abbrev pub HappensToFirst : Fate → Side → Option Answer → (old new : WorldState) → Type 0
 HappensToFirst fate s answer old new =
     (lane : Lane) × MayTake s lane old × HappensOnce (befalls fate s lane) answer old new
 
--- So it befell so many; or fewer, and then one had another answer, which is the command's, and
--- tells, where no more waited, how many it befell.
+-- It happened to `count` frames; or to fewer, and then one had another answer. The command has that
+-- answer, which says, if no more waited, how many it happened to.
 abbrev pub HappensToFirsts : Fate → Side → ℕ → Option Answer → (old new : WorldState) → Type 0
 HappensToFirsts fate s count None old new = Times (HappensToFirst fate s None) count old new
 HappensToFirsts fate s count (Some answer) old new = (before : ℕ) × (before < count)
@@ -78,14 +78,14 @@ HappensToFirsts fate s count (Some answer) old new = (before : ℕ) × (before <
     × HappensToFirst fate s (Some why) last new
 
 -- ---- damaged frames
--- a frame with one octet replaced; the frame itself, where it has no octet there
+-- a frame with one octet replaced; the frame itself, if it has no octet there
 abbrev pub damaged : Damage → List ℕ → List ℕ
 damaged damage frame =
     if nat_lt damage.at (length frame)
     then take damage.at frame ++ damage.octet ∷ drop 1 (drop damage.at frame) else frame
 
--- It is a frame of this lane: of the one that is said, or of one in which a frame waits, if one
--- waits in either.
+-- It is a frame of this lane: the given lane, or one in which a frame waits, if a frame waits in
+-- either lane.
 abbrev pub IsDamagedIn : Option Lane → Side → Lane → WorldState → Type 0
 IsDamagedIn (Some said) s lane w = lane ≡ said
 IsDamagedIn None s lane w = MayTake s lane w
@@ -95,8 +95,8 @@ abbrev pub ComesAs : Damage → Side → Lane → List ℕ → WorldState → Ty
 ComesAs damage s lane octets w =
     NoneWaits s lane w ⊎ (octets ≡ damaged damage (oldest_of (lane_from s lane w)))
 
--- That came in the place of the oldest frame, or the answer says why it didn't. Where there was no
--- memory for it nothing happened.
+-- That came in the place of the oldest frame, or the answer says why it didn't. If there was no
+-- memory for it, nothing happened.
 abbrev pub HappensDamaged : Side → Option Lane → Damage → Option Answer → (old new : WorldState)
     → Type 0
 HappensDamaged s said damage answer old new =
@@ -117,7 +117,7 @@ abbrev pub SettlingEnds : RecoverError → (old new : WorldState) → Type 0
 SettlingEnds (Settle error) old new = HasCause error old new
 SettlingEnds StillArmed old new = ⊥
 
--- A command had this answer, none where all was done, and led from the old world to the new one.
+-- A command had this answer, none if all was done, and led from the old world to the new one.
 abbrev pub Performs : Command → Option Answer → (old new : WorldState) → Type 0
 Performs (Once e) answer old new = HappensOnce e answer old new
 Performs (Repeat e count) answer old new = HappensOften e count answer old new
@@ -131,7 +131,7 @@ Performs SettleAll answer old new =
     IsDone answer (GoesWell old new × IsSettled new) (λ error. SettlingEnds error old new)
 Performs Recover answer old new =
     IsDone answer (Recovers old new × IsRecovered new) (λ error. EndsBy error old new)
--- where frames keep their order, this is no command
+-- if frames keep their order, this is no command
 Performs (Disorder what) answer old new = (answer ≡ Some (Nothing 0)) × (new ≡ old)
 
 -- ---- all commands
@@ -149,7 +149,7 @@ IsAccepted (Once (event.Put at source destination)) answer = answer ≡ None
 IsAccepted (Repeat (event.Put at source destination) count) answer = ⊥
 IsAccepted _ answer = Unit {0}
 
--- Every put was.
+-- Every put was accepted.
 abbrev pub AreAccepted : List Step → List Answered → Type 0
 AreAccepted [] answered = Unit {0}
 AreAccepted (step ∷ steps) [] = Unit {0}

@@ -23,10 +23,10 @@ use Rattle.cfdp_report.specs.declared.exit.Fault.TheVariants.{Unreadable, TooLon
 use Rattle.cfdp_script.specs.declared.script.Step.{Step}
 
 -- The script is good. From the first world of its settings and its files its commands ran to the
--- last of them. In the world that they left each inbox holds the files of the puts whose
--- completions were told there, one written over the other in their order, and nothing else. Where
--- all is settled in it, nothing went wrong and every put was accepted, as many puts were completed
--- as the script asks for.
+-- last of them. In the world that they left, each inbox holds the files of the puts whose
+-- completions were indicated there, one written over the other in their order, and nothing else. If
+-- all is settled in that world, nothing went wrong and every put was accepted, then as many puts
+-- were completed as the script asks for.
 pub record RunsScript (text : List ℕ) : Type 0 where
   pub good : IsFirstBad text None
   pub first : WorldState
@@ -43,7 +43,7 @@ abbrev pub RunsToEnd : List ℕ → Exit → (old new : Option (List ℕ)) → T
 RunsToEnd text exit old new = (all : RunsScript text)
     × IsTold (steps_of text) all.ran.answered all.ran.last exit old new
 
--- A run ended so at this text. It was read, so there is nothing to read that could fail. Where the
+-- A run ended so at this text. It was read, so there is nothing to read that could fail. If the
 -- report couldn't be written to its end, the script ran all the same; of what was written nothing
 -- is said. That the writer failed then can't be said: no writer says which failures it has.
 abbrev pub EndsText : Exit → List ℕ → (old new : Option (List ℕ)) → Type 0
@@ -77,11 +77,11 @@ EndsFrom exit config files steps old new =
     × IsFirst config (outbox_of One files, outbox_of Two files) (empty, empty) first
     × EndsRun exit steps first old new)
 
--- the same of a script
+-- Reading a script failed so: it may have at most 1,048,576 octets.
 abbrev pub EndsReading : Fault → Option (List ℕ) → Type 0
 EndsReading fault left = EndsReadingUpTo 1048576 fault left
 
--- Where the script is bad or couldn't be read, or there was no memory at the start, nothing is
+-- If the script is bad or couldn't be read, or there was no memory at the start, nothing is
 -- written.
 abbrev pub IsSilentAt : Exit → (old new : Option (List ℕ)) → Type 0
 IsSilentAt (BadScript bad) old new = Keeps old new

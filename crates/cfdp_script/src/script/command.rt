@@ -52,7 +52,7 @@ pub struct FileLine {
 pub enum Contents {
     /// These octets.
     Text(Octets),
-    /// So many times the same octet: at most `MAX_FILL`.
+    /// An octet, a number of times: at most `MAX_FILL`.
     Fill { count: u64, octet: u8 },
 }
 
@@ -62,10 +62,10 @@ pub enum Command {
     /// An event: `put S SRC DST`, `cancel S ID`, `suspend S ID`, `resume S ID`, `prompt S ID nak`,
     /// `prompt S ID keep`, `poll S`, `flush S`, `tick S N`.
     Once(Event),
-    /// An event so many times: `deliver S dir [N]`, `strike S data [N]`.
+    /// An event, a number of times: `deliver S dir [N]`, `strike S data [N]`.
     Repeat(Event, u64),
-    /// So many times what befalls the frame that the station sent first, of all of its frames that
-    /// wait in either lane: `deliver S [N]`, `strike S [N]`.
+    /// What happens, a number of times, to the frame that the station sent first, of all of its
+    /// frames that wait in either lane: `deliver S [N]`, `strike S [N]`.
     First {
         fate: Fate,
         from: Side,
@@ -84,24 +84,24 @@ pub enum Command {
     Burst(Side),
     /// `settle`: polls, flushes and delivers until nothing is due and nothing waits.
     Settle,
-    /// `recover`: settles, and tells stations the time and settles again, until no timer is armed
-    /// but those of Inactivity.
+    /// `recover`: settles, and gives stations the time and settles again, until no timer is armed
+    /// except those of Inactivity.
     Recover,
-    /// What no link that keeps its order does, or a station that starts anew.
+    /// What no link that keeps its order does, or a station that restarts.
     Disorder(Disorder),
 }
 
-/// What befalls frames on a link that keeps no order, and a station that starts anew. A world that
+/// What happens to frames on a link that keeps no order, and a station that restarts. A world that
 /// keeps the order of its frames does none of it.
 #[derive(Clone, Copy)]
 pub enum Disorder {
-    /// `overtake S N`, `overtake S LANE N`: the frame that has N waiting ones in front of it, of
-    /// its lane or of both, arrives before these.
+    /// `overtake S N`, `overtake S LANE N`: the frame that has N waiting ones before it, of its
+    /// lane or of both, arrives before these.
     Overtake(Pick),
     /// `repeat S N`, `repeat S LANE N`: a frame that arrived before arrives again: the Nth, counted
     /// back from the one that arrived last, of a lane or of both.
     Again(Pick),
-    /// `restart S`: the station starts anew.
+    /// `restart S`: the station restarts.
     Restart(Side),
 }
 
@@ -110,22 +110,22 @@ pub enum Disorder {
 pub struct Pick {
     /// The station that sent it.
     pub from: Side,
-    /// The lane whose frames are counted; `None` where those of both are.
+    /// The lane whose frames are counted; `None` if the frames of both are.
     pub lane: Option<Lane>,
-    /// Which one: 1 at least.
+    /// Which one: it must be at least 1.
     pub number: u64,
 }
 
 /// What is damaged of a frame: one octet comes as another one.
 #[derive(Clone, Copy)]
 pub struct Damage {
-    /// How many octets of the frame stand in front of it.
+    /// How many octets of the frame stand before it.
     pub at: u64,
     /// What comes in its place.
     pub octet: u8,
 }
 
-/// What befalls a frame that waits.
+/// What happens to a frame that waits.
 #[derive(Clone, Copy)]
 pub enum Fate {
     /// It arrives.
@@ -137,7 +137,8 @@ pub enum Fate {
 impl Fate {
     ghost use Rattle.cfdp_script.specs.Script.Lines.{befalls};
 
-    /// The event in which it befalls the oldest waiting frame that this station sent in this lane.
+    /// Returns the event that has this effect on the oldest waiting frame that this station sent in
+    /// this lane.
     pub fn event(self, from: Side, lane: Lane) -> Event
         ensures { result ≡ befalls self from lane }
     {
@@ -148,11 +149,11 @@ impl Fate {
     }
 }
 
-/// Reads a line that is to be read: it isn't empty and doesn't begin with `#`.
+/// Reads a line that must be read: it isn't empty and doesn't begin with `#`.
 ///
 /// # Errors
 ///
-/// `Bad` with any `LineError` before `TooLate`; `NoMemory` where there is no memory for the names
+/// `Bad` with any `LineError` before `TooLate`; `NoMemory` if there is no memory for the names
 /// and the text in it.
 pub fn parse_line(alloc: Global, line: &[u8]) -> Result<Line, Unread>
     ensures { Reads result (line_of line.now) }
@@ -213,7 +214,7 @@ fn parse_fill(alloc: Global, words: Words<'_>) -> Result<Line, Unread>
     Ok(Line::File(FileLine { at, name, contents }))
 }
 
-/// So many times an octet.
+/// Reads an octet and how often it stands in a file: at most `MAX_FILL` times.
 fn parse_contents(count: &[u8], octet: &[u8]) -> Result<Contents, LineError>
     ensures { result_ok result ≡ both Contents.Fill (fill_count count.now) (octet_of octet.now) }
 {
@@ -254,7 +255,7 @@ fn parse_put(alloc: Global, words: Words<'_>) -> Result<Command, Unread>
     }))
 }
 
-/// A command that holds no name.
+/// Reads a command that holds no name.
 fn parse_call(verb: &[u8], words: Words<'_>) -> Result<Command, LineError>
     ensures { result_ok result ≡ call_of verb.now (left words.entry) }
 {
@@ -274,7 +275,7 @@ fn parse_call(verb: &[u8], words: Words<'_>) -> Result<Command, LineError>
     }
 }
 
-/// A command that is of no transaction.
+/// Reads a command that is of no transaction.
 fn parse_motion(verb: &[u8], words: Words<'_>) -> Result<Command, LineError>
     ensures { result_ok result ≡ motion_of verb.now (left words.entry) }
 {
@@ -296,7 +297,7 @@ fn parse_motion(verb: &[u8], words: Words<'_>) -> Result<Command, LineError>
     }
 }
 
-/// A command that goes on until nothing is left to do.
+/// Reads a command that goes on until nothing is left to do.
 fn parse_round(verb: &[u8], words: Words<'_>) -> Result<Command, LineError>
     ensures { result_ok result ≡ round_of verb.now (left words.entry) }
 {
@@ -315,7 +316,7 @@ fn parse_round(verb: &[u8], words: Words<'_>) -> Result<Command, LineError>
     }
 }
 
-/// What a link that keeps its order doesn't do, or a start.
+/// Reads a command that a link which keeps its order doesn't do, or a restart.
 fn parse_disorder(verb: &[u8], words: Words<'_>) -> Result<Disorder, LineError>
     ensures { result_ok result ≡ disorder_of verb.now (left words.entry) }
 {
@@ -330,7 +331,7 @@ fn parse_disorder(verb: &[u8], words: Words<'_>) -> Result<Disorder, LineError>
     }
 }
 
-/// One frame of a station.
+/// Reads one frame of a station.
 fn parse_pick(mut words: Words<'_>) -> Result<Pick, LineError>
     ensures { result_ok result ≡ pick_of (left words.entry) }
 {
@@ -338,7 +339,7 @@ fn parse_pick(mut words: Words<'_>) -> Result<Pick, LineError>
     parse_pick_at(from, words)
 }
 
-/// One frame of this station: of a lane where one stands there, or of both.
+/// Reads one frame of this station: of a lane if one is given, or of both.
 fn parse_pick_at(from: Side, mut words: Words<'_>) -> Result<Pick, LineError>
     ensures { result_ok result ≡ pick_at from (left words.entry) }
 {
@@ -357,14 +358,14 @@ fn parse_pick_at(from: Side, mut words: Words<'_>) -> Result<Pick, LineError>
     }
 }
 
-/// A station, and nothing else.
+/// Reads a station, and nothing else.
 fn parse_alone(words: Words<'_>) -> Result<Side, LineError>
     ensures { result_ok result ≡ station_words (left words.entry) }
 {
     parse_station(words.one()?)
 }
 
-/// A station and a transaction.
+/// Reads a station and a transaction.
 fn parse_transaction(words: Words<'_>) -> Result<(Side, TransactionId), LineError>
     ensures { result_ok result ≡ transaction_words (left words.entry) }
 {
@@ -372,7 +373,7 @@ fn parse_transaction(words: Words<'_>) -> Result<(Side, TransactionId), LineErro
     Ok((parse_station(station)?, parse_id(id)?))
 }
 
-/// A station and a number.
+/// Reads a station and a number.
 fn parse_number_at(words: Words<'_>) -> Result<(Side, u64), LineError>
     ensures { result_ok result ≡ number_words (left words.entry) }
 {
@@ -380,7 +381,7 @@ fn parse_number_at(words: Words<'_>) -> Result<(Side, u64), LineError>
     Ok((parse_station(station)?, parse_value(number)?))
 }
 
-/// What befalls frames: of which station, and of which of them.
+/// Reads what happens to frames: the station, and which of its frames.
 fn parse_frames(fate: Fate, mut words: Words<'_>) -> Result<Command, LineError>
     ensures { result_ok result ≡ frames_of fate (left words.entry) }
 {
@@ -388,7 +389,7 @@ fn parse_frames(fate: Fate, mut words: Words<'_>) -> Result<Command, LineError>
     parse_which(fate, from, words)
 }
 
-/// Which frames: those of a lane or of both, and how many: one where no number stands there.
+/// Reads which frames: those of a lane or of both, and how many: one if no number is given.
 fn parse_which(fate: Fate, from: Side, mut words: Words<'_>) -> Result<Command, LineError>
     ensures { result_ok result ≡ which_of fate from (left words.entry) }
 {
@@ -410,7 +411,7 @@ fn parse_which(fate: Fate, from: Side, mut words: Words<'_>) -> Result<Command, 
     }
 }
 
-/// What is damaged: of which station, of which of its frames, and what of it.
+/// Reads what is damaged: the station, which of its frames, and which octet of it.
 fn parse_damaged(mut words: Words<'_>) -> Result<Command, LineError>
     ensures { result_ok result ≡ damaged_of (left words.entry) }
 {
@@ -418,7 +419,7 @@ fn parse_damaged(mut words: Words<'_>) -> Result<Command, LineError>
     parse_damage_at(from, words)
 }
 
-/// Which frame, and what of it: where no lane stands there, that which was sent first.
+/// Reads which frame, and what of it: if no lane is given, the frame which was sent first.
 fn parse_damage_at(from: Side, mut words: Words<'_>) -> Result<Command, LineError>
     ensures { result_ok result ≡ damage_at from (left words.entry) }
 {
@@ -437,7 +438,7 @@ fn parse_damage_at(from: Side, mut words: Words<'_>) -> Result<Command, LineErro
     }
 }
 
-/// Which octet of a frame, and what comes in its place.
+/// Reads which octet of a frame is replaced, and what comes in its place.
 fn parse_damage(at: &[u8], octet: &[u8]) -> Result<Damage, LineError>
     ensures { result_ok result ≡ damage_of at.now octet.now }
 {
@@ -447,7 +448,7 @@ fn parse_damage(at: &[u8], octet: &[u8]) -> Result<Damage, LineError>
     })
 }
 
-/// How many: one where no number stands there.
+/// Reads how many: one if no number is given.
 fn parse_count(words: Words<'_>) -> Result<u64, LineError>
     ensures { result_ok result ≡ count_of (left words.entry) }
 {
@@ -457,7 +458,7 @@ fn parse_count(words: Words<'_>) -> Result<u64, LineError>
     parse_value(words.one()?)
 }
 
-/// Which frame this word says: 1 is the first. The error tells that it is no number.
+/// Reads which frame this word says: 1 is the first. It is an error if the word is no number.
 fn parse_frame_number(word: &[u8], no_number: LineError) -> Result<u64, LineError>
     ensures { result_ok result ≡ frame_number word.now }
 {
@@ -468,7 +469,7 @@ fn parse_frame_number(word: &[u8], no_number: LineError) -> Result<u64, LineErro
     Ok(number)
 }
 
-/// The lane of this name.
+/// Returns the lane of this name.
 fn parse_lane(word: &[u8]) -> Option<Lane>
     ensures { result ≡ lane_of word.now }
 {

@@ -8,12 +8,12 @@ use cfdp_store::Files;
 use link_sim::Side;
 use std::alloc::{AllocError, Global};
 
-/// The files of both stations, those of station 1 first. One that comes later takes the place of an
+/// Returns the files of both stations, those of station 1 first. A file takes the place of an
 /// earlier one of its name.
 ///
 /// # Errors
 ///
-/// `AllocError` where there is no memory for them.
+/// `AllocError` if there is no memory for them.
 pub fn outboxes(alloc: Global, files: &[FileLine]) -> Result<(Files, Files), AllocError>
     ensures one { IfOk result (λ both. both.0 ≡ outbox_of sides.One files.now) }
     ensures two { IfOk result (λ both. both.1 ≡ outbox_of sides.Two files.now) }
@@ -44,7 +44,7 @@ fn add_file(
     }
 }
 
-/// The octets of a file.
+/// Returns the octets of a file.
 fn contents_of(alloc: Global, contents: &Contents) -> Result<Vec<u8>, AllocError>
     ensures { IfOk result (λ octets. octets.items ≡ octets_of contents.now) }
 {

@@ -10,8 +10,8 @@ use cfdp_report::Answer;
 use link_sim::{Applied, Event, Lane, RecoverError, Side, Stations};
 use std::alloc::{AllocError, Global};
 
-/// Does what a command says. Answers why it was not done, or not to its end: the first answer of an
-/// event that isn't that it happened ends the command.
+/// Does what a command says. Returns why it wasn't done, or not to its end, if so: the first answer
+/// of an event that isn't that it happened ends the command.
 pub fn perform<S: Stations>(alloc: Global, stations: &mut S, command: &Command) -> Option<Answer>
     ensures { Performs command.now result (S.world stations.old) (S.world stations.new) }
 {
@@ -43,7 +43,7 @@ pub fn perform<S: Stations>(alloc: Global, stations: &mut S, command: &Command) 
     }
 }
 
-/// Lets an event happen. Answers why it didn't.
+/// Lets an event happen. Returns why it didn't, if so.
 fn once<S: Stations>(stations: &mut S, event: &Event) -> Option<Answer>
     ensures { HappensOnce event.now result (S.world stations.old) (S.world stations.new) }
 {
@@ -55,7 +55,7 @@ fn once<S: Stations>(stations: &mut S, event: &Event) -> Option<Answer>
     }
 }
 
-/// Lets an event happen so many times. Answers why it didn't, and after how many.
+/// Lets an event happen `count` times. Returns why it didn't, if so, and after how many.
 fn repeat<S: Stations>(stations: &mut S, event: &Event, count: u64) -> Option<Answer>
     ensures { HappensOften event.now count result (S.world stations.old) (S.world stations.new) }
 {
@@ -67,8 +67,8 @@ fn repeat<S: Stations>(stations: &mut S, event: &Event, count: u64) -> Option<An
     None
 }
 
-/// Lets that befall the frame which the station sent first, of all that wait in either lane.
-/// Answers why it didn't.
+/// Lets that happen to the frame which the station sent first, of all that wait in either lane.
+/// Returns why it didn't, if so.
 fn once_first<S: Stations>(stations: &mut S, fate: Fate, from: Side) -> Option<Answer>
     ensures { HappensToFirst fate from result (S.world stations.old) (S.world stations.new) }
 {
@@ -76,7 +76,8 @@ fn once_first<S: Stations>(stations: &mut S, fate: Fate, from: Side) -> Option<A
     once(stations, &fate.event(from, lane))
 }
 
-/// Lets that befall so many frames, one by one. Answers why it didn't, and after how many.
+/// Lets that happen to `count` frames, one by one. Returns why it didn't, if so, and how often it
+/// did.
 fn repeat_first<S: Stations>(stations: &mut S, fate: Fate, from: Side, count: u64) -> Option<Answer>
     ensures { HappensToFirsts fate from count result (S.world stations.old)
         (S.world stations.new) }
@@ -89,8 +90,8 @@ fn repeat_first<S: Stations>(stations: &mut S, fate: Fate, from: Side, count: u6
     None
 }
 
-/// Damages the oldest frame that waits in this lane, or without one that which the station sent
-/// first, of all that wait in either lane. Answers why it didn't.
+/// Damages the oldest frame that waits in this lane, or, if no lane is given, the frame that the
+/// station sent first, of all that wait in either lane. Returns why it didn't, if so.
 fn damage_oldest<S: Stations>(
     alloc: Global,
     stations: &mut S,
@@ -108,7 +109,8 @@ fn damage_oldest<S: Stations>(
     }
 }
 
-/// The lane whose oldest frame is damaged: that which is said, or that of the frame sent first.
+/// Returns the lane whose oldest frame is damaged: the given one, or the lane of the frame sent
+/// first.
 fn lane_of<S: Stations>(stations: &S, side: Side, said: Option<Lane>) -> Lane
     ensures { IsDamagedIn said side result (S.world stations.now) }
 {
@@ -118,11 +120,11 @@ fn lane_of<S: Stations>(stations: &S, side: Side, said: Option<Lane>) -> Lane
     }
 }
 
-/// The oldest frame that waits in a lane, damaged; no octets where none waits.
+/// Returns the oldest frame that waits in a lane, damaged; no octets if none waits.
 ///
 /// # Errors
 ///
-/// `AllocError` where there is no memory for it.
+/// `AllocError` if there is no memory for it.
 fn oldest_damaged<S: Stations>(
     alloc: Global,
     stations: &S,
@@ -138,11 +140,11 @@ fn oldest_damaged<S: Stations>(
     }
 }
 
-/// A frame with one octet replaced; the frame itself, where it has no octet there.
+/// Returns a frame with one octet replaced; the frame itself, if it has no octet there.
 ///
 /// # Errors
 ///
-/// `AllocError` where there is no memory for it.
+/// `AllocError` if there is no memory for it.
 pub fn damaged(alloc: Global, frame: &[u8], damage: Damage) -> Result<Octets, AllocError>
     ensures { IfOk result (λ octets. octets ≡ damaged damage frame.now) }
 {

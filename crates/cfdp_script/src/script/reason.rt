@@ -1,4 +1,4 @@
-//! What is wrong with a line of a script, as it is told.
+//! What is wrong with a line of a script, as it is reported.
 ghost use Rattle.std.specs.Prelude.{◌≡◌, ◌<◌};
 
 use cfdp_report::{
@@ -102,7 +102,8 @@ const FORMS: [Form; 21] = [
     },
 ];
 
-/// A line that is bad, as it is told: with the word that is wrong, and what may stand there.
+/// Returns a line that is bad, as it is reported: with the word that is wrong, and what may stand
+/// there.
 pub fn bad_line(alloc: Global, line: usize, text: &[u8], error: LineError) -> BadLine
     ensures { result.line ≡ line }
 {
@@ -115,7 +116,7 @@ pub fn bad_line(alloc: Global, line: usize, text: &[u8], error: LineError) -> Ba
     }
 }
 
-/// The word of a line that is wrong by this error; nothing where it isn't one of its words.
+/// Returns the word of a line that this error is about; nothing if it isn't about one of its words.
 fn wrong_word(text: &[u8], error: LineError) -> &[u8] {
     match error {
         LineError::UnknownCommand => word_behind(text, 0),
@@ -128,8 +129,8 @@ fn wrong_word(text: &[u8], error: LineError) -> &[u8] {
     }
 }
 
-/// How many words stand before the number of a command that has one: a name or a lane may be among
-/// them.
+/// Returns how many words stand before the number of a command that has one: a name or a lane may
+/// be among them.
 fn words_before_number(text: &[u8]) -> u64
     ensures { result < 4 }
 {
@@ -141,7 +142,7 @@ fn words_before_number(text: &[u8]) -> u64
     }
 }
 
-/// The word behind so many of a line; nothing where there are fewer.
+/// Returns the word after `before` words of a line; nothing if there are fewer.
 fn word_behind(text: &[u8], before: u64) -> &[u8] {
     let mut rest = text;
     for _ in 0..before {
@@ -153,11 +154,11 @@ fn word_behind(text: &[u8], before: u64) -> &[u8] {
     cut_at_first(rest, b' ').0
 }
 
-/// What may stand where a line is wrong.
+/// Returns what may stand in place of what is wrong in a line.
 ///
 /// # Errors
 ///
-/// `AllocError` where there is no memory to look for the nearest word.
+/// `AllocError` if there is no memory to look for the nearest word.
 fn hint(alloc: Global, text: &[u8], word: &[u8], error: LineError) -> Result<Hint, AllocError> {
     match error {
         LineError::UnknownCommand => command_hint(alloc, word),
@@ -168,7 +169,7 @@ fn hint(alloc: Global, text: &[u8], word: &[u8], error: LineError) -> Result<Hin
     }
 }
 
-/// The command that is most like a word.
+/// Returns the command that is most like a word.
 fn command_hint(alloc: Global, word: &[u8]) -> Result<Hint, AllocError> {
     let mut nearest = Nearest::to(word);
     for form in &FORMS {
@@ -180,7 +181,7 @@ fn command_hint(alloc: Global, word: &[u8]) -> Result<Hint, AllocError> {
     }
 }
 
-/// The key that is most like a word, or all keys.
+/// Returns the key that is most like a word, or all keys.
 fn key_hint(alloc: Global, word: &[u8]) -> Result<Hint, AllocError> {
     let mut nearest = Nearest::to(word);
     consider_keys(alloc, &mut nearest)?;
@@ -190,7 +191,7 @@ fn key_hint(alloc: Global, word: &[u8]) -> Result<Hint, AllocError> {
     }
 }
 
-/// How the command of a line is written.
+/// Returns how the command of a line is written.
 fn form_hint(text: &[u8]) -> Hint {
     let verb = word_behind(text, 0);
     for form in &FORMS {
@@ -201,7 +202,7 @@ fn form_hint(text: &[u8]) -> Hint {
     Hint::Nothing
 }
 
-/// The range of the setting that a line sets, if it sets one.
+/// Returns the range of the setting that a line sets, if it sets one.
 fn number_hint(text: &[u8]) -> Hint {
     match parse_setting(word_behind(text, 1)) {
         Some(setting) => Hint::Value(setting),

@@ -24,14 +24,14 @@ use std::io::Write;
 /// How many puts a script has, and how many of them were completed.
 #[derive(Clone, Copy)]
 pub struct Tally {
-    /// Those that were completed, by what their sender was told.
+    /// Those that were indicated as complete to their sender.
     pub complete: u128,
     /// All of them, refused ones too.
     pub asked: usize,
 }
 
 impl Tally {
-    /// The count of puts after a script, and of those that were completed.
+    /// Returns the count of puts after a script, and of those that were completed.
     pub fn of<S: Stations>(stations: &S, steps: &[Step]) -> Tally
         ensures complete { result.complete ≡ puts_completed (S.world stations.now) }
         ensures asked { result.asked ≡ puts_asked steps.now }
@@ -48,7 +48,7 @@ impl Tally {
 ///
 /// # Errors
 ///
-/// That of the writer.
+/// The error of the writer, if it fails.
 pub fn write_report<S: Stations, W: Write>(
     out: &mut W,
     answered: &[Answered],
@@ -100,7 +100,7 @@ fn write_file<W: Write>(out: &mut W, station: u8, name: &[u8], octets: &[u8]) ->
     writeln!(out, "inbox {station} {name} {} {sum}", octets.len())
 }
 
-/// The modular checksum of a file.
+/// Returns the modular checksum of a file.
 #[tactic(auto, using(cfdp_directives::proofs::Sums::whole_words))]
 fn checksum(octets: &[u8]) -> u32
     ensures { result ≡ modular_checksum octets.now }
@@ -110,7 +110,7 @@ fn checksum(octets: &[u8]) -> u32
     checksum.value()
 }
 
-/// How many of the accepted puts were completed: those of which their sender was told so.
+/// Returns how many of the accepted puts were completed: those whose sender was notified of that.
 fn completed_puts<S: Stations>(stations: &S) -> u128
     ensures { result ≡ puts_completed (S.world stations.now) }
 {
@@ -120,7 +120,7 @@ fn completed_puts<S: Stations>(stations: &S) -> u128
     one as u128 + two as u128
 }
 
-/// How many of the commands are puts.
+/// Returns how many of the commands are puts.
 pub fn asked_puts(steps: &[Step]) -> usize
     ensures { result ≡ puts_asked steps.now }
 {
@@ -131,7 +131,7 @@ pub fn asked_puts(steps: &[Step]) -> usize
     count
 }
 
-/// How many files a command asks a station to send: one or none.
+/// Returns how many files a command asks a station to send: one or none.
 #[tactic(auto, unfolding(crate::specs::Script::Run::puts_in))]
 fn puts_in(step: &Step) -> usize
     ensures same { result ≡ runs.puts_in step.now }

@@ -23,8 +23,8 @@ pub struct Ended {
     pub answered: Vec<Answered>,
 }
 
-/// Does all commands at these stations, and writes the report. There is memory for what they answer
-/// before the first of them, or none is done. The writer isn't flushed.
+/// Does all commands at these stations, and writes the report. There must be memory for all that
+/// they answer before the first of them, or none is done. The writer isn't flushed.
 pub fn run_steps<S: Stations, W: Write>(
     alloc: Global,
     stations: &mut S,
@@ -83,11 +83,11 @@ fn perform_all<S: Stations>(
     }
 }
 
-/// Writes the report to its end, and tells how the run ended.
+/// Writes the report to its end, and returns how the run ended.
 ///
 /// # Errors
 ///
-/// That of the writer.
+/// The error of the writer, if it fails.
 fn report<S: Stations, W: Write>(
     stations: &S,
     steps: &[Step],
@@ -104,7 +104,7 @@ fn report<S: Stations, W: Write>(
     Ok(exit(answered, tally))
 }
 
-/// How a run ended whose commands answered so.
+/// Returns how a run ended whose commands had these answers.
 fn exit(answered: &[Answered], tally: Tally) -> Exit
     ensures { result ≡ exit_of answered.now tally.complete tally.asked }
 {
@@ -117,7 +117,7 @@ fn exit(answered: &[Answered], tally: Tally) -> Exit
     }
 }
 
-/// Whether a command failed for want of memory, or a store failed.
+/// Returns `true` if a command ran out of memory, or a store failed.
 fn has_device_fault(answered: &[Answered]) -> bool
     ensures { result ≡ list_any (λ done. answers.is_device_fault done.answer) answered.now }
 {

@@ -26,13 +26,13 @@ use valid_config::Valid;
 /// A world in memory, and who looks on.
 type Watched<'a> = World<MemoryOutbox, MemoryInbox, WorldOnlooker<'a>>;
 
-/// Reads a script, runs it and writes its report, which has left the buffer then. Somebody looks on
-/// if something is to be shown, and shows it as it passes.
+/// Reads a script, runs it, writes its report and flushes it. If something must be shown of the
+/// run, an onlooker shows it as it passes.
 ///
 /// Nothing is written unless the whole script was read, is good, and there is memory for all that
-/// stands before its first command. From then on a command that answers NoMemory or StoreFailed
+/// stands before its first command. After that, a command that answers NoMemory or StoreFailed
 /// stands in the report, and the answer is `Device` too. A report that can't be written to its end
-/// is not begun again.
+/// isn't restarted.
 pub fn run_sim<R: Read + Drop, W: Write + Drop>(
     rt: &HostRuntime,
     shown: &Shown,
@@ -106,11 +106,11 @@ fn run_commands<W: Write>(
     }
 }
 
-/// Two stations with these files to send, in which nothing happened yet.
+/// Returns two stations with these files to send, in which nothing happened yet.
 ///
 /// # Errors
 ///
-/// `AllocError` where there is no memory for them, or for who looks on.
+/// `AllocError` if there is no memory for them, or for the onlooker.
 fn first_world<'a>(
     rt: &'a HostRuntime,
     shown: &'a Shown,
@@ -127,7 +127,7 @@ fn first_world<'a>(
     World::in_memory(alloc, config, outboxes, WorldOnlooker::new(onlooker))
 }
 
-/// Does these commands in a world, writes the report, and gives what is known of it then.
+/// Does these commands in a world, writes the report, and returns what is known of it then.
 fn run_world<W: Write>(alloc: Global, mut world: Watched<'_>, steps: &[Step], out: &mut W) -> Ran
     ensures { EndsRun result.exit steps.now world.entry
         (W.contents out.old) (W.contents out.new) }

@@ -9,13 +9,14 @@ use crate::folder_spool::place::{Place, Way};
 use crate::folder_spool::stamp::FileStamp;
 use cfdp_files::{LockError, LockedFile};
 use cfdp_report::cause_text;
+use cfdp_store::NameRule;
 use past::Past;
 use std::fs::{File, ReadDir};
 use std::io::ErrorKind;
 use std::marker::Model;
 use std::{fs, io};
 
-/// By a file of this name it is tried whether files can be moved.
+/// The name of the file by which it is tried whether files can be moved.
 const TRIAL: &str = ".spool-trial";
 
 /// The folder of a spool, which one process has at a time: `.leaving` in it is locked as long as
@@ -24,6 +25,8 @@ const TRIAL: &str = ".spool-trial";
 pub struct SpoolFolder<'a> {
     rt: &'a HostRuntime,
     path: String,
+    /// Which names its files may have.
+    names: NameRule,
     /// Whether files that were sent are removed.
     removes_sent: bool,
     told: Past<Told>,
@@ -40,6 +43,7 @@ impl<'a> Model for SpoolFolder<'a> {
 
     ghost view = { λ f. record {
       path = string_bytes f.path;
+      names = f.names;
       removes = f.removes_sent;
       told = f.told;
       done = f.done;
@@ -47,6 +51,7 @@ impl<'a> Model for SpoolFolder<'a> {
 
     ghost invariant = { λ f. IsRight (record {
       path = string_bytes f.path;
+      names = f.names;
       removes = f.removes_sent;
       told = f.told;
       done = f.done;
@@ -60,6 +65,13 @@ impl<'a> SpoolFolder<'a> {
         ensures { result.now ≡ self.now.path }
     {
         self.path.as_str()
+    }
+
+    /// Returns which names its files may have.
+    pub fn names(&self) -> NameRule
+        ensures { result ≡ self.now.names }
+    {
+        self.names
     }
 
     /// Returns the path of the folder of a place.
@@ -192,7 +204,7 @@ impl<'a> SpoolFolder<'a> {
         drop(done);
     }
 
-    /// Notes that a file was told to leave this way, and what it was when it was given, if it was.
+    /// Notes that a file must leave this way, and what it was when it was given, if it was.
     pub fn tells(&mut self, name: &[u8], way: Way, stamp: Option<FileStamp>)
         ensures { self.new ≡ record self.old {
           told = self.old.told
@@ -208,16 +220,16 @@ impl<'a> SpoolFolder<'a> {
 
 // How a file leaves.
 impl<'a> SpoolFolder<'a> {
-    /// Moves a file away that was this. The move is in two steps, by a folder of its own, so that
+    /// Moves a file away if it was this. The move is in two steps, by a folder of its own, so that
     /// a file that came in its place just before isn't taken for it: that one is given back. A
     /// crash between the steps is mended by the next start, which gives the file back.
     ///
-    /// Where nothing has the name, or another file has it, nothing is moved.
+    /// If nothing has the name, or another file has it, nothing is moved.
     ///
     /// # Errors
     ///
-    /// That of the system. The file lies where it was, or in the folder of its own, from which the
-    /// next call goes on; or, where only the flush of the folders failed, where it goes, though a
+    /// The error of the system. The file lies where it was, or in the folder of its own, from which
+    /// the next call goes on; or, if only the flush of the folders failed, where it goes, though a
     /// crash of the machine may bring it back.
     pub fn leave(&mut self, name: &[u8], stamp: FileStamp, way: Way) -> io::Result<()>
         requires { IsTold self.old name.now way stamp }
@@ -245,8 +257,8 @@ impl<'a> SpoolFolder<'a> {
         }
     }
 
-    /// The first step: takes a file out of the spool, if it is there as it was. Returns whether one
-    /// of its name lies among those that leave.
+    /// Does the first step: takes a file out of the spool, if it is there as it was. Returns
+    /// whether one of its name lies among those that leave.
     fn take_out(&mut self, name: &[u8], stamp: FileStamp, way: Way) -> io::Result<bool>
         requires { IsTold self.old name.now way stamp }
         ensures only { OnlyDoes self.old self.new }
@@ -264,7 +276,7 @@ impl<'a> SpoolFolder<'a> {
         }
     }
 
-    /// The second step: moves a file on, or removes it, and flushes the folders.
+    /// Does the second step: moves a file on, or removes it, and flushes the folders.
     fn finish(&mut self, name: &[u8], way: Way) -> io::Result<()>
         requires { Shows self.old name.now way }
         ensures only { OnlyDoes self.old self.new }
@@ -290,7 +302,7 @@ impl<'a> SpoolFolder<'a> {
         Ok(Place::Left(way))
     }
 
-    /// Gives a file its name back, if it has left it. Where a newer one has that name, which would
+    /// Gives a file its name back, if it has left it. If a newer one has that name, which would
     /// have taken its place, the older one is removed.
     fn give_back(&mut self, name: &[u8]) -> io::Result<()>
         ensures only { OnlyDoes self.old self.new }
@@ -312,8 +324,9 @@ impl<'a> SpoolFolder<'a> {
 
 // How the folder is taken.
 impl<'a> SpoolFolder<'a> {
-    /// Takes a folder, makes the folders in it that it needs, tries whether files can be moved to
-    /// them, and gives back what a run that died had begun to move.
+    /// Takes a folder whose files may have the names of a rule, makes the folders in it that it
+    /// needs, tries whether files can be moved to them, and gives back what a run that died had
+    /// begun to move.
     ///
     /// # Errors
     ///
@@ -321,9 +334,11 @@ impl<'a> SpoolFolder<'a> {
     pub fn take(
         rt: &'a HostRuntime,
         path: &str,
+        names: NameRule,
         removes_sent: bool,
     ) -> Result<SpoolFolder<'a>, LockError>
         ensures path { IfOk result (λ folder. folder.path ≡ path.now) }
+        ensures names { IfOk result (λ folder. folder.names ≡ names) }
         ensures removes { IfOk result (λ folder. folder.removes ≡ removes_sent) }
         ensures told { IfOk result (λ folder. folder.told ≡ []) }
     {
@@ -333,6 +348,7 @@ impl<'a> SpoolFolder<'a> {
         let mut folder = SpoolFolder {
             rt,
             path: String::from_str(rt.alloc(), path).map_err(io::Error::from)?,
+            names,
             removes_sent,
             told: Past::new(),
             done: Past::new(),
@@ -399,7 +415,7 @@ fn text_of(name: &[u8]) -> io::Result<&str>
     }
 }
 
-/// Makes a folder where there is none. What else has its name, such as a pipe, isn't opened.
+/// Makes a folder if there is none. What else has its name, such as a pipe, isn't opened.
 fn make_folder(rt: &HostRuntime, path: &str) -> io::Result<()> {
     match fs::create_dir(rt, path) {
         Err(error) if error.kind() != ErrorKind::AlreadyExists => Err(error),

@@ -3,8 +3,8 @@ use crate::folder_spool::place::{Place, Way};
 use crate::folder_spool::stamp::FileStamp;
 use past::Past;
 
-/// A file that was told to leave a spool: its name, its way, and what it was when it was given, if
-/// it was given and hasn't left since.
+/// A file that must leave a spool: its name, its way, and what it was when it was given, if it was
+/// given and hasn't left since.
 #[derive(Drop)]
 pub struct Told {
     pub name: Past<u8>,

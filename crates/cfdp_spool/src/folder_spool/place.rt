@@ -1,6 +1,6 @@
 // Where a file of a spool lies.
 
-/// Where a file goes that leaves a spool.
+/// The folder that a file goes to when it leaves a spool.
 #[derive(Clone, Copy, PartialEq, Eq)]
 pub enum Way {
     /// To the files that were sent, or away.
@@ -9,7 +9,7 @@ pub enum Way {
     Failed,
 }
 
-/// Where a file of a spool lies.
+/// The folder that a file of a spool lies in.
 #[derive(Clone, Copy, PartialEq, Eq)]
 pub enum Place {
     /// In the folder of the spool: it waits, or is being sent.

@@ -1,5 +1,6 @@
 // The files of a spool that wait, and those that were given.
-ghost use Rattle.std.specs.Prelude.{◌≡◌, IfSome};
+ghost use Rattle.std.specs.Prelude.{◌≡◌, IfSome, OnSome};
+ghost use Rattle.cfdp_store.specs.Names.{Allows};
 ghost use Rattle.cfdp_spool.specs.Leaving.{EndsWith, GivenAs, IsTold, OnlyDoes, ToldToLeave};
 
 use crate::folder_spool::folder::SpoolFolder;
@@ -15,11 +16,11 @@ use std::time::Instant;
 /// The most files that are known at a time: such as were given, or were put back.
 const MOST_KNOWN: usize = 4096;
 
-/// For how many seconds what was done isn't done again: a look through the folder, and moves that
-/// the system refused.
+/// The seconds until something may be done again: a look through the folder, and moves that the
+/// system refused.
 const PAUSE: u64 = 1;
 
-/// For how many seconds a file waits that was put back.
+/// The seconds that a file waits that was put back.
 const AGAIN: u64 = 5;
 
 /// A file that can't be moved away, though its sending is over.
@@ -43,9 +44,9 @@ pub struct Queue<'a, T: SpoolTeller> {
     rt: &'a HostRuntime,
     folder: SpoolFolder<'a>,
     teller: T,
-    /// The next one, where it was asked whether there is one. It isn't known before it is given.
+    /// The next one, if it was asked whether there is one. It isn't known before it is given.
     offered: Option<Vec<u8>>,
-    /// Those that are to be given next.
+    /// Those that must be given next.
     ready: BTreeSet<Lying>,
     /// What those were that were given, as they were given, until they left the folder. What is in
     /// the two lists below is here too.
@@ -54,7 +55,7 @@ pub struct Queue<'a, T: SpoolTeller> {
     waiting: VecDeque<Waiting>,
     /// Those that can't be moved away.
     staying: VecDeque<Staying>,
-    /// The names that can't be sent, of which that was told.
+    /// The names that can't be sent, if that was noted.
     told: BTreeSet<String>,
     has_told_no_text: bool,
     has_told_unlisted: bool,
@@ -75,7 +76,7 @@ impl<'a, T: SpoolTeller> Model for Queue<'a, T> {
 }
 
 impl<'a, T: SpoolTeller> Queue<'a, T> {
-    /// Nothing is known of the folder.
+    /// Returns a queue that knows nothing of the folder.
     pub fn new(rt: &'a HostRuntime, folder: SpoolFolder<'a>, teller: T) -> Queue<'a, T>
         ensures { result ≡ folder.entry }
     {
@@ -97,7 +98,7 @@ impl<'a, T: SpoolTeller> Queue<'a, T> {
         }
     }
 
-    /// Whether a file waits.
+    /// Returns `true` if a file waits.
     pub fn has_next(&mut self) -> bool
         ensures { OnlyDoes self.old self.new }
     {
@@ -107,20 +108,44 @@ impl<'a, T: SpoolTeller> Queue<'a, T> {
         self.offered.is_some()
     }
 
-    /// The name of the next file, which is known from now on as what it is now; `None` where none
-    /// waits, or there is no memory for it.
+    /// Returns the name of the next file, which is known from now on as what it is now; `None` if
+    /// none waits, or there is no memory for it.
     pub fn next(&mut self) -> Option<Vec<u8>>
         ensures only { OnlyDoes self.old self.new }
         ensures given { IfSome result (λ name. GivenAs name.items self.new) }
+        ensures named { IfSome result (λ name. Allows self.old.names name.items) }
     {
         if !self.has_next() {
             return None;
         }
         let name = self.offered.take()?;
-        let stamp = self.folder.see(name.as_slice(), Place::Spool).ok()??;
-        let kept = Vec::from_slice(self.rt.alloc(), name.as_slice()).ok()?;
-        let _ = self.known.insert(kept, stamp).ok()?;
+        if !self.folder.names().allows(name.as_slice()) {
+            return None;
+        }
+        self.know(name.as_slice())?;
         Some(name)
+    }
+
+    /// Takes the file of this name as given, as an earlier run gave it. Returns `true` if it lies
+    /// there and may be sent.
+    pub fn takes_back(&mut self, name: &[u8]) -> bool
+        ensures { OnlyDoes self.old self.new }
+    {
+        self.known.len() < MOST_KNOWN
+            && self.folder.names().allows(name)
+            && self.know(name).is_some()
+    }
+
+    /// Knows a file from now on as what it is now; `None` if it isn't there, or there is no memory
+    /// for it.
+    fn know(&mut self, name: &[u8]) -> Option<()>
+        ensures only { OnlyDoes self.old self.new }
+        ensures given { OnSome result (GivenAs name.now self.new) }
+    {
+        let stamp = self.folder.see(name, Place::Spool).ok()??;
+        let kept = Vec::from_slice(self.rt.alloc(), name).ok()?;
+        let _ = self.known.insert(kept, stamp).ok()?;
+        Some(())
     }
 
     /// Finds the next file that isn't known.
@@ -138,7 +163,7 @@ impl<'a, T: SpoolTeller> Queue<'a, T> {
         self.next_ready()
     }
 
-    /// The next of those that are ready and still there.
+    /// Returns the next of those that are ready and still there.
     fn next_ready(&mut self) -> Option<Vec<u8>>
         ensures { self.new ≡ self.old }
     {
@@ -154,7 +179,8 @@ impl<'a, T: SpoolTeller> Queue<'a, T> {
         None
     }
 
-    /// The next of those that were put back and are still there, if it has waited for long enough.
+    /// Returns the next of those that were put back and are still there, if it has waited for long
+    /// enough.
     fn next_waiting(&mut self, now: Instant) -> Option<Vec<u8>>
         ensures { self.new ≡ self.old }
     {
@@ -172,7 +198,7 @@ impl<'a, T: SpoolTeller> Queue<'a, T> {
         None
     }
 
-    /// Whether a plain file of this name lies in the folder.
+    /// Returns `true` if a plain file of this name lies in the folder.
     fn is_there(&self, name: &[u8]) -> bool {
         matches!(self.folder.look(name, Place::Spool), Ok(Some(_)))
     }
@@ -198,14 +224,14 @@ impl<'a, T: SpoolTeller> Queue<'a, T> {
         }
     }
 
-    /// Takes what a look found, and tells of names that can't be sent.
+    /// Takes what a look found, and notes names that can't be sent.
     fn takes(&mut self, scan: Scan)
         ensures { self.new ≡ self.old }
     {
         self.has_told_unlisted = false;
         for name in scan.unsendable.iter() {
             if !self.told.contains(name.as_str()) {
-                self.tell(SpoolNews::Unsendable(name.as_str()));
+                self.tell(SpoolNews::Unsendable(name.as_str(), self.folder.names()));
             }
         }
         if scan.has_no_text && !self.has_told_no_text {
@@ -257,7 +283,7 @@ impl<'a, T: SpoolTeller> Queue<'a, T> {
         Ok(())
     }
 
-    /// Notes a file that can't be moved away. Where there is no memory for that, it is known until
+    /// Notes a file that can't be moved away. If there is no memory for that, it is known until
     /// the end, and so isn't given again either.
     fn stays(&mut self, name: &[u8], stamp: FileStamp, way: Way)
         requires { IsTold self.old name.now way stamp }
@@ -282,7 +308,7 @@ impl<'a, T: SpoolTeller> Queue<'a, T> {
     }
 
     /// Tries to move the first of those away that the system refused to move. If it refuses again,
-    /// that one stays behind the others.
+    /// that one stays after the others.
     fn try_first_staying(&mut self)
         ensures { OnlyDoes self.old self.new }
     {
@@ -301,7 +327,7 @@ impl<'a, T: SpoolTeller> Queue<'a, T> {
         self.staying.pop_front()
     }
 
-    /// Gives a file again, behind those that are ready, and some seconds later.
+    /// Gives a file again, after those that are ready, and some seconds later.
     pub fn put_back(&mut self, name: &[u8])
         ensures { self.new ≡ self.old }
     {
@@ -321,7 +347,7 @@ impl<'a, T: SpoolTeller> Queue<'a, T> {
     }
 }
 
-/// Whether what was done then may be done again.
+/// Returns `true` if what was done then may be done again.
 fn is_due(last: Option<Instant>, now: Instant) -> bool {
     match last {
         Some(last) => now.duration_since(last).as_secs() >= PAUSE,

@@ -1,6 +1,6 @@
 // One look through the folder of a spool.
 use crate::folder_spool::folder::SpoolFolder;
-use cfdp_store::is_folder_name;
+use cfdp_store::NameRule;
 use std::alloc::{AllocError, Global};
 use std::collections::BTreeSet;
 use std::fs::DirEntry;
@@ -12,7 +12,7 @@ use std::os::unix::fs::MetadataExt;
 const MOST_KEPT: usize = 1024;
 
 /// A file that lies in a folder. They are in the order in which they were written last, and then in
-/// that of their names.
+/// the order of their names.
 #[derive(PartialEq, Eq, PartialOrd, Ord, Drop)]
 pub struct Lying {
     seconds: i64,
@@ -24,6 +24,8 @@ pub struct Lying {
 #[derive(Drop)]
 pub struct Scan {
     alloc: Global,
+    /// Which names can be sent.
+    names: NameRule,
     /// The files that can be sent, the first ones in their order.
     pub files: BTreeSet<Lying>,
     /// The names of files that can't be sent.
@@ -33,21 +35,22 @@ pub struct Scan {
 }
 
 impl Scan {
-    /// Nothing was found.
-    pub fn new(alloc: Global) -> Scan {
+    /// Returns a look that found nothing.
+    pub fn new(alloc: Global, names: NameRule) -> Scan {
         Scan {
             alloc,
+            names,
             files: BTreeSet::new(alloc),
             unsendable: BTreeSet::new(alloc),
             has_no_text: false,
         }
     }
 
-    /// Looks through a folder; leaves those out that `is_known`.
+    /// Looks through a folder for names that its rule allows; leaves those out that `is_known`.
     ///
     /// # Errors
     ///
-    /// That of the system, or of memory.
+    /// The error of the system, or of memory.
     pub fn of<F: Fn(&[u8]) -> bool>(
         alloc: Global,
         folder: &SpoolFolder<'_>,
@@ -55,7 +58,7 @@ impl Scan {
     ) -> io::Result<Scan>
         requires { F.IsAlwaysCallable is_known }
     {
-        let mut scan = Scan::new(alloc);
+        let mut scan = Scan::new(alloc, folder.names());
         for entry in folder.list()? {
             match entry {
                 Ok(entry) if entry.file_name().starts_with('.') => {}
@@ -77,7 +80,7 @@ impl Scan {
             return Ok(());
         }
         let name = entry.file_name();
-        if !is_folder_name(name.as_bytes()) {
+        if !self.names.allows(name.as_bytes()) {
             return self.notes(name);
         }
         let written = (found.mtime(), found.mtime_nsec());
@@ -91,8 +94,8 @@ impl Scan {
         })
     }
 
-    /// Whether there are as many files as are kept, and none of them is behind one that was written
-    /// then and has this name.
+    /// Returns `true` if there are as many files as are kept, and none of them is after one that
+    /// was written then and has this name.
     fn is_full_before(&self, written: (i64, i64), name: &[u8]) -> bool {
         match self.files.last() {
             Some(last) if self.files.len() >= MOST_KEPT => {
@@ -103,7 +106,7 @@ impl Scan {
         }
     }
 
-    /// Keeps a file, and lets the last one go where there are too many.
+    /// Keeps a file, and drops the last one if there are too many.
     fn keeps(&mut self, lying: Lying) -> Result<(), AllocError> {
         let _ = self.files.insert(lying)?;
         if self.files.len() > MOST_KEPT {

@@ -22,7 +22,7 @@ struct Content {
 }
 
 impl FileStamp {
-    /// That of a file of the system.
+    /// Returns the stamp of a file of the system.
     pub fn of(file: &Metadata) -> FileStamp {
         FileStamp {
             content: Content {

@@ -41,7 +41,7 @@ spared-all x y z one two = record {
   tables = keeps-both TableFull x y z one.tables two.tables;
 }
 
--- ---- events of a settling, one behind the other
+-- ---- events of a settling, one after the other
 pub only-one : (e : Event) (d : Applied) (old new : WorldState) → IsOfSettling e → Steps e d old new → SettlesFrom e (behind e d) old new
 only-one e d old new of_it s = record { steps = (e, d) ∷ []; are = (new, of_it, s, refl); in_order = (refl, refl) }
 
@@ -139,7 +139,7 @@ pub err-then : {X : Type 0} (r : Result X SettleError) (P : SettleError → Type
 err-then {X = X} r P y e is same h = subst (λ (x : Result X SettleError). IfErr x P) (sym is) (subst P (sym same) h)
 
 -- ---- what is left
--- What happened lowered it, and else nothing changed.
+-- What happened lowered it, and otherwise nothing changed.
 abbrev pub Lowers : Bool → (old new : WorldState) → Type 0
 Lowers happened old new = (happened ≡ true → world_work new < world_work old) × (happened ≡ false → new ≡ old)
 
@@ -175,13 +175,13 @@ round-settled a b c d e ab bc cd de one two from_one from_two whole =
     (record { rests = sent_one.0; none_whole = whole One; filled = sent_one.1; none_waits = none_one })
     (record { rests = sent_two.0; none_whole = whole Two; filled = sent_two.1; none_waits = from_two })
 
--- of a station, where nothing waited in either lane
+-- of a station, if nothing waited in either lane
 pub none-waits : (s : Side) (mid new : WorldState) → new ≡ mid → Steps (event.Deliver s Directives) did.Nothing mid mid → Steps (event.Deliver s Data) did.Nothing new new → (l : Lane) →
     NoneWaits s l new
 none-waits s mid new is directives file_data Directives = subst (λ (w : WorldState). NoneWaits s Directives w) (sym is) directives.0
 none-waits s mid new is directives file_data Data = file_data.0
 
--- a flush leaves an entity as it was, also one of which nothing is due
+-- a flush leaves an entity as it was, also one at which nothing is due
 pub flushed-rests : (moved : Bool) (s : Side) (old new : WorldState) → (moved ≡ true → Flushes did.Applied s old new) → (moved ≡ false → Flushes did.Nothing s old new) → turn (entity_at s old)
     ≡ Rests → turn (entity_at s new) ≡ Rests
 flushed-rests true s old new applied idle h = subst (λ (e : EntityState). turn e ≡ Rests) (sym (ap (λ x. x.state) (applied refl).0.entity)) h

@@ -110,7 +110,7 @@ closed-receiver receiving.Receiving is = absurd cc
 closed-receiver receiving.Finishing is = absurd cc
 closed-receiver receiving.Closed is = refl
 
--- ---- what was told
+-- ---- what was indicated
 tells-is : (id : TransactionId) (i : Indication) → tells_complete id i ≡ true → i ≡ indication.Finished id no_error Complete Retained
 tells-is id (indication.Finished of condition delivery status) is =
     let parts = and-parts (same_id id of) (is_complete condition delivery status) is in
@@ -175,7 +175,7 @@ module _ (w : WorldState) (sound : IsSound w) where
   side-is One source own = ap (λ b. if b then One else Two) (eq-eqb source w.one.entity.state.config.entity own)
   side-is Two source own = ap (λ b. if b then One else Two) (ne_eqb source w.one.entity.state.config.entity (λ e. apart Two (sym own ∙ e)))
 
-  -- a put whose sender and receiver are closed, where both users were told that it is complete
+  -- a put whose sender and receiver are closed, if it was indicated complete to both users
   module _ (s : Side) (p : AcceptedPut) (put : Put) (id : put.id ≡ p.id) (made : put.id.source ≡ (entity_at s w).config.entity) (x : SenderState) (o : Option ReceiverState)
       (is_sender : record_of put.id (entity_at s w).table.records ≡ Some (Sends x)) (is_receiver : IsReceiverIn (record_of put.id (entity_at (other s) w).table.records) o)
       (closed : x.phase ≡ sending.Closed) (closed_there : maybe is_closed o ≡ true) (tells : one_tells (tells_complete put.id) (entity_at s w).table.told ≡ true)

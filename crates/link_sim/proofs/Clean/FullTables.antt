@@ -1,4 +1,4 @@
--- Where PDUs are dropped for want of room, the table of their entity is full.
+-- If PDUs are dropped for lack of room, the table of their entity is full.
 use Rattle.std.proofs.Common.{◌≡◌, ◌≢◌, ℕ, ◌+◌, ◌≤◌, ◌==◌, ◌++◌, List, [], ◌∷◌, length, get_or, Option, inl, inr, refl, sym, ap, subst, ◌∙◌, arith, length-append}
 use Rattle.std.proofs.lemmas.Bool.{cases_Bool, eqb-true, eqb-false}
 use Rattle.std.proofs.lemmas.List.{get_or-set_other}
@@ -50,7 +50,7 @@ use Rattle.link_sim.proofs.Lanes.Swapping.{SwapsPdus, swapped-known, swapped-non
 use Rattle.link_sim.proofs.OnWay.World.{HearsOnWay, delivers-on-way}
 
 -- ---- one PDU
--- No record went, and where a count of those that found no room differs, the table is full.
+-- No record went, and if a count of those that found no room differs, the table is full.
 pub record GrowsFull (old new : EntityState) : Type 0 where
   pub grows : length old.table.records ≤ length new.table.records
   pub full : get_or new.drops 15 0 ≢ get_or old.drops 15 0 → most_records ≤ length new.table.records
@@ -71,7 +71,7 @@ fills-both a b c one two = record {
   ];
 }
 
--- where no drop was counted
+-- if no drop was counted
 fills-same : (old new : EntityState) → length old.table.records ≤ length new.table.records → new.drops ≡ old.drops → GrowsFull old new
 fills-same old new grows same = record { grows = grows; full = λ differs. absurd (differs (ap (λ l. get_or l 15 0) same)) }
 

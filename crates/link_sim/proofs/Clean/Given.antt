@@ -1,4 +1,4 @@
--- What entities serve and hear in turn, where nothing goes wrong.
+-- What entities serve and hear in turn, if nothing goes wrong.
 use Rattle.std.proofs.Common.{◌≡◌, ℕ, suc, ◌-◌, ◌^◌, ◌<◌, ◌≤◌, List, [], ◌∷◌, ◌++◌, length, slice_get, Option, Some, None, inl, inr, refl, sym, ap, subst, ◌∙◌, arith}
 use Rattle.std.specs.Prelude.{Contains}
 use Rattle.cfdp_header.specs.declared.value.TransactionId.{TransactionId}

@@ -1,5 +1,5 @@
--- What an entity makes of the PDUs that it hears, where nothing goes wrong: it tells nothing bad, gives up
--- nothing, and drops nothing but for want of room.
+-- What an entity makes of the PDUs that it hears, if nothing goes wrong: it indicates nothing bad,
+-- gives up nothing, and drops nothing except for lack of room.
 use Rattle.std.proofs.Common.{◌≡◌, ◌≢◌, ℕ, zero, suc, ◌-◌, ◌^◌, ◌<◌, ◌≤◌, Bool, true, false, List, [], ◌∷◌, ◌++◌, length, get_or, slice_get, take, Option, Some, None, ◌⊎◌, inl, inr, refl, sym, ap, subst, ◌∙◌, arith}
 use Rattle.std.specs.List.{list_any}
 use Rattle.std.specs.FinMap as map
@@ -94,7 +94,7 @@ pub kept-at : (xs : List Entry) (place : ℕ) (e : Entry) → list_any is_cancel
 kept-at xs place e none at = kept-seen e.1 e.0 (any-at is_cancelling xs place e none at)
 
 -- ---- one step of one record
--- It told nothing bad, and isn't given up.
+-- It indicated nothing bad, and isn't given up.
 pub record StaysClean (a : After) : Type 0 where
   pub told : list_any is_bad a.told ≡ false
   pub kept : IsKept a.seen

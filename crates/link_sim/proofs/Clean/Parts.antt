@@ -1,4 +1,4 @@
--- The parts of a settling, one behind the other.
+-- The parts of a settling, one after the other.
 use Rattle.std.proofs.Common.{◌≡◌, ◌||◌, Bool, true, false, Result, Ok, Err, refl, sym, subst, inr}
 use Rattle.link_sim.specs.Observed.{seen}
 use Rattle.link_sim.specs.Parts.{SettlesPart}
@@ -22,7 +22,7 @@ part-both from mid upto a b x y z one two =
       cause = tt;
     }
 
--- where anything happened before, and where nothing did
+-- if anything happened before, and if nothing did
 pub part-then : (from mid upto : Event) (r a b : Bool) (x y z : WorldState) → r ≡ true → a ≡ true → SettlesPart from mid (Ok a) x y → SettlesPart mid upto (Ok b) y z → SettlesPart from upto (Ok r) x z
 part-then from mid upto r a b x y z so is one two =
     subst (λ d. SettlesPart from upto (Ok d) x z) (sym so) (part-both from mid upto true b x y z (subst (λ d. SettlesPart from mid (Ok d) x y) is one) two)
@@ -42,7 +42,7 @@ none-true false true c e f g = absurd cc
 none-true false false true e f g = absurd cc
 none-true false false false e f g = refl
 
--- the first part failed, and one behind others
+-- the first part failed, and one after others
 pub first-fails : (from mid upto : Event) (error : SettleError) (x y : WorldState) → SettlesPart from mid (Err error) x y → SettlesPart from upto (Err error) x y
 first-fails from mid upto error x y one = record { work = record { leads = one.work.leads; less = tt }; same = tt; well = tt; cause = one.cause }
 

@@ -160,7 +160,7 @@ course-from Two w k = record {
       k.puts_of_one;
 }
 
--- a put and the PDUs of its station, where its world is clean
+-- a put and the PDUs of its station, if its world is clean
 pub on-course : (s : Side) (w : WorldState) (forth back : List Pdu) → IsClean w → StayOnCourse s w forth back → (put : Put) → put_of (seen w) put.id ≡ Some put → put.id.source
     ≡ (entity_at s w).config.entity →
     IsOnCourse true put (entity_at s w) (entity_at (other s) w) forth back

@@ -47,8 +47,8 @@ use Rattle.link_sim.proofs.Lanes.Swapping.{SwapsPdus, swapped-all, swapped-known
 use Rattle.link_sim.proofs.OnWay.World.{HearsOnWay, delivers-on-way}
 use Rattle.link_sim.proofs.Found.Puts.{puts-by-id}
 
--- Nothing was short at this station: the counts that tell of it are as they were, and those of the stores would
--- show it.
+-- Nothing was short at this station: the counts that show it are as they were, and those of the
+-- stores would show it.
 pub record IsSparedAt (s : Side) (old new : WorldState) : Type 0 where
   pub link_memory : drop_count (station_at s new).up 11 ≡ drop_count (station_at s old).up 11
   pub memory : get_or (entity_at s new).drops 16 0 ≡ get_or (entity_at s old).drops 16 0
@@ -58,7 +58,7 @@ pub record IsSparedAt (s : Side) (old new : WorldState) : Type 0 where
   pub inbox : (station_at s new).entity.inbox_failures ≡ (station_at s old).entity.inbox_failures
   pub inbox_low : (station_at s new).entity.inbox_failures < 2 ^ 64 - 1
 
--- so it is where no count of either station says so
+-- so it is if no count of either station says so
 pub spared-at : (old new : WorldState) → KeepsAll (all_shortages old) (all_shortages new) → (s : Side) → IsSparedAt s old new
 spared-at old new k One = record {
   link_memory = k.memory.0.0.0;
@@ -90,7 +90,7 @@ pub record CleanLaws : Type 0 where
 table-of : (e : EntityState) → IsCleanEntity e → IsCleanTable e.table
 table-of e c = record { told = c.told; kept = c.uncancelled }
 
--- drops stay none, where none of want of room is counted
+-- drops stay none, if none for lack of room is counted
 none-more : (old new : EntityState) → IsCleanEntity old → HearsClean old new → get_or new.drops 16 0 ≡ get_or old.drops 16 0 → get_or new.drops 15 0 ≡ get_or old.drops 15 0 → IsCleanEntity new
 none-more old new c h memory full = record { told = h.table.told; uncancelled = h.table.kept; heard = each }
   where
@@ -103,7 +103,7 @@ none-more old new c h memory full = record { told = h.table.told; uncancelled = 
       ]
     ]
 
--- a side of which nothing changed
+-- a side at which nothing changed
 pub clean-same : (t : Side) (old new : WorldState) → station_at t new ≡ station_at t old → link_from t new ≡ link_from t old → IsCleanAt t old → IsCleanAt t new
 clean-same t old new station link c = record {
   entity = subst (λ (x : StationState). IsCleanEntity x.entity.state) (sym station) c.entity;
@@ -181,7 +181,7 @@ module _ (laws : CleanLaws) (s : Side) (l : Lane) (old new : WorldState) (sound 
   given-is : h.given ≡ on.gone
   given-is = on.all marks-now none_read
 
-  -- those of the lane whose frame came stand in front
+  -- those of the lane whose frame came stand first
   swaps : SwapsPdus (h.given ++ on_way_from s new) c.forth
   swaps = swapped-spelled (on_way_from s old) (h.given ++ on_way_from s new) c.forth
       (subst (λ (ps : List (List ℕ)). IsSwapped (on_way_from s old) (ps ++ on_way_from s new)) (sym given-is) on.takes.forth) c.spelled

@@ -1,4 +1,4 @@
--- What is indicated where nothing goes wrong: nothing bad.
+-- What is indicated if nothing goes wrong: nothing bad.
 use Rattle.std.proofs.Common.{◌≡◌, ◌≢◌, ℕ, ◌+◌, length, Bool, true, false, ◌||◌, ◌&&◌, ◌==◌, nat_lt, min, List, [], ◌∷◌, Option, Some, None, refl, sym, ap, subst, ◌∙◌, if◌then◌else◌, is_some, is_none}
 use Rattle.std.specs.List.{list_any}
 use Rattle.std.specs.FinSet as set
@@ -32,8 +32,8 @@ use Rattle.cfdp_entity.specs.Steps.{sender_after}
 use Rattle.link_sim.specs.Clean.{is_bad}
 use Rattle.link_sim.specs.Exchange.{IsTrueForth, IsTrueBack}
 
--- ---- a receiver: no fault of the file is told, and the inbox did as it was told
--- so nothing bad is told
+-- ---- a receiver: no fault of the file is indicated, and the inbox did as it was asked
+-- so nothing bad is indicated
 abbrev Well : ReceiverAfter → Type 0
 Well a = list_any is_file_fault a.told ≡ false → list_any is_bad a.told ≡ false
 
@@ -105,12 +105,12 @@ module _ (m : OctetMap) (files : FileMap) (r : ReceiverState) where
   content-well large put (Nak start end pairs) true_ = λ none. absurd true_
   content-well large put (KeepAlive progress) true_ = λ none. absurd true_
 
--- what is heard of a transaction that goes well tells nothing bad
+-- what is heard of a transaction that goes well indicates nothing bad
 pub hears-well : (m : OctetMap) (files : FileMap) (r : ReceiverState) (large : Bool) (put : Put) (v : Content) → IsTrueForth put v → Well (receiver_hears Done large v m files r)
 hears-well m files r large put v true_ = content-well m files (flagged large r) large put v true_
 
 -- ---- a sender that isn't cancelled
--- it told nothing bad, and isn't cancelled now
+-- it indicated nothing bad, and isn't cancelled now
 pub record GoesWell (a : SenderAfter) : Type 0 where
   pub told : list_any is_bad a.told ≡ false
   pub uncancelled : a.sender.phase ≢ sending.Cancelling
@@ -171,7 +171,7 @@ hears-one a b e = cc
 closed-not : sending.Closed ≡ sending.Cancelling → ⊥
 closed-not e = cc
 
--- what comes back of a transaction that goes well tells nothing bad
+-- what comes back of a transaction that goes well indicates nothing bad
 pub hears-back-well : (v : Content) (x : SenderState) (a : SenderAfter) → IsTrueBack v → sender_after v x ≡ Some a → x.phase ≢ sending.Cancelling → GoesWell a
 hears-back-well (Finished condition delivery status tlvs) x a true_ e not_ =
     subst GoesWell (hears-one (sender_hears_finished (record { condition = condition; delivery = delivery; status = status }) x) a e) (record {

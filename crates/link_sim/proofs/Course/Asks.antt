@@ -1,5 +1,5 @@
--- What a NAK asks for, what a sender owes that hears it, and that a receiver goes on asking for what
--- it misses: an EOF, and an expiry of Nak, make it ask for all.
+-- What a NAK asks for, what a sender must do that hears it, and that a receiver goes on asking for
+-- what it misses: an EOF, and an expiry of Nak, make it ask for all.
 use Rattle.std.proofs.Common.{◌≡◌, ◌⊎◌, inl, inr, ℕ, zero, suc, ◌+◌, ◌-◌, ◌<◌, ◌≤◌, min, Bool, true, false, not, ◌==◌, ◌&&◌, nat_lt, nat_le, List, [], ◌∷◌, ◌++◌, length, take, Option, Some, None, is_none, is_some, refl, sym, ap, subst, ◌∙◌, arith, if◌then◌else◌}
 use Rattle.std.specs.Prelude.{IfSome}
 use Rattle.std.specs.List.{list_any}
@@ -36,7 +36,7 @@ use Rattle.link_sim.specs.Course.{AsksFirst, AsksFrom, owes_metadata, owes_octet
 use Rattle.link_sim.specs.Exchange.{is_eof, names, names_metadata, IsTrueForth, once_ended, has_ended}
 use Rattle.link_sim.proofs.Course.Debts.{OwesMetadata, OwesOctet, StillAsks}
 
--- ---- where a NAK ends
+-- ---- the end of a NAK
 joined-here : (at : ℕ) (rs : List (ℕ × ℕ)) (k : ℕ) → k ≡ at → AreApart rs → InRanges (joined at rs) k
 joined-here at [] k e a = inl (omega arith, omega arith)
 joined-here at (r ∷ rs) k e a =
@@ -76,7 +76,7 @@ gap-in : (held : Offsets) (at limit k : ℕ) → at ≤ k → k < limit → set.
 unfolding gaps_of
 gap-in held at limit k low below isnt = passes-in (λ n. not (set.contains held n)) at (limit - at) k low (omega arith) (not_from_false (set.contains held k) isnt)
 
--- what is in ranges is in the first of them, or behind where these end
+-- what is in ranges is in the first of them, or after their end
 abbrev StartsFrom : ℕ → List (ℕ × ℕ) → Type 0
 StartsFrom e [] = Unit {0}
 StartsFrom e (r ∷ rs) = e ≤ r.0
@@ -108,7 +108,7 @@ starts-low : (rs : List (ℕ × ℕ)) → StartsFrom 0 rs
 starts-low [] = tt
 starts-low (r ∷ rs) = omega arith
 
--- a NAK asks for k, or goes on from an offset that isn't behind it
+-- a NAK asks for k, or goes on from an offset that isn't after it
 record GoesOnBy (k : ℕ) (next : Option ℕ) : Type 0 where
   pub cursor : ℕ
   pub is_next : next ≡ Some cursor
@@ -178,7 +178,7 @@ nak-sends-owed k r at is low below = elim (cases_Bool (set.contains r.held k)) [
   ]
 ]
 
--- it asks for Metadata where its cursor is 0
+-- it asks for Metadata if its cursor is 0
 pub nak-sends-metadata : (r : ReceiverState) (at : ℕ) → AsksFirst r → r.nak_cursor ≡ Some at → (names_metadata (receiver_says r (due.Nak at)) ≡ true) ⊎ OwesMetadata (receiver_taken (due.Nak at) r)
 nak-sends-metadata r at a is = from at (some_is 0 at (sym a.cursor ∙ is))
   where
@@ -301,7 +301,7 @@ pub all-octets : (n k : ℕ) (r : ReceiverState) → k < n → OwesAll n r → O
 all-octets n k r below (inl ended) = inl (ended-knows r.phase (set.contains r.held k) ended)
 all-octets n k r below (inr a) = tidied-owes k r (inr (record { phase = a.phase; cursor = 0; is_cursor = a.cursor; low = omega arith; below = (let l : n ≤ scope_limit r = a.limit in omega arith) }))
 
--- where the EOF is known, the scope of a NAK is the whole file
+-- if the EOF is known, the scope of a NAK is the whole file
 pub limit-is : (put : Put) (ending : Option Ending) (held : Offsets) → is_none ending ≡ false → IfSome ending (λ e. e.size ≡ length put.octets) → length put.octets ≤ limit_by ending held
 limit-is put (Some ending) held some e = let s : ending.size ≡ length put.octets = e in omega arith
 limit-is put None held some e = absurd (true≢false some)

@@ -278,7 +278,7 @@ module _ (put : Put) where
     ]
   ]
 
-  -- ---- what else it does; an EOF that is due again stays so, where no ACK can have come
+  -- ---- what else it does; an EOF that is due again stays so, if no ACK can have come
   pub stays-file : (x x1 : SenderState) (o : Option ReceiverState) (forth back : List Content) → Stays x x1 → (EofAgain x o back → x1.eof_due ≡ true) → FileComes put x o forth back →
       FileComes put x1 o forth back
   stays-file x x1 o forth back s again c = record {

@@ -1,4 +1,4 @@
--- What a receiver sends, and what else happens to it but a PDU, keeps a put on its course.
+-- What a receiver sends, and all that happens to it except a PDU, keeps a put on its course.
 use Rattle.std.proofs.Common.{◌≡◌, ◌⊎◌, inl, inr, ℕ, ◌<◌, ◌≤◌, ◌==◌, ◌&&◌, ◌||◌, not, Bool, true, false, List, [], ◌∷◌, ◌++◌, length, Option, Some, None, refl, sym, ap, subst, ◌∙◌, arith}
 use Rattle.std.proofs.lemmas.List.{append-nil}
 use Rattle.std.specs.Cmp.{nat_cmp_total}
@@ -200,7 +200,8 @@ module _ (put : Put) (awake acks files ends : Bool) (x : SenderState) (r : Recei
   abbrev Now : ReceiverAfter → Type 0
   Now a = TellsWell put awake a.told → CourseOf a.receiver back (told_with put c a.told)
 
-  -- what may change then, but for what is asked for: it is suspended or resumed, a Finished is due, or counts begin anew
+  -- what may change then, except for what is asked for: it is suspended or resumed, a Finished is
+  -- due, or counts begin again
   quietly : (suspended : Bool) (cursor : Option ℕ) (is_due : Bool) (naks finisheds : ℕ) (told : List Indication) → (awake ≡ true → suspended ≡ false) → (r.finished_due ≡ true → is_due ≡ true)
       → is_tidy (changed r suspended r.ack_due cursor r.keep_alive_due is_due r.finished_taken naks finisheds) ≡ true
       → (AsksFirst r → OwesMetadata (changed r suspended r.ack_due cursor r.keep_alive_due is_due r.finished_taken naks finisheds))
@@ -245,7 +246,7 @@ module _ (put : Put) (awake acks files ends : Bool) (x : SenderState) (r : Recei
 
   -- ---- a timer expires
   module _ (m : OctetMap) (published : FileMap) where
-    -- that it is suspended is told of nothing that stays awake
+    -- that it is suspended is indicated of nothing that stays awake
     paused : TellsWell put awake (indication.Fault r.addressing.id inactivity ∷ indication.Suspended r.addressing.id inactivity ∷ []) → awake ≡ true → true ≡ false
     paused w f =
         let none : (same_id put.id r.addressing.id || false) ≡ false = w.unpaused f in

@@ -1,4 +1,4 @@
--- What is true of a put stays so where a PDU is lost; and what its debts come to once nothing is due
+-- What is true of a put stays so if a PDU is lost; and what its debts come to once nothing is due
 -- and nothing is on its way: it is complete.
 use Rattle.std.proofs.Common.{◌≡◌, inl, inr, ℕ, ◌+◌, ◌<◌, ◌≤◌, min, Bool, true, false, not, List, [], ◌∷◌, ◌++◌, length, Option, Some, None, is_some, refl, sym, ap, subst, ◌∙◌, arith, ◌||◌, nat_lt, nat_le, if◌then◌else◌}
 use Rattle.std.specs.Prelude.{IfSome}
@@ -263,7 +263,8 @@ module _ (put : Put) (x : SenderState) (o : Option ReceiverState) (b c : Bool) (
               ]
           phase-from Closed phase = ap is_closed_in phase
 
--- with all debts, nothing due and nothing on its way, both are closed and told that it is complete
+-- with all debts, nothing due and nothing on its way, both are closed, and both indicated that it
+-- is complete
 pub completes : (put : Put) (x : SenderState) (o : Option ReceiverState) (b c : Bool) → IsSenderOf put x → IsInFile x → IsCourse put true true true true x o [] [] b c → sender_due x ≡ None →
     NothingDue o
     → (x.phase ≡ sending.Closed) × ((maybe is_closed o ≡ true) × ((b ≡ true) × (c ≡ true)))

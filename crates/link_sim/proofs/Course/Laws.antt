@@ -31,7 +31,7 @@ use Rattle.link_sim.specs.Exchange.{is_closed, maybe, tells_complete, pauses}
 use Rattle.link_sim.specs.Waiting.{spoils, one_tells}
 use Rattle.link_sim.specs.Work.{opening_work}
 
--- These indications spoil nothing, and where it is to stay awake none says that it was suspended.
+-- These indications spoil nothing, and if it must stay awake none says that it was suspended.
 pub record TellsWell (put : Put) (awake : Bool) (told : List Indication) : Type 0 where
   pub good : one_tells (spoils put.id) told ≡ false
   pub unpaused : awake ≡ true → one_tells (pauses put.id) told ≡ false
@@ -41,7 +41,7 @@ abbrev pub NothingDue : Option ReceiverState → Type 0
 NothingDue (Some r) = receiver_due r ≡ None
 NothingDue None = Unit {0}
 
--- whether this was told, with what was told before
+-- whether this was indicated, with what was indicated before
 abbrev pub told_with : Put → Bool → List Indication → Bool
 told_with put before told = before || one_tells (tells_complete put.id) told
 
@@ -75,7 +75,7 @@ pub record CourseLaws : Type 0 where
       (published : FileMap) (addressing : Addressing) → addressing.id ≡ put.id → x.size ≡ length put.octets → opening_work v ≢ 0 →
       let a = opens_hearing begun stored large v published addressing in IsCourse put awake acks files ends x None (before ++ v ∷ after) back b c → TellsWell put awake a.told →
       IsCourse put awake acks files ends x (Some a.receiver) (before ++ after) back b (told_with put c a.told)
-  -- a PDU that opens no record is lost where there is none, and that does no harm
+  -- a PDU that opens no record is lost if there is none, and that does no harm
   pub none_hears : (put : Put) (awake acks files ends : Bool) (x : SenderState) (before after back : List Content) (v : Content) (b c : Bool) → opening_work v ≡ 0 →
       IsCourse put awake acks files ends x None (before ++ v ∷ after) back b c → IsCourse put awake acks files ends x None (before ++ after) back b c
   pub receiver_expires : (put : Put) (awake acks files ends : Bool) (x : SenderState) (r : ReceiverState) (forth back : List Content) (b c : Bool) (k : Kind) (policy : Policy) (m : OctetMap)

@@ -1,4 +1,4 @@
--- A put is on its course once it is made, and stays so where more is told.
+-- A put is on its course once it is made, and stays so if more is indicated.
 use Rattle.std.proofs.Common.{◌≡◌, inl, inr, ℕ, Bool, true, List, [], Option, None, refl}
 use Rattle.std.proofs.lemmas.Bool.{false≢true}
 use Rattle.cfdp_directives.specs.Pdu.Content.{Content}

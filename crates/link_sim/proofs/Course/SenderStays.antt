@@ -1,5 +1,5 @@
--- A put stays on its course where its sender keeps what it owes, and where a PDU is taken from
--- those on their way to it.
+-- A put stays on its course if its sender keeps what it must do, and if a PDU is taken from those
+-- on their way to it.
 use Rattle.std.proofs.Common.{◌≡◌, inl, inr, ℕ, ◌<◌, Bool, true, false, List, ◌∷◌, ◌++◌, length, Option, Some, None, is_some, refl}
 use Rattle.std.specs.FinSet as set
 use Rattle.std.proofs.lemmas.Bool.{false≢true, both_ways}
@@ -45,7 +45,7 @@ finished-file put x o forth back h = record {
 }
 
 -- ---- the course
--- a step that changes nothing of what is owed
+-- a step that changes nothing of what must still be sent
 pub itself-stays : (x : SenderState) → Stays x x
 itself-stays x = record { size = refl; sent = refl; phase = refl; eof = refl; ack = refl; metadata = λ h. h; octets = λ n h. h; acknowledged = λ h. h }
 

@@ -31,7 +31,7 @@ use Rattle.link_sim.proofs.Course.SenderStays.{stays-course, itself-stays}
 
 module _ (put : Put) (awake acks files ends : Bool) (x : SenderState) (o : Option ReceiverState) (forth back : List Content) (b c : Bool) (s : IsSenderOf put x)
     (k : IsCourse put awake acks files ends x o forth back b c) where
-  -- what a step comes to that tells nothing bad and doesn't cancel
+  -- what a step comes to that indicates nothing bad and doesn't cancel
   abbrev AfterIf : SenderAfter → Type 0
   AfterIf a = TellsWell put awake a.told → a.sender.phase ≢ Cancelling → IsCourse put awake acks files ends a.sender o forth back (told_with put b a.told) c
 

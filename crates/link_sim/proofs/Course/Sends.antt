@@ -85,7 +85,7 @@ module _ (put : Put) (x : SenderState) (o : Option ReceiverState) (forth back : 
     acks = λ h. absurd (false≢true h);
   }
 
-  -- the octets of a segment end where it does
+  -- the octets of a segment end at its own end
   ends-at : (start end : ℕ) → IsSegment x start end → start + length (take (end - start) (drop start put.octets)) ≡ end
   ends-at start end part =
       let some : start < end = part.some in

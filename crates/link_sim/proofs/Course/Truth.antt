@@ -1,5 +1,5 @@
--- What is true between a sender and a receiver of a put stays so where the receiver hears, sends or
--- is opened, and where a PDU is lost.
+-- What is true between a sender and a receiver of a put stays so if the receiver hears, sends or is
+-- opened, and if a PDU is lost.
 use Rattle.std.proofs.Common.{◌≡◌, ◌⊎◌, inl, inr, ℕ, ◌&&◌, ◌||◌, not, Bool, true, List, [], ◌∷◌, ◌++◌, Option, Some, None, is_some, refl}
 use Rattle.std.proofs.lemmas.Bool.{and_parts, and_from, or_cases, or_left, or_right}
 use Rattle.cfdp_directives.specs.declared.pdu.addressing.Addressing.{Addressing}
@@ -50,7 +50,7 @@ module _ (put : Put) where
   pub opened-true : (addressing : Addressing) → IsReceiverTrue put (opened_receiver addressing)
   opened-true addressing = record { ending = λ _. tt; lacking = refl; tidy = refl; well = refl; owes = refl }
 
-  -- where there is no receiver, it is as if one had just been opened
+  -- if there is no receiver, it is as if one had just been opened
   pub as-opened : (addressing : Addressing) (x : SenderState) (forth back : List Content) (b c : Bool) → IsTrueBetween put x None forth back b c →
       IsTrueBetween put x (Some (opened_receiver addressing)) forth back b c
   as-opened addressing x forth back b c t = record {

@@ -105,14 +105,14 @@ pub filled_all : (d e f : LinkSenderState) (k m n : FrameLinkState) (u : LinkRec
     IsCarried f n u × SendsMore (one_way d k u) (one_way f n u) (flush_of (packing d)) []
 filled_all d e f k m n u is room sent p = filled_on d e f k m n u is room sent p.way p.fixed p.marks (omega (arith, p.none_whole, ap (λ x. x.zone) p.fixed.0))
 
--- where no whole zone waited in a lane, and nothing was sent in it, it stays
+-- if no whole zone waited in a lane, and nothing was sent in it, it stays
 pub stays_all : (d e f : LinkSenderState) (k m n : FrameLinkState) → e ≡ d → IsNotWhole d → IsSameLink k m → PullsAll e f m n → (f ≡ d) × IsSameLink k n
 stays_all d e f k m n same less room p = elim p.made [
   | inl s ↦ (s.0 ∙ same, subst (λ (x : FrameLinkState). IsSameLink k x) (sym s.1) room)
   | inr w ↦ absurd (omega (arith, w.0, less, ap (λ (x : LinkSenderState). x.link.zone) same, ap (λ (x : LinkSenderState). length x.waiting) same))
 ]
 
--- where a flush made no frame, it added nothing
+-- if a flush made no frame, it added nothing
 pub none_filled : (d e f : LinkSenderState) (k m n : FrameLinkState) → IsSameLink k m → Flushes d e → PullsAll e f m n → length n.frames ≤ length m.frames →
     (flush_of (packing d) ≡ []) × (f ≡ d) × IsSameLink k n
 none_filled d e f k m n room sent p few =

@@ -35,7 +35,7 @@ use Rattle.link_sim.proofs.Ways.Sending.{last_of_link, last_whole, sealed-same}
 use Rattle.link_sim.proofs.Ways.Sends.{one_at_most}
 
 -- ---- all whole zones become frames
--- behind its two headers a frame has its zone
+-- after its two headers a frame has its zone
 behind_headers : (link : ChannelConfig) (ps : List (List ℕ)) (n : ℕ) → drop 8 (frame_of link ps n) ≡ zone link.zone (n * link.zone) (stream ps)
 behind_headers link ps n =
     let h : FrameHeader = record { spacecraft = link.spacecraft; virtual_channel = link.virtual_channel; count = n % frame_counts; cycle = true } in
@@ -131,7 +131,7 @@ pulled_all (suc fuel) d k least few = elim (cases_lt (length d.waiting) d.link.z
   | inr c ↦ pulled_further d k c (pulled_all fuel (next_down d k) (next_link d k) least (omega (arith, length-drop d.link.zone d.waiting, least, few, c)))
 ]
 
--- ---- an end that lags behind
+-- ---- an end that lags
 -- Of the stream of an end `d` of a world, whose frames left, `l` has made only so many.
 pub record IsBehind (l d : LinkSenderState) (k : FrameLinkState) (u : LinkReceiverState) (sent : ℕ) : Type 0 where
   pub carried : IsCarried d k u
@@ -144,7 +144,7 @@ pub record IsBehind (l d : LinkSenderState) (k : FrameLinkState) (u : LinkReceiv
 is_itself : (d : LinkSenderState) (k : FrameLinkState) (u : LinkReceiverState) → IsCarried d k u → IsBehind d d k u (length k.frames)
 is_itself d k u is = record { carried = is; made = is.way.sent.made; link = refl; capacity = refl; flushed = refl; control = refl }
 
--- what waits of the same stream, where some of its zones are taken
+-- what waits of the same stream, if some of its zones are taken
 waits_more : (p : PackerState) (ps : List (List ℕ)) (taken : ℕ) → IsAt p ps taken → length (stream ps) ≡ taken * p.size + length p.waiting
 waits_more p ps taken at = omega (arith, ap length at.rest, length-drop (taken * p.size) (stream ps), at.below)
 
@@ -183,7 +183,7 @@ module _ (l d : LinkSenderState) (k : FrameLinkState) (u : LinkReceiverState) (s
       let all : length l.waiting + n ≡ j * d.link.zone + (length d.waiting + n) = omega (arith, by_l, by_d, split, ap (λ x. x * d.link.zone) sum) in
       ap (λ z. (length l.waiting + n) % z) (sym same_zone) ∙ ap (λ m. m % d.link.zone) all ∙ mul-add-mod_self_right j d.link.zone (length d.waiting + n)
 
-  -- ---- a frame of the one behind leaves
+  -- ---- a frame of the lagging one leaves
   pub frame_leaves : (now : LinkSenderState) (frame : List ℕ) → MakesFrame frame l now →
       IsBehind now d k u (sent + 1) × (sent < length k.frames) × (frame ≡ get_or k.frames sent [])
   frame_leaves now frame made =
@@ -251,7 +251,7 @@ all_of_link : (link : ChannelConfig) (ps : List (List ℕ)) (q : List ℕ) → A
 all_of_link link [] q all is = (is, tt)
 all_of_link link (p ∷ ps) q all is = (all.0, all_of_link link ps q all.1 is)
 
--- an end with one packet more behind, and what comes of its streams
+-- an end with one packet more, and what comes of its streams
 abbrev given : LinkSenderState → List ℕ → Bool → LinkSenderState
 given d q flushed = record d { waiting = d.waiting ++ q; flushed = flushed }
 
@@ -277,7 +277,7 @@ module _ (l l_now d : LinkSenderState) (k : FrameLinkState) (u : LinkReceiverSta
   abbrev before : List (List ℕ)
   before = packets_sent (one_way d k u)
 
-  -- a packet that the one behind was given can be given to the other
+  -- a packet that the lagging one was given can be given to the other
   its_packet : (q : List ℕ) → IsDown l_now (before ++ q ∷ []) sent → l_now.link ≡ l.link → IsPacket q × ((is_idle q ≡ true) ⊎ (packet_drop d.link q ≡ None))
   its_packet q down link = (
     last_whole before q down.packed.packets_whole,
@@ -417,7 +417,7 @@ stays l l_now d k u sent packets is same none = record {
   grows = sym (append-nil k.frames);
 }
 
--- What a flush does to a lane, also where it adds nothing.
+-- What a flush does to a lane, also if it adds nothing.
 pub record Flushed (l l_now d : LinkSenderState) (k : FrameLinkState) (u : LinkReceiverState) (sent : ℕ) : Type 0 where
   pub goes : GoesDown l_now d k u sent (flush_of (packing d)) []
   pub most : length (flush_of (packing d)) ≤ 1

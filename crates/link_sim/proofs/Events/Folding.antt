@@ -73,7 +73,7 @@ leads-both a b c one two = record {
   holds = λ h. two.holds (one.holds h);
 }
 
--- where the promises hold, what leads on upholds them; and what upholds them leads on
+-- if the promises hold, what leads on upholds them; and what upholds them leads on
 pub leads-upholds : (a b : WorldState) → ((s : Side) → HoldsAt s (seen a)) → LeadsTo (seen a) (seen b) → Upholds a b
 leads-upholds a b h leads = record { follows = leads.follows h; holds = leads.holds h }
 

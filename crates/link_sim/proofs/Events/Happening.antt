@@ -7,7 +7,7 @@ use Rattle.link_sim.specs.declared.event.Event.{Event}
 use Rattle.link_sim.specs.declared.event.Applied.{Applied}
 use Rattle.link_sim.proofs.Events.Leading.{many-both, many-none, many-one}
 
--- one more event, behind the others
+-- one more event, after the others
 steps-more : (events : List Event) (did : List Applied) (e : Event) (d : Applied) (old mid new : WorldState) → AreSteps events did old mid → Steps e d mid new →
     AreSteps (events ++ e ∷ []) (did ++ d ∷ []) old new
 steps-more [] [] e d old mid new before step = (new, subst (λ w. Steps e d w new) before step, refl)

@@ -98,7 +98,7 @@ in-either (z ∷ xs) ys x (suc k, low, e) = behind z xs ys x (in-either xs ys x 
     behind z xs ys x (inl c) = inl (suc c.0, (let n = c.0 in let h : n < length xs = c.1 in omega arith), c.2)
     behind z xs ys x (inr c) = inr c
 
--- The law of parts, and what an entity keeps where more is put and heard, in whatever order.
+-- The law of parts, and what an entity keeps if more is put and heard, in whatever order.
 pub record Grounds : Type 0 where
   pub in_whole : (whole part : List (List ℕ)) (x : List ℕ) → IsPartOf part whole → Contains part x → Contains whole x
   pub more : (p q : TransactionId → Option Put) (heard more : List (List ℕ)) (first : FileMap) (e : EntityState) → FindsMore p q → IsSoundEntity p heard first e →
@@ -168,7 +168,7 @@ module _ (grounds : Grounds) where
     pub comes-true : (t : Side) (x : List ℕ) → Contains (moves t).more x → ComesTrue (entity_at t old).config.peer (put_of (seen new)) (delivered_from (other t) old ++ (moves t).more) x
     comes-true t x c = heard-true t x (Contains-append_right (delivered_from (other t) old) (moves t).more x c)
 
-    -- the entity of a side, where more was put and heard but nothing was done
+    -- the entity of a side, if more was put and heard but nothing was done
     pub entity-then : (t : Side) → IsSoundEntity (put_of (seen new)) (delivered_from (other t) old ++ (moves t).more) (sound t).first (entity_at t old)
     entity-then t = grounds.more (put_of (seen old)) (put_of (seen new)) (delivered_from (other t) old) (moves t).more (sound t).first (entity_at t old) puts.finds (sound t).entity
 

@@ -47,7 +47,8 @@ many-keeps Step P each (suc n) a b p t = each t.0 b (many-keeps Step P each n a 
 abbrev pub GoesBy : (Event → Type 0) → (old new : WorldState) → Type 0
 GoesBy Is old new = ((e : Event) × (d : Applied) × (Is e × Steps e d old new)) ⊎ ((s : Side) × FindsNoMemory s old new)
 
--- Of a kind to which polls, flushes, deliveries and ticks belong, each call but that of an event is a row.
+-- Of a kind that polls, flushes, deliveries and ticks belong to, each call except of an event is a
+-- row.
 module _ (Is : Event → Type 0) (settles : (e : Event) → IsOfSettling e → Is e) (ticks : (s : Side) (now : ℕ) → Is (event.Tick s now)) where
   abbrev Row : (old new : WorldState) → Type 0
   Row old new = Many (GoesBy Is) old new

@@ -96,14 +96,14 @@ goes-both first second third g h = record {
 pub none-in : {X : Type 0} (x : X) → Contains [] x → ⊥
 none-in x c = let k = c.0 in let low : k < 0 = c.1 in omega arith
 
--- nothing came behind it
+-- nothing came after it
 none-behind : (xs ys : List (List ℕ)) → ys ≡ xs → IsSwapped (xs ++ []) ys
 none-behind xs ys e = swapped-same (xs ++ []) ys (e ∙ sym (append-nil xs))
 
 ways-kept : (t : Side) (old new : WorldState) → AreWays t old → ((l : Lane) → way_from t l new ≡ way_from t l old) → AreWays t new
 ways-kept t old new is same l = subst IsOneWay (sym (same l)) (is l)
 
--- a side of which only the entity moved
+-- a side whose entity alone moved
 quiet : (t u : Side) (old new : WorldState) → AreWays t old → ((l : Lane) → way_from t l new ≡ way_from t l old) → ((l : Lane) → way_from u l new ≡ way_from u l old) →
     GoesOn (entity_at t old) (entity_at t new) →
     ((heard : List (List ℕ)) (first : FileMap) → IsSoundEntity (put_of (seen new)) heard first (entity_at t old) → IsSoundEntity (put_of (seen new)) heard first (entity_at t new)) →
@@ -132,7 +132,7 @@ resting t u old new is sent delivered e = record {
   kept = λ heard first true_ k. subst (λ (x : EntityState). IsSoundEntity (put_of (seen new)) heard first x) (sym e) k;
 }
 
--- a side of which nothing moved
+-- a side at which nothing moved
 still : (t u : Side) (old new : WorldState) → AreWays t old → ((l : Lane) → way_from t l new ≡ way_from t l old) → ((l : Lane) → way_from u l new ≡ way_from u l old) → entity_at t new ≡ entity_at t old →
     SideMoves t u old new
 still t u old new is front back e = resting t u old new (ways-kept t old new is front) (sent-kept t old new front) (delivered-kept u old new back) e
@@ -313,7 +313,7 @@ module _ (laws : EntityLaws) (old new : WorldState) (sound : IsSound old) where
   pub failed-moves : (s : Side) → FailsSource s old new → Moves old new
   failed-moves s h = moves-kept old new sound (only-entity s old new sound h.links (served-goes s Refused h.served) (served-kept s Refused h.served)) h.counts.puts
 
-  -- the other side, where only what one side sent grew
+  -- the other side, if only what one side sent grew
   unheard : (s : Side) → KeepsMarks s old new → delivered_from s new ≡ delivered_from s old → SideMoves (other s) s old new
   unheard s k same =
       let back : (l : Lane) → way_from (other s) l new ≡ way_from (other s) l old = back-marks s old new k in

@@ -8,7 +8,7 @@ use Rattle.station_pair.specs.declared.side.Side.{Side}
 use Rattle.link_sim.specs.World.State.{WorldState}
 use Rattle.link_sim.specs.World.Steps.{FindsNoMemory, Stays, Steps, side_in}
 
--- where nothing changed, nothing but perhaps a count did
+-- if nothing changed, nothing but perhaps a count did
 pub stays-same : (s : Side) (old new : WorldState) → new ≡ old → Stays s old new
 stays-same s old new is = subst (Stays s old) (sym is) (record {
   entity = refl;

@@ -216,7 +216,7 @@ module _ (laws : EntityLaws) (grounds : Grounds) (stays : (old new : TableState)
         kept-losses P (LosesNone old) (LosesNone new) (entity_at s old) (entity_at (other s) old) (on_way_from s old) (on_way_from (other s) old) so
         (kept-same (put_of (seen old)) P (LosesNone old) (entity_at s old) (entity_at (other s) old) (on_way_from s old) (on_way_from (other s) old) same.0 same.1 (to-kept s old k))
 
-    -- where only the entity of one station moved
+    -- if only the entity of one station moved
     moved : (s : Side) → KeepsLinks s old new → Kept P (LosesNone new) (entity_at s new) (entity_at (other s) old) (on_way_from s old) (on_way_from (other s) old) → KeepCourse new
     moved s l k =
         from-kept s new (kept-as P (LosesNone new) (entity_at s new) (entity_at s new) (entity_at (other s) old) (entity_at (other s) new) (on_way_from s old) (on_way_from s new)

@@ -1,4 +1,4 @@
--- A put stays on its course where an entity goes on: by what becomes of its two records and of its
+-- A put stays on its course if an entity goes on: by what becomes of its two records and of its
 -- PDUs on their way.
 use Rattle.std.proofs.Common.{◌≡◌, ◌≢◌, ℕ, zero, suc, Bool, true, false, cond, List, [], ◌∷◌, Option, Some, None, refl, sym, ap, subst, ◌∙◌}
 use Rattle.std.specs.List.{IsDistinct}
@@ -28,7 +28,7 @@ use Rattle.link_sim.specs.Waiting.{IsUncancelled, spoils, one_tells}
 use Rattle.link_sim.proofs.Course.Laws.{CourseLaws, TellsWell, told_with}
 use Rattle.link_sim.proofs.EveryPut.Views.{some-same, told-parts, told-more, Grew, grew-none, unspoiled-before}
 
--- a course with the same PDUs and the same told
+-- a course with the same PDUs and the same indications
 pub course-so : (put : Put) (awake acks files ends : Bool) (x : SenderState) (o : Option ReceiverState) (forth forth1 back back1 : List Content) (b b1 c c1 : Bool) → forth ≡ forth1 → back ≡ back1 → b
     ≡ b1 → c ≡ c1
     → IsCourse put awake acks files ends x o forth back b c → IsCourse put awake acks files ends x o forth1 back1 b1 c1

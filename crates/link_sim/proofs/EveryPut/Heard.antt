@@ -1,4 +1,4 @@
--- PDUs that were the first on their way to an entity: each is heard, or lost where that may be, and
+-- PDUs that were the first on their way to an entity: each is heard, or lost if that may be, and
 -- each put stays on its course.
 use Rattle.std.proofs.Common.{◌≡◌, ℕ, suc, ◌<◌, Bool, false, List, [], ◌∷◌, ◌++◌, length, Option, ◌⊎◌, inl, inr, refl, sym, ap, subst, ◌∙◌, arith}
 use Rattle.std.specs.Prelude.{Contains, get_or, Some}
@@ -40,7 +40,7 @@ kinds-so h v old new (inr (inr (inl x))) = ap (λ (e : EntityState). length e.dr
 kinds-so h v old new (inr (inr (inr s))) = ap (λ (e : EntityState). length e.drops) s.finds.counted ∙ kinds-dropped NoMemory old.state.drops (length old.state.drops) refl
 
 -- ---- one by one
--- Each of these PDUs in turn was heard, or lost where that may be, and nothing else happened.
+-- Each of these PDUs in turn was heard, or lost if that may be, and nothing else happened.
 abbrev pub Runs : (TransactionId → Option Put) → (lossless : Bool) → List Pdu → (old new : Counted) → Type 0
 Runs put_of lossless [] old new = new ≡ old
 Runs put_of lossless (p ∷ pdus) old new =
@@ -72,13 +72,13 @@ module _ (laws : CourseLaws) (lossless : Bool) (put : Put) (put_of : Transaction
       (back-lost laws lossless put old.state theirs forth [] (pdus ++ back) p) in
       mine-run theirs pdus forth back old new l.1 (lost s)
 
--- where all are lost
+-- if all are lost
 pub lost-run : (put_of : TransactionId → Option Put) (pdus : List Pdu) (c : Counted) → Runs put_of false pdus c c
 lost-run put_of [] c = refl
 lost-run put_of (p ∷ pdus) c = inr (refl, lost-run put_of pdus c)
 
 -- ---- what was given of the texts that ended
--- All of them, or some where the others may be lost.
+-- All of them, or some if the others may be lost.
 abbrev pub Given : Bool → (given ended : List (List ℕ)) → Type 0
 Given lossless given [] = given ≡ []
 Given lossless given (t ∷ ended) = ((rest : List (List ℕ)) × (given ≡ t ∷ rest) × Given lossless rest ended) ⊎ ((lossless ≡ false) × Given lossless given ended)

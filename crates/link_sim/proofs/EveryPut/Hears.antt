@@ -1,4 +1,4 @@
--- A put stays on its course where the PDU at the front of a way is heard, or lost.
+-- A put stays on its course if the PDU at the front of a way is heard, or lost.
 use Rattle.std.proofs.Common.{◌≡◌, ◌≢◌, ◌⊎◌, inl, inr, ℕ, zero, suc, ◌<◌, Bool, true, false, List, [], ◌∷◌, ◌++◌, append-nil, length, get_or, Option, Some, None, refl, sym, ap, subst, ◌∙◌, arith}
 use Rattle.std.specs.Prelude.{slice_get}
 use Rattle.std.proofs.lemmas.List.Quantifiers.{position-Some}
@@ -132,7 +132,7 @@ module _ (laws : CourseLaws) (put : Put) (put_of : TransactionId → Option Put)
         (is-own rest (is-there k.place (put.id, Sends x) k.at at))
         (sender-hears laws lossless put x i.is_sender i.in_file st.policy.times st.files k.steps.stored (of_id put.id forth) (of_id put.id rest) h.large v))
 
-    -- where it has no record the put isn't on its course
+    -- if it has no record the put isn't on its course
     none-mine : (lossless : Bool) (gained : List Indication) → Grew old.state new.state gained → h.id ≡ put.id → place_of h.id st.records ≡ None → BeforeMine lossless → AfterMine lossless
     none-mine lossless gained g same none =
         let absent : record_of put.id st.records ≡ None = none-there same none in
@@ -216,7 +216,7 @@ module _ (laws : CourseLaws) (put : Put) (put_of : TransactionId → Option Put)
             k.opens.stored (of_id put.id rest) (of_id put.id back) v k.opening))
             refl s
 
-    -- dropped where the put has no receiver
+    -- dropped if the put has no receiver
     none-theirs : (lossless : Bool) (k : DropsNew h v old new) → h.id ≡ put.id
         → ((x : SenderState) (b c : Bool) → IsCourse put lossless lossless lossless lossless x None (v ∷ of_id put.id rest) (of_id put.id back) b c →
         IsCourse put lossless lossless lossless lossless x None (of_id put.id rest) (of_id put.id back) b c)

@@ -35,7 +35,8 @@ use Rattle.link_sim.proofs.EveryPut.Known.{TurnSays, pdu_of, turn-says, puts-kno
 use Rattle.link_sim.proofs.EveryPut.Pdus.{InTwo, spelled-append, spelled-split}
 
 -- ---- what is kept
--- Each put of an entity stays on its course: on that of a link without losses if there were none.
+-- Each put of an entity stays on its course: on the course of a link without losses if there were
+-- none.
 abbrev pub StayBy : (TransactionId → Option Put) → (NoneLost : Type 0) → (mine theirs : EntityState) → (forth back : List Pdu) → Type 0
 StayBy put_of NoneLost mine theirs forth back = (put : Put) → put_of put.id ≡ Some put → put.id.source ≡ mine.config.entity
     → (lossless : Bool) → (lossless ≡ true → NoneLost) → StaysOnCourse lossless put mine theirs forth back
@@ -52,7 +53,7 @@ pub record Kept (put_of : TransactionId → Option Put) (NoneLost : Type 0) (min
   pub of_mine : StayBy put_of NoneLost mine theirs forth back
   pub of_theirs : StayBy put_of NoneLost theirs mine back forth
 
--- where the same puts are found
+-- if the same puts are found
 pub kept-same : (P Q : TransactionId → Option Put) (N : Type 0) (m th : EntityState) (a b : List (List ℕ)) → FindsMore P Q → FindsMore Q P → Kept P N m th a b → Kept Q N m th a b
 kept-same P Q N m th a b more fewer c = record {
   forth = c.forth;
@@ -66,7 +67,7 @@ kept-same P Q N m th a b more fewer c = record {
   of_theirs = λ put found own lossless none. c.of_theirs put (fewer put.id put found) own lossless none;
 }
 
--- where nothing was lost that wasn't
+-- if nothing was lost that wasn't
 pub kept-losses : (P : TransactionId → Option Put) (N N1 : Type 0) (m th : EntityState) (a b : List (List ℕ)) → (N1 → N) → Kept P N m th a b → Kept P N1 m th a b
 kept-losses P N N1 m th a b so c = record {
   forth = c.forth;
@@ -101,7 +102,7 @@ module _ (stays : (old new : TableState) → Leads old new → KeepsRecords old.
     of_theirs = λ put found own lossless none. theirs-called course-laws lossless put P found th m m1 c.back c.forth order_there order call id h (c.of_theirs put found own lossless none);
   }
 
-  -- the time is told
+  -- the time is given
   pub kept-ticked : (now : ℕ) → Ticks now m.table m1.table → m1 ≡ with_table m m1.table → Kept P N m1 th a b
   kept-ticked now t is = record {
     forth = c.forth;

@@ -191,8 +191,8 @@ directed-so put_of puts_then old new more same pdus all = all-so (IsDirected put
     }
 
 -- ---- an entity that went on
--- What is known stays where an entity keeps its configuration and its strays, its records go on, and
--- none is let go.
+-- What is known stays if an entity keeps its configuration and its strays, its records go on, and
+-- none is released.
 pub record Continues (old new : EntityState) : Type 0 where
   pub config : new.config ≡ old.config
   pub strays : new.strays ≡ old.strays
@@ -329,7 +329,7 @@ up-says r (receiver_dues.Nak cursor) = (refl, refl)
 up-says r receiver_dues.KeepAlive = (refl, refl)
 up-says r (receiver_dues.Finished o) = (refl, refl)
 
--- where something is due, and is this
+-- if something is due, and is this
 sender-down : (file : List ℕ) (x : SenderState) (o : Option SenderDue) (v : Content) → sender_content file x o ≡ Some v → ((length x.source == 0) || (length x.destination == 0)) ≡ false
     → (direction_of v ≡ TowardReceiver) × (names_no_file v ≡ false)
 sender-down file x None v is named = absurd cc
@@ -369,7 +369,7 @@ module _ (put_of : TransactionId → Option Put) (heard : List (List ℕ)) (mine
   some-put : (a b : TransactionId) (put : Put) → a ≡ b → put_of b ≡ Some put → IsSome (put_of a)
   some-put a b put is found = subst (λ i. IsSome (put_of i)) (sym is) (subst IsSome (sym found) refl)
 
-  -- the flag is that of the put's size
+  -- the flag is the one of the put's size
   its-flag : (a b : TransactionId) (size : ℕ) (kept put : Put) → a ≡ b → put_of b ≡ Some kept → put_of a ≡ Some put → size ≡ length kept.octets → is_large size ≡ is_large (length put.octets)
   its-flag a b size kept put is found own same =
       let both : Some kept ≡ Some put = sym found ∙ ap put_of (sym is) ∙ own in
@@ -631,7 +631,7 @@ module _ (stays : (old new : TableState) → Leads old new → KeepsRecords old.
   each-known put_of theirs forth (p ∷ pdus) back old new h k = each-known put_of theirs forth pdus back h.0 new h.2 (hears-known put_of theirs forth (pdus ++ back) p.0 p.1 old h.0 h.1 k)
 
 -- ---- the same puts
--- Where the same puts are found by another world, the same is known.
+-- If the same puts are found by another world, the same is known.
 pub same-known : (put_of puts_then : TransactionId → Option Put) (mine theirs : EntityState) (forth back : List Pdu) → FindsMore put_of puts_then → FindsMore puts_then put_of →
     AreKnown put_of mine theirs forth back → AreKnown puts_then mine theirs forth back
 same-known put_of puts_then mine theirs forth back more fewer k = (one mine theirs forth k.0, one theirs mine back k.1)

@@ -1,4 +1,4 @@
--- What was lost stays lost: where a world lost nothing, none before it had.
+-- What was lost stays lost: if a world lost nothing, none before it had.
 use Rattle.std.proofs.Common.{◌≡◌, not, Bool, true, false, List, [], ◌∷◌, ◌++◌, refl, sym, ap, ◌∙◌}
 use Rattle.std.specs.List.{list_any}
 use Rattle.aos_frame.specs.Frame.{other_lane}

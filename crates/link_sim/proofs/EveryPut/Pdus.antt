@@ -28,7 +28,7 @@ spelled-append [] more (p ∷ pdus) others a b = absurd a
 spelled-append (t ∷ texts) more [] others a b = absurd a
 spelled-append (t ∷ texts) more (p ∷ pdus) others a b = (a.0, spelled-append texts more pdus others a.1 b)
 
--- The PDUs of two lists of texts, one behind the other.
+-- The PDUs of two lists of texts, one after the other.
 pub record InTwo (texts more : List (List ℕ)) (pdus : List Pdu) : Type 0 where
   pub first : List Pdu
   pub rest : List Pdu
@@ -69,7 +69,7 @@ part-spelled (g ∷ given) (t ∷ texts) (p ∷ pdus) (inr e) s =
     let r = part-spelled (g ∷ given) texts pdus e s.1 in
     record { part = r.part; spelled = r.spelled; is = part-more r.part p pdus r.is }
 
--- What stays where one PDU is lost stays where all but a part of them are.
+-- What stays if one PDU is lost stays if all but a part of them are.
 module _ {X : Type 0} (P : List X → Type 0) (lose : (before : List X) (x : X) (after : List X) → P (before ++ x ∷ after) → P (before ++ after)) where
   lost-behind : (before part whole rest : List X) → IsPartOf part whole → P (before ++ (whole ++ rest)) → P (before ++ (part ++ rest))
   lost-behind before part [] rest is h = subst (λ l. P (before ++ (l ++ rest))) (sym is) h
@@ -133,7 +133,7 @@ told false = refl
 told-len : (h : Header) (v : Content) (text : List ℕ) → SpellsPdu h v text → header_len_told text ≡ header_len h.id_width h.number_width
 told-len h v text s = let q = s.header in rw (q.id_width, q.number_width) refl
 
--- the first octet of a data field is no part of a CRC behind it
+-- the first octet of a data field is no part of a CRC after it
 code-told : (h : Header) (v : Content) (text : List ℕ) (code : ℕ) → SpellsPdu h v text → 1 ≤ length (before_crc h.crc (drop (header_len h.id_width h.number_width) text)) →
     field (before_crc h.crc (drop (header_len h.id_width h.number_width) text)) 0 8 ≡ code → field (drop (header_len_told text) text) 0 8 ≡ code
 code-told h v text code s some is = rw (told-len h v text s) (by h.crc (drop (header_len h.id_width h.number_width) text) some is)

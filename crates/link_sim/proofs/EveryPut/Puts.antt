@@ -60,6 +60,6 @@ adds-put old new p one two puts = record {
             at-side One = refl
             at-side Two = refl
 
--- where no put was accepted
+-- if no put was accepted
 pub same-puts : (old new : WorldSeen) → SendsSame old.one new.one → SendsSame old.two new.two → new.puts ≡ old.puts → FindsMore (put_of old) (put_of new) × FindsMore (put_of new) (put_of old)
 same-puts old new one two puts = (puts-more old new [] one two (puts ∙ sym (append-nil old.puts)), back-same old new one two new.puts puts)

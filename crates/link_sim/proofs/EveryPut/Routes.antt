@@ -43,7 +43,7 @@ pub and-parts : (p q : Bool) → (p && q) ≡ true → (p ≡ true) × (q ≡ tr
 and-parts true q is = (refl, is)
 and-parts false q is = absurd cc
 
--- toward the sender it is of a transaction of this entity, and else of one of the peer
+-- toward the sender it is of a transaction of this entity, and otherwise of one of the peer
 pub toward-own : (way : Direction) (source destination own peer : ℕ) → way ≡ TowardSender → goes_to way source destination own peer ≡ true → source ≡ own
 toward-own TowardSender source destination own peer toward is = eqb-true source own (and-parts (source == own) (destination == peer) is).0
 toward-own TowardReceiver source destination own peer toward is = absurd cc
@@ -79,8 +79,8 @@ pub record OpensRecord (h : Header) (v : Content) (old new : Counted) : Type 0 w
   pub down : direction_of v ≡ TowardReceiver
   pub opens : OpensOne (addressing_in h) h.large v old new
 
--- It was dropped, where its transaction has no record: if none is opened for it that is cause 14, and by cause 15
--- only where the table is full.
+-- It was dropped, if its transaction has no record: if none is opened for it that is cause 14, and
+-- by cause 15 only if the table is full.
 pub record DropsNew (h : Header) (v : Content) (old new : Counted) : Type 0 where
   pub none : place_of h.id old.state.table.records ≡ None
   pub by : EntityDrop
@@ -91,7 +91,7 @@ pub record DropsNew (h : Header) (v : Content) (old new : Counted) : Type 0 wher
   pub is : new.state ≡ dropped by old.state
   pub grows : old.inbox_failures ≤ new.inbox_failures
 
--- It was dropped for want of memory at its record.
+-- It was dropped for lack of memory at its record.
 pub record SpoilsRecord (h : Header) (v : Content) (old new : Counted) : Type 0 where
   pub place : ℕ
   pub at : place_of h.id old.state.table.records ≡ Some place

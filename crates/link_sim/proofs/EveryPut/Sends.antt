@@ -1,5 +1,5 @@
 -- What each step of a sender does to the course of its put, and that it stays cancelled unless it
--- tells something that spoils the put.
+-- indicates something that spoils the put.
 use Rattle.std.proofs.Common.{◌≡◌, ℕ, ◌<◌, ◌==◌, ◌||◌, ◌&&◌, not, Bool, true, false, if◌then◌else◌, List, [], ◌∷◌, ◌++◌, take, Option, Some, None, refl, sym, ap, subst, ◌∙◌, arith}
 use Rattle.std.proofs.lemmas.Bool.{or_left, eqb-true}
 use Rattle.cfdp_header.specs.Files.{FileMap}
@@ -38,7 +38,7 @@ use Rattle.link_sim.proofs.EveryPut.Goes.{SenderGoes}
 use Rattle.cfdp_entity.proofs.Entries.{same_id-itself}
 
 -- ---- a cancelled sender
--- unless what was told spoils the put, it is cancelled after the step too
+-- unless what was indicated spoils the put, it is cancelled after the step too
 abbrev StaysCancelled : TransactionId → SenderAfter → Type 0
 StaysCancelled id a = one_tells (spoils id) a.told ≡ false → a.sender.phase ≡ sending.Cancelling
 
@@ -55,7 +55,7 @@ module _ (id : TransactionId) (x : SenderState) (is_id : x.addressing.id ≡ id)
   bad : (same_id id x.addressing.id && not (x.condition == 0)) ≡ true
   bad = ap (λ b. b && not (x.condition == 0)) own_id ∙ ap not is_cause
 
-  -- that it is over would be told, with its cause
+  -- that it is over would be indicated, with its cause
   over : (after : SenderAfter) → ((same_id id x.addressing.id && not (x.condition == 0)) || false) ≡ false → after.sender.phase ≡ sending.Cancelling
   over after none = absurd (let yes : ((same_id id x.addressing.id && not (x.condition == 0)) || false) ≡ true = ap (λ b. b || false) bad in cc)
 

@@ -129,7 +129,7 @@ module _ (laws : CourseLaws) (lossless : Bool) (put : Put) where
             (one_tells (tells_complete put.id) theirs.table.told)));
       }
 
-  -- ---- a PDU is lost, on a link where that may be
+  -- ---- a PDU is lost, on a link that may lose it
   lost-other : (before after : List Pdu) (p : Pdu) → same_id put.id p.0.id ≡ false → of_id put.id (before ++ after) ≡ of_id put.id (before ++ p ∷ after)
   lost-other before after p differs = of_id-append put.id before after ∙ ap (λ l. of_id put.id before ++ l) (sym (head-other put.id p after differs)) ∙ sym (of_id-append put.id before (p ∷ after))
 

@@ -1,4 +1,4 @@
--- A put stays on its course where one of the two entities makes a step of the record at a place.
+-- A put stays on its course if one of the two entities makes a step of the record at a place.
 use Rattle.std.proofs.Common.{◌≡◌, ℕ, suc, Bool, true, false, cond, List, [], ◌∷◌, append-nil, length, Option, Some, None, refl, sym, ap, subst, ◌∙◌}
 use Rattle.std.specs.List.{IsDistinct}
 use Rattle.std.specs.Map.{keys_of}

@@ -1,4 +1,4 @@
--- A put stays on its course where timers of one of the two entities expire.
+-- A put stays on its course if timers of one of the two entities expire.
 use Rattle.std.proofs.Common.{◌≡◌, ℕ, Bool, true, false, if◌then◌else◌, List, [], ◌∷◌, append-nil, take, Option, Some, None, refl, sym, ap, ap₂, subst, ◌∙◌}
 use Rattle.std.specs.List.{IsDistinct}
 use Rattle.std.specs.Prelude.{slice_get}

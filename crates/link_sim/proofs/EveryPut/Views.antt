@@ -41,7 +41,7 @@ end-own id pdus p is = of_id-append id pdus (p ∷ []) ∙ ap (λ l. of_id id pd
 pub end-other : (id : TransactionId) (pdus : List Pdu) (p : Pdu) → same_id id p.0.id ≡ false → of_id id (pdus ++ p ∷ []) ≡ of_id id pdus
 end-other id pdus p differs = of_id-append id pdus (p ∷ []) ∙ ap (λ l. of_id id pdus ++ l) (head-other id p [] differs) ∙ append-nil (of_id id pdus)
 
--- ---- what was told
+-- ---- what was indicated
 pub told-parts : (tells : Indication → Bool) (old gained new : List Indication) → new ≡ old ++ gained → one_tells tells new ≡ false → (one_tells tells old ≡ false) × (one_tells tells gained ≡ false)
 told-parts tells old gained new is none = or_parts (list_any tells old) (list_any tells gained) (sym (list_any-append tells old gained) ∙ ap (list_any tells) (sym is) ∙ none)
 
@@ -68,7 +68,7 @@ pub heard-before : (d : EntityDrop) (e : EntityState) → drop_number d < length
 heard-before d e low heard = λ n apart. (counted-zero e.drops (drop_number d) n low (heard n apart)).1
 
 -- ---- an entity that went on
--- what it told more, and that counts of drops only grow
+-- what it indicated more, and that counts of drops only grow
 pub record Grew (old new : EntityState) (gained : List Indication) : Type 0 where
   pub told : new.table.told ≡ old.table.told ++ gained
   pub drops : HasHeardAll new → HasHeardAll old
@@ -76,7 +76,8 @@ pub record Grew (old new : EntityState) (gained : List Indication) : Type 0 wher
 pub grew-none : (e : EntityState) → Grew e e []
 grew-none e = record { told = sym (append-nil e.table.told); drops = λ h. h }
 
--- What spoiled nothing after a step spoiled nothing before it, and what was told meanwhile didn't.
+-- What spoiled nothing after a step spoiled nothing before it, and what was indicated meanwhile
+-- didn't.
 pub unspoiled-before : (lossless : Bool) (id : TransactionId) (mine mine1 theirs theirs1 : EntityState) (gained gained_there : List Indication) → Grew mine mine1 gained →
     Grew theirs theirs1 gained_there
     → (one_tells (spoils id) gained ≡ false → IsUncancelled (record_of id mine1.table.records) → IsUncancelled (record_of id mine.table.records))

@@ -1,4 +1,4 @@
--- A put's transaction rests where the world is settled, and what will arrive is on its way.
+-- A put's transaction rests if the world is settled, and what will arrive is on its way.
 use Rattle.std.proofs.Common.{◌≡◌, ℕ, suc, ◌<◌, arith, length, List, [], ◌∷◌, ◌++◌, Option, Some, None, inl, inr, refl, sym, ap, subst, ◌∙◌}
 use Rattle.std.specs.Prelude.{Contains}
 use Rattle.std.proofs.lemmas.List.Elements.{Contains-append_cases}
@@ -26,14 +26,14 @@ use Rattle.link_sim.proofs.Clean.Ends.{none-of, rests-of, no-pdus}
 use Rattle.link_sim.proofs.Clean.Puts.{stands-at}
 use Rattle.link_sim.proofs.OnWay.World.{settled-on-way}
 
--- where nothing is on its way, nothing will arrive
+-- if nothing is on its way, nothing will arrive
 none-arrives : (w : OneWayState) → IsOneWay w → on_way w ≡ [] → arriving w ≡ []
 none-arrives w is none = elim (arriving-or w is) [
   | inl e ↦ sym e ∙ none
   | inr o ↦ (let bad : [] ≡ o.first ∷ arriving w = sym none ∙ o.is in absurd cc)
 ]
 
-none-arrive : (s : Side) (w : WorldState) → AreWays s w → on_way_from s w ≡ [] → arriving_from s w ≡ []
+pub none-arrive : (s : Side) (w : WorldState) → AreWays s w → on_way_from s w ≡ [] → arriving_from s w ≡ []
 none-arrive s w are none =
     let parts = both-empty (on_way (way_from s Directives w)) (on_way (way_from s Data w)) none in
     ap (λ l. l ++ arriving (way_from s Data w)) (none-arrives (way_from s Directives w) (are Directives) parts.0) ∙ none-arrives (way_from s Data w) (are Data) parts.1

@@ -1,4 +1,4 @@
--- The time is told at a station of a world: what becomes of each put's transaction.
+-- A station is given the time of a world: what becomes of each put's transaction.
 use Rattle.std.proofs.Common.{◌≡◌, ℕ, ◌≤◌, true, List, [], Option, Some, None, is_some, refl, sym, ap, subst, ◌∙◌}
 use Rattle.std.specs.Prelude.{Contains}
 use Rattle.std.specs.FinMap as map
@@ -139,7 +139,7 @@ module _ (stays : (old new : TableState) → Leads old new → KeepsRecords old.
         let k1 = known-then has.back has.forth (k.1, k.0) in
         back-now new (λ x. AreKnown (put_of (seen new)) (entity_at (other s) new) x has.forth has.back) (k1.1, k1.0)
 
-    -- where the receiver comes to this
+    -- if the receiver comes to this
     module _ (ks : List Kind) (expired : Exchange) (sender : expired.sender ≡ e.sender) (forth : expired.forth ≡ e.forth) (back : expired.back ≡ e.back) (told : expired.told ≡ e.told)
         (is_in : IsReceiverIn (record_of put.id st1.records) expired.receiver) (grows : expired.told_there ≡ true → one_tells (tells_complete put.id) st1.told ≡ true)
         (expires : ReceiverExpires (entity_at s old).config.policy put ks e expired) (waited : AreWaitedByReceiver e.receiver ks)

@@ -1,4 +1,4 @@
--- The time is told at a station: what becomes of the transaction of a put, of that station or of the
+-- A station is given the time: what becomes of the transaction of a put, of that station or of the
 -- other one.
 use Rattle.std.proofs.Common.{◌≡◌, ◌⊎◌, inl, inr, ℕ, zero, suc, ◌<◌, ◌≤◌, ◌||◌, Bool, true, false, cond, List, [], ◌∷◌, ◌++◌, length, get_or, slice_get, max, Option, Some, None, is_some, IsSome, refl, sym, ap, subst, ◌∙◌, arith, if◌then◌else◌}
 use Rattle.std.specs.Prelude.{nat_le, Contains}
@@ -44,11 +44,11 @@ pub kinds_of : TransactionId → List Timer → List Kind
 kinds_of id [] = []
 kinds_of id (t ∷ ts) = if same_id id t.0 then t.1 ∷ kinds_of id ts else kinds_of id ts
 
-kinds-own : (id : TransactionId) (t : Timer) (ts : List Timer) → same_id id t.0 ≡ true → kinds_of id (t ∷ ts) ≡ t.1 ∷ kinds_of id ts
+pub kinds-own : (id : TransactionId) (t : Timer) (ts : List Timer) → same_id id t.0 ≡ true → kinds_of id (t ∷ ts) ≡ t.1 ∷ kinds_of id ts
 unfolding kinds_of
 kinds-own id t ts is = ap (λ b. cond b (t.1 ∷ kinds_of id ts) (kinds_of id ts)) is
 
-kinds-other : (id : TransactionId) (t : Timer) (ts : List Timer) → same_id id t.0 ≡ false → kinds_of id (t ∷ ts) ≡ kinds_of id ts
+pub kinds-other : (id : TransactionId) (t : Timer) (ts : List Timer) → same_id id t.0 ≡ false → kinds_of id (t ∷ ts) ≡ kinds_of id ts
 unfolding kinds_of
 kinds-other id t ts differs = ap (λ b. cond b (t.1 ∷ kinds_of id ts) (kinds_of id ts)) differs
 
@@ -64,7 +64,7 @@ first-fired : (id : TransactionId) (t : Timer) (ts : List Timer) (k : Kind) → 
 first-fired id t ts k same rest (zero, low, is) = subst (λ (u : Timer). Contains (t ∷ ts) u) (λ i. (sym same i, is i)) (first-in t ts)
 first-fired id t ts k same rest (suc n, low, is) = later-in (id, k) t ts (rest (n, omega (arith, low), is))
 
-kind-fired : (id : TransactionId) (ts : List Timer) (k : Kind) → Contains (kinds_of id ts) k → Contains ts (id, k)
+pub kind-fired : (id : TransactionId) (ts : List Timer) (k : Kind) → Contains (kinds_of id ts) k → Contains ts (id, k)
 unfolding kinds_of
 kind-fired id [] k (n, low, is) = absurd (omega (arith, low))
 kind-fired id (t ∷ ts) k c = elim (same_id id t.0) as (λ b. same_id id t.0 ≡ b → Contains (t ∷ ts) (id, k)) [
@@ -72,7 +72,7 @@ kind-fired id (t ∷ ts) k c = elim (same_id id t.0) as (λ b. same_id id t.0 �
   | false ↦ λ differs. later-in (id, k) t ts (kind-fired id ts k (subst (λ l. Contains l k) (kinds-other id t ts differs) c))
 ] refl
 
-fired-kind : (id : TransactionId) (ts : List Timer) (k : Kind) → list_any (eq_by_cmp timer_cmp (id, k)) ts ≡ true → Contains (kinds_of id ts) k
+pub fired-kind : (id : TransactionId) (ts : List Timer) (k : Kind) → list_any (eq_by_cmp timer_cmp (id, k)) ts ≡ true → Contains (kinds_of id ts) k
 fired-kind id [] k h = absurd (false≢true h)
 fired-kind id (t ∷ ts) k h = elim (or_cases (eq_by_cmp timer_cmp (id, k) t) (list_any (eq_by_cmp timer_cmp (id, k)) ts) h) [
   | inl tie ↦ (let is : (id, k) ≡ t = same_timer (id, k) t ((Equal-is (timer_cmp (id, k) t)).0 tie) in
@@ -85,7 +85,7 @@ fired-kind id (t ∷ ts) k h = elim (or_cases (eq_by_cmp timer_cmp (id, k) t) (l
 ]
 
 -- ---- one timer, seen by a transaction
--- what an expiry did to the table: another record's stays, and more was told
+-- what an expiry did to the table: another record's stays, and more was indicated
 pub record ExpiresOther (id : TransactionId) (st new : TableState) : Type 0 where
   pub same : record_of id new.records ≡ record_of id st.records
   pub more : List Indication
@@ -99,7 +99,7 @@ pub record ExpiresOwn (id : TransactionId) (a : After) (st new : TableState) : T
 
 module _ (id : TransactionId) (t : Timer) (st : TableState) (apart : IsDistinct same_id (keys_of st.records)) where
   -- a timer of another transaction
-  other-fired : same_id id t.0 ≡ false → ExpiresOther id st (expired t st)
+  pub other-fired : same_id id t.0 ≡ false → ExpiresOther id st (expired t st)
   other-fired differs = by (place_of t.0 st.records) refl
     where
       none : ExpiresOther id st st
@@ -159,8 +159,8 @@ module _ (id : TransactionId) (t : Timer) (st : TableState) (apart : IsDistinct 
       by (Some place) is = at place (slice_get st.records place) is refl
 
 -- ---- all of them
--- that more was told shows in what was told
-told-grows : (tells : Indication → Bool) (old more new : List Indication) → new ≡ old ++ more → one_tells tells old ≡ true → one_tells tells new ≡ true
+-- that more was indicated shows in what was indicated
+pub told-grows : (tells : Indication → Bool) (old more new : List Indication) → new ≡ old ++ more → one_tells tells old ≡ true → one_tells tells new ≡ true
 told-grows tells old more new is h = ap (one_tells tells) is ∙ list_any-append tells old more ∙ or_left (one_tells tells old) (one_tells tells more) h
 
 told-then-grows : (put : Put) (before : Bool) (old more new : List Indication) → new ≡ old ++ more → (before ≡ true → one_tells (tells_complete put.id) old ≡ true) → told_then put before more ≡ true →
@@ -330,7 +330,7 @@ unfolding expire_sender
 expired-rest policy put [] e = (refl, (refl, (refl, refl)))
 expired-rest policy put (k ∷ ks) e = expired-rest policy put ks (record e { sender = (sender_expires k policy e.sender).sender; told = told_then put e.told (sender_expires k policy e.sender).told })
 
--- where none expire
+-- if none expire
 pub none-expires : (policy : Policy) (put : Put) (e : Exchange) → ReceiverExpires policy put [] e e
 unfolding ReceiverExpires
 none-expires policy put e = refl

@@ -1,4 +1,4 @@
--- The put of a transaction, and that it stays what it is where more are accepted.
+-- The put of a transaction, and that it stays what it is if more are accepted.
 use Rattle.std.proofs.Common.{◌≡◌, ℕ, suc, ◌<◌, length, true, false, List, [], ◌∷◌, ◌++◌, Option, Some, None, refl, sym, ap, ◌∙◌, arith}
 use Rattle.std.specs.Prelude.{◌==◌, Contains, if◌then◌else◌}
 use Rattle.std.specs.FinMap.{get}
@@ -31,7 +31,7 @@ accepted-left (x ∷ ps) qs id q e =
       | false ↦ λ s. accepted-left ps qs id q s
     ] e
 
--- and where none was, the first of those that come behind
+-- and if none was, the first of the later ones
 accepted-right : (ps qs : List AcceptedPut) (id : TransactionId) → accepted_as ps id ≡ None → accepted_as (ps ++ qs) id ≡ accepted_as qs id
 accepted-right [] qs id e = refl
 accepted-right (x ∷ ps) qs id e =
@@ -91,14 +91,14 @@ put_by-same old new one two (Some q) =
     let side : side_of q.id.source new ≡ side_of q.id.source old = ap (λ (entity : ℕ). if q.id.source == entity then One else Two) one.entity in
     ap (λ s. put_at (at s new) q) side ∙ put_at-same (at (side_of q.id.source old) old) (at (side_of q.id.source old) new) q (at-same old new one two (side_of q.id.source old))
 
--- puts that were found are found where more were accepted
+-- puts that were found are found if more were accepted
 pub puts-more : (old new : WorldSeen) (qs : List AcceptedPut) → SendsSame old.one new.one → SendsSame old.two new.two → new.puts ≡ old.puts ++ qs → FindsMore (put_of old) (put_of new)
 puts-more old new qs one two puts id put e =
     let q = found-by old (accepted_as old.puts id) put e in
     let there : accepted_as new.puts id ≡ Some q.0 = ap (λ (ps : List AcceptedPut). accepted_as ps id) puts ∙ accepted-left old.puts qs id q.0 q.1.0 in
     ap (put_by new) there ∙ put_by-same old new one two (Some q.0) ∙ ap (put_by old) (sym q.1.0) ∙ e
 
--- the one that was accepted last, where no earlier one has its id
+-- the one that was accepted last, if no earlier one has its id
 pub put-last : (old new : WorldSeen) (p : AcceptedPut) → SendsSame old.one new.one → SendsSame old.two new.two → new.puts ≡ old.puts ++ p ∷ [] →
     ((q : AcceptedPut) → Contains old.puts q → q.id ≡ p.id → ⊥) → put_of new p.id ≡ put_by old (Some p)
 put-last old new p one two puts fresh =

@@ -1,5 +1,5 @@
--- What will arrive over two lanes: of each lane all that is on its way, or all but the first, where the
--- front of its packet was lost. So two PDUs may be missing, one of each lane.
+-- What will arrive over two lanes: of each lane all that is on its way, or all but the first, if
+-- the front of its packet was lost. So two PDUs may be missing, one of each lane.
 use Rattle.std.proofs.Common.{◌≡◌, ◌⊎◌, inl, inr, false, Bool, List, [], ◌∷◌, ◌++◌, Option, subst}
 use Rattle.cfdp_header.specs.declared.value.TransactionId.{TransactionId}
 use Rattle.cfdp_directives.specs.Pdu.Content.{Content}
@@ -17,7 +17,7 @@ use Rattle.link_sim.proofs.EveryPut.Known.{lost-known}
 abbrev pub LacksFirst : {X : Type 0} → (xs some : List X) → Type 0
 LacksFirst {X} xs some = (xs ≡ some) ⊎ ((x : X) × (xs ≡ x ∷ some))
 
--- What stays where any one is lost stays where the first of either lane is, or of both.
+-- What stays if any one is lost stays if the first of either lane is, or of both.
 pub lanes-lack : {X : Type 0} (P : List X → Type 0) → ((before : List X) (x : X) (after : List X) → P (before ++ x ∷ after) → P (before ++ after))
     → (dirs dirs1 data_pdus data1 : List X) → LacksFirst dirs dirs1 → LacksFirst data_pdus data1 → P (dirs ++ data_pdus) → P (dirs1 ++ data1)
 lanes-lack {X} P lose dirs dirs1 data_pdus data1 d e h = second e (first d)

@@ -1,4 +1,4 @@
--- The counts of drops of both lanes, which are told as one number.
+-- The counts of drops of both lanes, which are reported as one number.
 use Rattle.std.proofs.Common.{◌≡◌, ℕ, ◌-◌, ◌^◌, ◌<◌, ap, arith}
 use Rattle.aos_frame.specs.Frame.{other_lane}
 use Rattle.aos_frame.specs.declared.config.Lane.{Lane}
@@ -15,7 +15,7 @@ pub none-sum : (u : UpState) (n : ℕ) → ((l : Lane) → count_of (lane_up l u
 none-sum u n none = omega (arith, none Directives, none Data)
 
 -- ---- none more was counted
--- where the other lane is as it was
+-- if the other lane is as it was
 pub sum-other : (old new : UpState) (n : ℕ) (l : Lane) → drop_count new n ≡ drop_count old n → drop_count new n < 2 ^ 64 - 1 →
     lane_up (other_lane l) new ≡ lane_up (other_lane l) old → count_of (lane_up l new).drops n ≡ count_of (lane_up l old).drops n
 sum-other old new n Directives same low other = let there : count_of new.file_data.drops n ≡ count_of old.file_data.drops n = ap (λ (u : LinkReceiverState). count_of u.drops n) other in
@@ -23,11 +23,11 @@ sum-other old new n Directives same low other = let there : count_of new.file_da
 sum-other old new n Data same low other = let there : count_of new.directives.drops n ≡ count_of old.directives.drops n = ap (λ (u : LinkReceiverState). count_of u.drops n) other in
     omega (arith, same, low, there)
 
--- each lane's count is below the limit where the sum is
+-- each lane's count is below the limit if the sum is
 pub sum-low : (u : UpState) (n : ℕ) → drop_count u n < 2 ^ 64 - 1 → (l : Lane) → count_of (lane_up l u).drops n < 2 ^ 64 - 1
 sum-low u n low Directives = omega (arith, low)
 sum-low u n low Data = omega (arith, low)
 
--- the sum is the same where both counts are
+-- the sum is the same if both counts are
 pub same-sum : (old new : UpState) (n : ℕ) → ((l : Lane) → count_of (lane_up l new).drops n ≡ count_of (lane_up l old).drops n) → drop_count new n ≡ drop_count old n
 same-sum old new n same = omega (arith, same Directives, same Data)

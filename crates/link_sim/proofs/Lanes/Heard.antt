@@ -19,7 +19,7 @@ use Rattle.link_sim.proofs.Lanes.Joined.{among-both, among-one, lanes-same, put-
 use Rattle.link_sim.proofs.Lanes.Ways.{other-delivers}
 
 -- ---- a frame that is delivered
--- what it delivers is behind what its lane delivered
+-- what it delivers is after what its lane delivered
 pub delivered-more : (s : Side) (l : Lane) (old new : WorldState) → (h : DeliversFrame s l old new) → IsSwapped (delivered_from s old ++ h.hears.more) (delivered_from s new)
 delivered-more s l old new h =
     put-in-lane l (λ m. pdus_delivered (way_from s m old)) (λ m. pdus_delivered (way_from s m new)) h.hears.more h.hears.delivered (ap pdus_delivered (other-delivers s l old new h))

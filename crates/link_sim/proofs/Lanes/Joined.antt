@@ -1,5 +1,5 @@
--- Lists over two lanes, one behind the other: what is put at the end of a lane, and what is taken from
--- its front.
+-- Lists over two lanes, one after the other: what is put at the end of a lane, and what is taken
+-- from its front.
 use Rattle.std.proofs.Common.{◌≡◌, ◌⊎◌, ℕ, ◌+◌, ◌≤◌, List, [], ◌++◌, append-nil, inl, inr, refl, sym, ap, subst, ◌∙◌, arith}
 use Rattle.std.specs.Prelude.{Contains}
 use Rattle.std.proofs.lemmas.List.{append_assoc}
@@ -13,7 +13,7 @@ use Rattle.link_sim.specs.Runs.{IsSwapped}
 pub swapped-none : {X : Type 0} (xs : List X) → IsSwapped xs xs
 swapped-none xs = record { before = xs; first = []; second = []; behind = []; was = sym (append-nil xs); is = sym (append-nil xs) }
 
--- where nothing moved
+-- if nothing moved
 pub swapped-same : {X : Type 0} (xs ys : List X) → ys ≡ xs → IsSwapped xs ys
 swapped-same xs ys e = subst (λ l. IsSwapped xs l) (sym e) (swapped-none xs)
 
@@ -24,7 +24,7 @@ swapped-back xs ys s = record { before = s.before; first = s.second; second = s.
 pub swapped-front : {X : Type 0} (lane ps rest : List X) → IsSwapped (lane ++ (ps ++ rest)) (ps ++ (lane ++ rest))
 swapped-front lane ps rest = record { before = []; first = lane; second = ps; behind = rest; was = refl; is = refl }
 
--- those that were put behind both lanes go behind the first
+-- those that were put after both lanes go after the first
 pub swapped-put : {X : Type 0} (one two ps : List X) → IsSwapped ((one ++ two) ++ ps) ((one ++ ps) ++ two)
 swapped-put one two ps = record {
   before = one;

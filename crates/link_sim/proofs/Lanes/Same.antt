@@ -1,4 +1,4 @@
--- What both lanes of a direction have, where each lane is as it was.
+-- What both lanes of a direction have, if each lane is as it was.
 use Rattle.std.proofs.Common.{◌≡◌, ℕ, ◌+◌, List, ◌++◌, ap, ◌∙◌}
 use Rattle.aos_frame.specs.declared.config.Lane.{Lane}
 use Rattle.aos_frame.specs.declared.config.Lane.TheVariants.{Directives, Data}

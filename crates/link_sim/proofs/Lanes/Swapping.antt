@@ -1,5 +1,5 @@
--- A list two parts of which changed places has the same members: so a course, and all else that is
--- known of the PDUs on their way, stays where one lane overtakes the other.
+-- A list has the same members after two of its parts changed places: so a course, and all else that
+-- is known of the PDUs on their way, stays if one lane overtakes the other.
 use Rattle.std.proofs.Common.{◌≡◌, inl, inr, ℕ, Bool, true, false, List, [], ◌∷◌, ◌++◌, ◌||◌, Option, refl, sym, ap, subst, ◌∙◌}
 use Rattle.std.proofs.lemmas.List.Folds.{list_any-append}
 use Rattle.cfdp_header.specs.declared.value.TransactionId.{TransactionId}
@@ -191,7 +191,7 @@ module _ (forth forth1 back back1 : List Pdu) (f : IsSwapped forth forth1) (k : 
     known-with put_of theirs mine back back1 (swapped-all (IsDirected put_of mine) back back1 k h.1.directed) h.1,
   )
 
--- what is kept of all puts, where one lane from the first entity overtakes the other
+-- what is kept of all puts, if one lane from the first entity overtakes the other
 pub swapped-kept : (P : TransactionId → Option Put) (NoneLost : Type 0) (mine theirs : EntityState) (texts texts1 back : List (List ℕ)) → IsSwapped texts texts1 →
     Kept P NoneLost mine theirs texts back → Kept P NoneLost mine theirs texts1 back
 swapped-kept P NoneLost mine theirs texts texts1 back s c =

@@ -1,4 +1,4 @@
--- The PDUs of a direction that will arrive where no more is lost, after each kind of step.
+-- The PDUs of a direction that will arrive if no more is lost, after each kind of step.
 use Rattle.std.proofs.Common.{◌≡◌, ℕ, ◌+◌, ◌-◌, ◌*◌, ◌<◌, ◌≤◌, Bool, true, false, not, ◌&&◌, nat_le, nat_lt, if◌then◌else◌, List, [], ◌∷◌, ◌++◌, ◌⊎◌, length, take, refl, sym, ap, ◌∙◌, inl, inr, arith, length-append}
 use Rattle.std.proofs.lemmas.Bool.{cases_lt, le-leb, lt-leb, lt-ltb, le-ltb, false≢true}
 use Rattle.std.proofs.lemmas.List.{length-take}
@@ -10,8 +10,8 @@ use Rattle.mpdu.proofs.Zone.{end_more, survivors-behind}
 use Rattle.link_sim.specs.OneWay.{behind, unbroken}
 use Rattle.link_sim.proofs.OnWay.Lists.{keep-append, none_yet}
 
--- ---- the packets behind a limit
--- where the limit doesn't lie behind their front, all
+-- ---- the packets after a limit
+-- if the limit doesn't lie after their front, all
 pub unbroken-all : (limit from : ℕ) (held : List ℕ) (ps : List (List ℕ)) → ArePackets ps → limit ≤ from → unbroken limit from held ps ≡ ps
 unbroken-all limit from held [] h le = refl
 unbroken-all limit from held (p ∷ ps) h le =
@@ -19,7 +19,7 @@ unbroken-all limit from held (p ∷ ps) h le =
     let u : nat_lt from limit ≡ false = le-ltb from limit le in
     rw (t, u) refl
 
--- packets that are sent behind it stay
+-- packets that are sent after it stay
 pub unbroken-append : (limit from : ℕ) (held : List ℕ) (ps qs : List (List ℕ)) → ArePackets qs → limit ≤ from + length (stream ps) → unbroken limit from held (ps ++ qs) ≡ unbroken limit from held ps
     ++ qs
 unbroken-append limit from held [] qs h le = unbroken-all limit from held qs h (omega arith)
@@ -33,7 +33,7 @@ unbroken-append limit from held (p ∷ ps) qs h le =
       | inr c ↦ rw (le-leb (from + length p) limit c) more
     ]
 
--- of those behind a limit at most the first is missing
+-- of those after a limit at most the first is missing
 pub record OneFewer (all some : List (List ℕ)) : Type 0 where
   pub first : List ℕ
   pub is : all ≡ first ∷ some
@@ -53,7 +53,8 @@ unbroken-behind limit from held (p ∷ ps) h =
     elim (cases_lt limit (from + length p)) [ inl c ↦ past c | inr c ↦ rw (le-leb (from + length p) limit c) rest ]
 
 -- ---- a zone more is delivered
--- The packet that the marks' end cuts is there where all zones that it meets till there were delivered.
+-- The packet that the marks' end cuts is there if all zones that it meets till there were
+-- delivered.
 unbroken-cut : (z : ℕ) (marks : List Bool) (a : ℕ) (p : List ℕ) (ps : List (List ℕ)) → length marks * z < a + length p →
     unbroken (length marks * z) a (begun z marks a (p ∷ ps)) (p ∷ ps) ≡ (if arrived z 0 marks a (length marks * z) then p ∷ ps else ps)
 unbroken-cut z marks a p ps c = rw (lt-leb (a + length p) (length marks * z) c) (by (arrived z 0 marks a (length marks * z)) refl)

@@ -1,4 +1,4 @@
--- The PDUs that will arrive from a station where no more is lost, after each event of a settling.
+-- The PDUs that will arrive from a station if no more is lost, after each event of a settling.
 use Rattle.std.proofs.Common.{◌≡◌, ℕ, ◌*◌, ◌-◌, ◌^◌, ◌<◌, ◌≤◌, ◌==◌, Bool, true, false, not, List, [], ◌∷◌, ◌++◌, ◌⊎◌, length, drop, refl, sym, ap, subst, ◌∙◌, inl, inr, arith}
 use Rattle.std.proofs.lemmas.List.{append-nil}
 use Rattle.aos_frame.specs.declared.config.Lane.{Lane}
@@ -23,7 +23,7 @@ use Rattle.link_sim.proofs.OnWay.Pdus.{stripped, packets-behind}
 use Rattle.link_sim.proofs.OnWay.Rests.{same-link}
 use Rattle.link_sim.proofs.Ways.Sending.{taken_inside, pdus_more}
 
--- ---- those on their way, but for the first at most
+-- ---- those on their way, except for the first at most
 pub arriving-or : (w : OneWayState) → IsOneWay w → (on_way w ≡ arriving w) ⊎ OneFewer (on_way w) (arriving w)
 arriving-or w is =
     let limit : ℕ = length w.marks * w.down.link.zone in
@@ -39,7 +39,7 @@ arriving-or w is =
     by limit held ps o true idle = inl (ap (λ l. pdus_in (busy l)) o.is ∙ ap (λ i. pdus_in (keep (not i) o.first (busy (unbroken limit 0 held ps)))) idle)
     by limit held ps o false idle = inr (record { first = drop 6 o.first; is = ap (λ l. pdus_in (busy l)) o.is ∙ ap (λ i. pdus_in (keep (not i) o.first (busy (unbroken limit 0 held ps)))) idle })
 
--- ---- what is sent will arrive behind all that will
+-- ---- what is sent will arrive after all that will
 pub arriving-sends : (old new : OneWayState) (qs texts : List (List ℕ)) → IsOneWay old → SendsMore old new qs texts → new.up ≡ old.up → new.marks ≡ old.marks → new.run ≡ old.run → arriving new
     ≡ arriving old ++ texts
 arriving-sends old new qs texts is more up marks run =
@@ -74,7 +74,7 @@ fills-arriving s old new is h = lanes-same (λ l. arriving (way_from s l old)) (
         arriving-sends (way_from s l old) (way_from s l new) (filling s l old) [] (is l) (h.sends l) (ap (λ x. lane_up l x.up) h.marks.spares.station) (h.marks.marks l) (h.marks.run l)
         ∙ append-nil (arriving (way_from s l old))
 
--- What is given were the first to arrive of their lane, where no drop was counted for want of memory.
+-- What is given were the first to arrive of their lane, if no drop was counted for lack of memory.
 pub delivers-arriving : (s : Side) (l : Lane) (old new : WorldState) → (h : DeliversFrame s l old new) → drop_count (station_at (other s) new).up 11 ≡ drop_count (station_at (other s) old).up 11 →
     drop_count (station_at (other s) new).up 11 < 2 ^ 64 - 1 → IsSwapped (arriving_from s old) (h.given ++ arriving_from s new)
 delivers-arriving s l old new h same low =

@@ -34,7 +34,7 @@ left-polls old new q texts is more rests up marks =
     let one : length (stream (q ∷ [])) ≡ length q = ap length (append-nil q) in
     omega (arith, left-sends old new (q ∷ []) texts is more rests up marks, one, packet_short q whole)
 
--- of a zone of which `w` octets were waiting, `n` wait behind it and the idle packet
+-- of a zone with `w` octets waiting, `n` wait after it and the idle packet
 idle-fills : (z w k n : ℕ) → 16 ≤ z → 1 ≤ w → w < z → 1 ≤ k → n < z → k * z + n ≡ w + idle_len (z - w) → 2 * n + k < 2 * w
 idle-fills z w zero n hz hw lt hk less e = absurd (omega arith)
 idle-fills z w (suc j) n hz hw lt hk less e =

@@ -1,4 +1,5 @@
--- Of the packets of a stream those that end behind a limit, and what comes of them where the limit moves on by a zone.
+-- Of the packets of a stream those that end after a limit, and what comes of them if the limit
+-- moves on by a zone.
 use Rattle.std.proofs.Common.{◌≡◌, ℕ, ◌+◌, ◌*◌, ◌<◌, ◌≤◌, Bool, true, false, not, ◌&&◌, nat_le, if◌then◌else◌, List, [], ◌∷◌, ◌++◌, length, refl, sym, ap, subst, ◌∙◌, inl, inr, arith, length-append}
 use Rattle.std.specs.List.{list_any}
 use Rattle.std.proofs.lemmas.Bool.{cases_lt, cases_Bool, le-leb, lt-leb}
@@ -11,22 +12,22 @@ use Rattle.mpdu.proofs.Spans.{arrived-before, arrived-past}
 use Rattle.mpdu.proofs.Zone.{keep_false, end_more, survivors-behind}
 use Rattle.link_sim.specs.OneWay.{behind}
 
--- ---- the packets behind a limit
--- where the limit doesn't lie behind their front, all
+-- ---- the packets after a limit
+-- if the limit doesn't lie after their front, all
 pub behind-all : (limit from : ℕ) (ps : List (List ℕ)) → ArePackets ps → limit ≤ from → behind limit from ps ≡ ps
 behind-all limit from [] h le = refl
 behind-all limit from (p ∷ ps) h le =
     let t : nat_le (from + length p) limit ≡ false = lt-leb (from + length p) limit (omega (arith, packet_long p h.0)) in
     rw t refl
 
--- where it doesn't lie before their end, none
+-- if it doesn't lie before their end, none
 pub behind-none : (limit from : ℕ) (ps : List (List ℕ)) → from + length (stream ps) ≤ limit → behind limit from ps ≡ []
 behind-none limit from [] le = refl
 behind-none limit from (p ∷ ps) le =
     let t : nat_le (from + length p) limit ≡ true = le-leb (from + length p) limit (omega (arith, length-append p (stream ps))) in
     rw t (behind-none limit (from + length p) ps (omega (arith, length-append p (stream ps))))
 
--- packets that are sent behind it stay
+-- packets that are sent after it stay
 pub behind-append : (limit from : ℕ) (ps qs : List (List ℕ)) → ArePackets qs → limit ≤ from + length (stream ps) → behind limit from (ps ++ qs) ≡ behind limit from ps ++ qs
 behind-append limit from [] qs h le = behind-all limit from qs h (omega arith)
 behind-append limit from (p ∷ ps) qs h le =
@@ -36,7 +37,7 @@ behind-append limit from (p ∷ ps) qs h le =
       | inr c ↦ rw (le-leb (from + length p) limit c) more
     ]
 
--- those that end behind a limit, but not behind the next one
+-- those that end after a limit, but not after the next one
 abbrev pub ended : (limit next from : ℕ) → List (List ℕ) → List (List ℕ)
 ended limit next from [] = []
 ended limit next from (p ∷ ps) =
@@ -67,13 +68,13 @@ pub keep-append : (k : Bool) (p : List ℕ) (l m : List (List ℕ)) → keep k p
 keep-append true p l m = refl
 keep-append false p l m = refl
 
--- of packets of which the first ends behind the marks none survives
+-- of packets, the first of which ends after the marks, none survives
 pub none_yet : (z : ℕ) (marks : List Bool) (a : ℕ) (p : List ℕ) (ps : List (List ℕ)) → ArePackets ps → length marks * z < a + length p → survivors z marks a (p ∷ ps) ≡ []
 none_yet z marks a p ps h lt =
     let no : arrived z 0 marks a (a + length p) ≡ false = arrived-past z 0 marks a (a + length p) (omega arith) in
     keep_false (arrived z 0 marks a (a + length p)) p (survivors z marks (a + length p) ps) no ∙ survivors-behind z marks (a + length p) ps h (omega arith)
 
--- of packets that lie behind a limit those survive at most that end before the marks' end
+-- of packets that lie after a limit those survive at most that end before the marks' end
 survivors-ended : (z : ℕ) (marks : List Bool) (limit next a : ℕ) (ps : List (List ℕ)) → ArePackets ps → next ≡ length marks * z → limit < a →
     IsPartOf (survivors z marks a ps) (busy (ended limit next a ps))
 survivors-ended z marks limit next a [] h e lt = refl
@@ -127,7 +128,7 @@ ends z marks limit next a (p ∷ ps) h e f =
     } in
     elim (cases_lt limit b) [ inl c ↦ after c | inr c ↦ before c ]
 
--- ---- where all frames were delivered
+-- ---- if all frames were delivered
 -- all that they hold arrived
 pub all_arrived : (z s : ℕ) (marks : List Bool) (a b : ℕ) → list_any not marks ≡ false → b ≤ s + length marks * z → arrived z s marks a b ≡ true
 all_arrived z s [] a b all le = le-leb b s (omega arith)

@@ -30,7 +30,7 @@ abbrev taken_to : OneWayState → ℕ
 taken_to w = length w.marks * w.down.link.zone
 
 -- ---- what is sent
--- what is sent, is on its way behind all that is
+-- what is sent, is on its way after all that is
 pub on-way-sends : (old new : OneWayState) (qs texts : List (List ℕ)) → IsOneWay old → SendsMore old new qs texts → new.up ≡ old.up → new.marks ≡ old.marks → on_way new ≡ on_way old ++ texts
 on-way-sends old new qs texts is more up marks =
     let ps : List (List ℕ) = packets_sent old in
@@ -106,7 +106,7 @@ on-way-hears old new given is hears link marks =
     let part : IsPartOf (pdus_in e.done) (pdus_ended old) = part-map (λ p. drop 6 p) e.done (busy (ended limit (limit + z) 0 ps)) e.part in
     part-part given hears.more (pdus_ended old) hears.part (subst (λ l. IsPartOf l (pdus_ended old)) (sym same) part)
 
--- They are all of them, where no frame was lost, and no drop counted for want of memory.
+-- They are all of them, if no frame was lost, and no drop counted for lack of memory.
 pub on-way-all : (old new : OneWayState) (given : List (List ℕ)) → IsOneWay old → HearsMore old new given → new.down.link ≡ old.down.link → new.marks ≡ old.marks ++ true ∷ [] →
     list_any not new.marks ≡ false → count_of new.up.drops 11 ≡ 0 → given ≡ pdus_ended old
 on-way-all old new given is hears link marks all memory =

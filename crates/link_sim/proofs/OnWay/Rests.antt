@@ -1,4 +1,5 @@
--- An end that sends between events: no whole zone waits, and behind a flush nothing but octets of its idle packet.
+-- An end that sends between events: no whole zone waits, and after a flush nothing but octets of
+-- its idle packet.
 use Rattle.std.proofs.Common.{◌≡◌, ℕ, zero, suc, ◌+◌, ◌-◌, ◌*◌, ◌%◌, ◌<◌, ◌≤◌, Bool, true, false, ◌||◌, ◌==◌, nat_le, List, [], ◌∷◌, ◌++◌, ◌⊎◌, length, refl, sym, ap, ◌∙◌, inl, inr, arith, length-append, length-drop}
 use Rattle.std.proofs.lemmas.Bool.{cases_Bool, cases_lt, le-leb, lt-leb, eq-eqb}
 use Rattle.std.proofs.lemmas.List.{append-nil, append_assoc, length-replicate}
@@ -97,7 +98,7 @@ flush-is w rests =
 pub idle_len-fills : (free : ℕ) → free ≤ idle_len free
 idle_len-fills free = elim (cases_lt free 7) [ inl c ↦ rw (lt-leb 7 free c) (omega arith) | inr c ↦ rw (le-leb 7 free c) (omega arith) ]
 
--- of packets that end before a limit, and idle ones behind them, none that isn't idle is behind it
+-- of packets that end before a limit, and idle ones after them, none that isn't idle is after it
 idle-behind : (limit from : ℕ) (ps : List (List ℕ)) (q : List ℕ) → busy (q ∷ []) ≡ [] → from + length (stream ps) ≤ limit → busy (behind limit from (ps ++ q ∷ [])) ≡ []
 idle-behind limit from [] q h le = elim (cases_lt limit (from + length q)) [ inl c ↦ rw (lt-leb (from + length q) limit c) h | inr c ↦ rw (le-leb (from + length q) limit c) refl ]
 idle-behind limit from (p ∷ ps) q h le =

@@ -27,7 +27,7 @@ use Rattle.link_sim.proofs.OnWay.Pdus.{pdus_ended, on-way-sends, on-way-flushes,
 use Rattle.link_sim.proofs.OnWay.Left.{left-polls, left-fills, left-flushes, left-takes}
 
 -- ---- a poll
--- A PDU is on its way behind all that are of its lane.
+-- A PDU is on its way after all that are of its lane.
 pub record SendsOnWay (s : Side) (pdu : List ℕ) (old new : WorldState) : Type 0 where
   pub forth : IsSwapped (on_way_from s old ++ pdu ∷ []) (on_way_from s new)
   pub back : (l : Lane) → way_from (other s) l new ≡ way_from (other s) l old
@@ -79,7 +79,8 @@ pub record TakesOffWay (s : Side) (gone : List (List ℕ)) (old new : WorldState
   pub back : (l : Lane) → way_from (other s) l new ≡ way_from (other s) l old
   pub left : octets_left_from s new + 1 ≡ octets_left_from s old
 
--- One that is delivered: some of them were heard, and all where none was lost and no drop counted for want of memory.
+-- One that is delivered: some of them were heard, and all if none was lost and no drop counted for
+-- lack of memory.
 pub record HearsOnWay (s : Side) (given : List (List ℕ)) (old new : WorldState) : Type 0 where
   pub gone : List (List ℕ)
   pub takes : TakesOffWay s gone old new

@@ -54,7 +54,7 @@ settling-puts (event.Tick s now) old new of_it h = absurd of_it
 settling-puts (event.Strike s l) old new of_it h = absurd of_it
 settling-puts (event.Damage s l octets) old new of_it h = absurd of_it
 
--- where no put was accepted
+-- if no put was accepted
 module _ (laws : EntityLaws) (old new : WorldState) (sound : IsSound old) (m : Moves old new) (puts : new.puts ≡ old.puts) where
   pub puts-same : FindsMore (put_of (seen old)) (put_of (seen new)) × FindsMore (put_of (seen new)) (put_of (seen old))
   puts-same = same-puts (seen old) (seen new) (sends-one old new sound (λ t. (m.sides t).goes)) (sends-two old new sound (λ t. (m.sides t).goes)) puts

@@ -1,4 +1,4 @@
--- The end of a recovery: where no timer but Inactivity's is armed, each transaction that stands is
+-- The end of a recovery: if no timer but Inactivity's is armed, each transaction that stands is
 -- complete.
 use Rattle.std.proofs.Common.{◌≡◌, ◌≢◌, ℕ, true, false, Option, Some, None, is_some, refl, sym, ap, subst, ◌∙◌}
 use Rattle.std.specs.FinMap as map

@@ -1,4 +1,4 @@
--- The first settling of a recovery: where every unfinished transaction waits below its limits, each
+-- The first settling of a recovery: if every unfinished transaction waits below its limits, each
 -- stands still then until a timer of it expires, or nothing comes of it.
 use Rattle.std.proofs.Common.{◌≡◌, ◌⊎◌, inl, inr, ℕ, suc, ◌<◌, true, false, cond, List, [], ◌∷◌, slice_get, Option, Some, None, refl, sym, ap, subst, ◌∙◌}
 use Rattle.std.specs.Prelude.{Contains}

@@ -45,14 +45,14 @@ done-receiver s put w e has = by e.receiver (record_of put.id (entity_at (other 
     by (Some t) (Some (Receives r m)) is = ap is_closed (sym is)
 
 -- ---- whose a record is
--- that of a put of this station, which it sends
+-- the record of a put of this station, which it sends
 pub record IsSentHere (s : Side) (id : TransactionId) (x : SenderState) (w : WorldState) : Type 0 where
   pub put : Put
   pub of : put.id ≡ id
   pub own : IsPutOf s put w
   pub its : IsItsSender put x
 
--- that of a put of the other station
+-- the record of a put of the other station
 pub record IsReceivedHere (s : Side) (id : TransactionId) (r : ReceiverState) (w : WorldState) : Type 0 where
   pub put : Put
   pub of : put.id ≡ id

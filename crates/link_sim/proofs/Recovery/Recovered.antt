@@ -1,4 +1,4 @@
--- What a recovery comes to, where all that was unfinished waited below its limits.
+-- What a recovery comes to, if all that was unfinished waited below its limits.
 use Rattle.std.proofs.Common.{◌≡◌, ◌≢◌, ◌≤◌, arith, List, [], ◌∷◌, length, Result, Err, sym, ap, subst, ◌∙◌}
 use Rattle.std.specs.Prelude.{IfErr}
 use Rattle.cfdp_header.specs.declared.value.TransactionId.{TransactionId}

@@ -1,4 +1,4 @@
--- A round of a recovery: the time is told at a station, and all is settled again. Each transaction
+-- A round of a recovery: the time is given at a station, and all is settled again. Each transaction
 -- comes on, and one of them gets done.
 use Rattle.std.proofs.Common.{◌≡◌, ◌≢◌, ◌⊎◌, inl, inr, ℕ, zero, suc, arith, Bool, not, ◌&&◌, true, false, List, [], ◌∷◌, Option, Some, None, is_some, refl, sym, ap, subst, ◌∙◌}
 use Rattle.std.specs.Prelude.{Contains}
@@ -58,7 +58,7 @@ pub record RoundLaws : Type 0 where
       × (maybe is_closed a.receiver ≡ true → maybe is_closed b.receiver ≡ true)
 
 -- ---- runs
--- a step in front of a run
+-- a step before a run
 runs-behind : (n : ℕ) (put : Put) (a b c : Exchange) → Settles put a b → Runs n put b c → Runs (suc n) put a c
 unfolding Runs
 runs-behind zero put a b c step runs = (a, (refl, subst (λ e. Settles put a e) (sym runs) step))
@@ -136,7 +136,7 @@ module _ (laws : RoundLaws) (T : Side) (now : ℕ) (w t v : WorldState) (sound :
         (subst (λ (p : Policy). Stands (policy_at s w).limits p.limits put e) (sym (keeps.policy (other s))) stands);
   }
 
-  -- ---- a put of the station that is told the time
+  -- ---- a put of the station that is given the time
   module _ (put : Put) (own : IsPutOf T put w) (e : Exchange) (has : HasExchange T put w e) where
     x : ExpiresHere T now put e w t
     x = tells.here put own e has
@@ -164,7 +164,7 @@ module _ (laws : RoundLaws) (T : Side) (now : ℕ) (w t v : WorldState) (sound :
       pub comes-here : ComesOn T put w v e
       comes-here = record { end = run.end; has = run.is_end; answered = here-stands.1.0; closed = here-stands.1.1.0 }
 
-      -- where the timer for the ACK of EOF was due, that is done
+      -- if the timer for the ACK of EOF was due, that is done
       pub done-here : (k : Kind) → k ≢ kinds.Inactivity → map.get (entity_at T w).table.armed (put.id, k) ≡ Some now → done_at T v put.id ≡ true
       done-here k apart armed =
           let c : Contains x.kinds k = x.all k now armed (omega arith) in
@@ -217,7 +217,7 @@ module _ (laws : RoundLaws) (T : Side) (now : ℕ) (w t v : WorldState) (sound :
       pub comes-there : ComesOn (other T) put w v e
       comes-there = record { end = run_there.end; has = run_there.is_end; answered = there-stands.1.0; closed = there-stands.1.1.0 }
 
-      -- where the timer of a NAK, or of a Finished, was due, the receiver is closed
+      -- if the timer of a NAK, or of a Finished, was due, the receiver is closed
       pub done-there : (k : Kind) (r : ReceiverState) → e.receiver ≡ Some r → k ≢ kinds.Inactivity → map.get (entity_at T w).table.armed (put.id, k) ≡ Some now → done_at T v put.id ≡ true
       done-there k r is apart armed =
           let c : Contains y.kinds k = y.all k now armed (omega arith) in

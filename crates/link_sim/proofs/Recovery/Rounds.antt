@@ -1,4 +1,4 @@
--- Rounds of a recovery, one behind the other, and how often the time was told in them.
+-- Rounds of a recovery, one after the other, and how often the time was given in them.
 use Rattle.std.proofs.Common.{◌≡◌, ℕ, suc, ◌+◌, ◌<◌, List, [], ◌∷◌, ◌++◌, length, Result, Err, refl, sym, ap, subst, ◌∙◌, inl, inr, arith, length-append}
 use Rattle.cfd_bits.specs.Counting.{raised}
 use Rattle.cfdp_timers.specs.ButInactivity.{IsLeastOther}
@@ -20,8 +20,8 @@ use Rattle.link_sim.specs.Waiting.{AllWait, IgnoreInactivity}
 use Rattle.link_sim.specs.World.State.{WorldState}
 use Rattle.link_sim.specs.World.Steps.{Steps}
 
--- ---- how often the time was told
--- no event of a settling tells it
+-- ---- how often the time was given
+-- no event of a settling gives it
 event-ticks : (e : Event) (d : Applied) (old new : WorldState) → IsOfSettling e → Steps e d old new → new.ticks ≡ old.ticks
 event-ticks (event.Poll s) did.Applied old new of_it (inl h) = h.marks.counts.ticks
 event-ticks (event.Poll s) did.Applied old new of_it (inr h) = h.counts.ticks
@@ -55,7 +55,7 @@ raised-none count = omega arith
 raised-once_more : (n count : ℕ) → raised_by n (raised count) ≡ raised_by (suc n) count
 raised-once_more n count = omega arith
 
--- each round tells it once
+-- each round gives it once
 rounds-ticks : (rounds : List Round) (old new : WorldState) → AreRounds rounds old new → new.ticks ≡ raised_by (length rounds) old.ticks
 rounds-ticks [] old new is = ap (λ (w : WorldState). w.ticks) is ∙ sym (raised-none old.ticks)
 rounds-ticks (r ∷ rounds) old new run =

@@ -1,4 +1,4 @@
--- The run of its own that a put makes where one of the two entities hears PDUs in turn, or sends one,
+-- The run of its own that a put makes if one of the two entities hears PDUs in turn, or sends one,
 -- and nothing is short.
 use Rattle.std.proofs.Common.{◌≡◌, ℕ, suc, ◌<◌, List, [], ◌∷◌, ◌++◌, length, Option, Some, refl, sym, ap, subst, ◌∙◌, arith}
 use Rattle.std.specs.Prelude.{Contains, slice_get}
@@ -44,7 +44,8 @@ module _ (laws : EntityLaws) (hearing : HearingLaws) (stays : (old new : TableSt
         shorter-both old mid new one (all-shorter texts pdus rest mid new s.1 behind (known-next laws hearing stays put_of by_id heard first theirs forth p (pdus ++ rest) t old mid (s.0, tt) here k)
         (one.kinds ∙ kinds))
 
-    -- What they come to: of the puts of the entity that hears them, and of those of the other one.
+    -- What they come to: of the puts of the entity that hears them, and of the puts of the other
+    -- one.
     pub record AllRun (pdus rest : List Pdu) (old new : Counted) : Type 0 where
       pub known : AreKnown put_of new.state theirs forth rest
       pub mine : (put : Put) → put_of put.id ≡ Some put → Goes put old.state theirs forth (pdus ++ rest) new.state theirs forth rest

@@ -1,5 +1,5 @@
--- The run of its own that a put makes where one of the two entities hears a PDU, and nothing is
--- short there.
+-- The run of its own that a put makes if one of the two entities hears a PDU, and nothing is short
+-- there.
 use Rattle.std.proofs.Common.{◌≡◌, ◌≢◌, ℕ, ◌-◌, ◌^◌, ◌<◌, ◌≤◌, ◌==◌, Bool, true, false, List, [], ◌∷◌, ◌++◌, append-nil, length, get_or, Option, Some, None, ◌⊎◌, inl, inr, refl, sym, ap, subst, ◌∙◌, arith, get_or-set_same, get_or-set_other}
 use Rattle.std.specs.Prelude.{slice_get}
 use Rattle.std.specs.List.{list_any}
@@ -142,7 +142,7 @@ heard-shorter h v old new kinds (inr (inr (inl d))) = drops-more d.by old new d.
 heard-shorter h v old new kinds (inr (inr (inr s))) = drops-more drops.NoMemory old new (omega arith) kinds (ap (λ (e : EntityState). e.drops) s.finds.counted)
     (let same = s.finds.inbox in omega (arith, same))
 
--- ---- where none rose
+-- ---- if none rose
 raised-shows : (n : ℕ) → n < 2 ^ 64 - 1 → n < raised n
 raised-shows n low = omega (arith, low)
 
@@ -172,7 +172,7 @@ module _ (by : EntityDrop) (old new : Counted) (s : Spared old new) (low : drop_
   only-unknown (inr (inl is15)) = absurd (shows 15 is15 s.table s.table_low)
   only-unknown (inr (inr is16)) = absurd (shows 16 is16 s.memory s.memory_low)
 
--- ---- what a put's receiver tells of a PDU
+-- ---- what a put's receiver indicates of a PDU
 module _ (laws : HearingLaws) (put : Put) (fits : IsReceivable put) (put_of : TransactionId → Option Put) (found : put_of put.id ≡ Some put) (heard : List (List ℕ)) (large : Bool) (v : Content)
     (allowed : IsTrueForth put v → length put.octets ≤ size_limit large) (true_of : IsTrueOf put_of heard put.id v) where
   faultless : (m : OctetMap) (files : FileMap) (r : ReceiverState) → Sound put heard r m → IsTrueForth put v →
@@ -282,7 +282,7 @@ module _ (put : Put) (put_of : TransactionId → Option Put) (found : put_of put
                 (is-own rest (is-there k.place (put.id, Sends x) k.at there))
                 (sender-hears put x (record { is_sender = i.is_sender; in_file = i.in_file }) st.policy.times st.files k.steps.stored (of_id put.id forth) (of_id put.id rest) h.large v)
 
-    -- where it has no record there is no exchange
+    -- if it has no record there is no exchange
     none-mine : h.id ≡ put.id → place_of h.id st.records ≡ None → MineGoes
     none-mine same none e x = absurd (let no : None ≡ Some (Sends e.sender) = sym (none-there same none) ∙ x.is_sender in cc)
 

@@ -1,4 +1,4 @@
--- The run of its own that a put makes where one of the two entities makes a step of the record at a
+-- The run of its own that a put makes if one of the two entities makes a step of the record at a
 -- place.
 use Rattle.std.proofs.Common.{◌≡◌, ℕ, zero, suc, Bool, true, false, List, [], ◌++◌, append-nil, Option, Some, None, inl, inr, refl, sym, ap, subst, ◌∙◌}
 use Rattle.std.specs.List.{IsDistinct}
@@ -27,7 +27,7 @@ use Rattle.link_sim.proofs.EveryPut.Views.{some-same, told-more}
 use Rattle.link_sim.specs.Waiting.{one_tells}
 use Rattle.link_sim.proofs.Lanes.Swapping.{swapped-of}
 
--- ---- runs, one behind the other
+-- ---- runs, one after the other
 pub runs-both : (n m : ℕ) (put : Put) (a b c : Exchange) → Runs n put a b → Runs m put b c → (k : ℕ) × Runs k put a c
 unfolding Runs
 runs-both n zero put a b c p q = (n, subst (λ (x : Exchange). Runs n put a x) (sym q) p)
@@ -85,7 +85,7 @@ module _ (put : Put) where
     unfolding Runs
     one-step e end is s = record { steps = suc zero; end = end; is_end = is; runs = (e, (refl, s)) }
 
-    -- nothing changes of the put, but that more may be told
+    -- nothing changes of the put, but that more may be indicated
     pub stays-same : (gained gained_there : List Indication) → mine1.table.told ≡ mine.table.told ++ gained → theirs1.table.told ≡ theirs.table.told ++ gained_there
         → record_of put.id mine1.table.records ≡ record_of put.id mine.table.records → record_of put.id theirs1.table.records ≡ record_of put.id theirs.table.records → of_id put.id forth1
         ≡ of_id put.id forth → of_id put.id back1 ≡ of_id put.id back
@@ -175,7 +175,7 @@ module _ (put : Put) where
         })
         (k.step o b c)))
 
-    -- where it has no sender there is no exchange
+    -- if it has no sender there is no exchange
     none-sends : (s : Seen) → record_of put.id mine.table.records ≡ Some s → ((x : SenderState) → s ≡ Sends x → ⊥) → (mine2 theirs2 : EntityState) (forth2 back2 : List Pdu) →
         Goes put mine theirs forth back mine2 theirs2 forth2 back2
     none-sends s was never mine2 theirs2 forth2 back2 e h = absurd (never e.sender (some-same (sym was ∙ h.is_sender)))

@@ -88,7 +88,8 @@ module _ (put : Put) (r : ReceiverState) (m : OctetMap) (is_id : r.addressing.id
             step = λ x b c. inr (inr (inr (inl (record { receiver = r; is_receiver = refl; own = is_id; due = d; is_due = is; octets = m; files = files; is = refl }))));
           })
 
-  -- it hears the PDU at the front, and of one that is true of its put it tells no fault of the file
+  -- it hears the PDU at the front, and of one that is true of its put it indicates no fault of the
+  -- file
   pub receiver-hears : (times : Times) (files : FileMap) (rest back : List Content) (large : Bool) (v : Content) →
       ((a : ReceiverAfter) → receiver_after Done large v m files r ≡ Some a → IsTrueForth put v → list_any is_file_fault a.told ≡ false)
       → ReceiverTo put r (hears Done times files large v (Receives r m)) (v ∷ rest) rest back back
@@ -134,7 +135,7 @@ module _ (put : Put) (r : ReceiverState) (m : OctetMap) (is_id : r.addressing.id
         }))))));
       }
 
--- ---- where there is none
+-- ---- if there is none
 -- what a PDU opens receives
 record Opened (a : After) : Type 0 where
   receiver : ReceiverState

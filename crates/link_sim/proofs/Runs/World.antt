@@ -75,7 +75,8 @@ to-there : (s : Side) (put : Put) (w : WorldState) (e : Exchange) (forth back : 
 to-there One put w e forth back k is = record { forth = back; back = forth; spelled = k.spelled_back; spelled_back = k.spelled; known = (k.known.1, k.known.0); is = is }
 to-there Two put w e forth back k is = record { forth = back; back = forth; spelled = k.spelled_back; spelled_back = k.spelled; known = (k.known.1, k.known.0); is = is }
 
--- What an event comes to, seen from a station: of the puts of that station, and of those of the other one.
+-- What an event comes to, seen from a station: of the puts of that station, and of the puts of the
+-- other one.
 record EventGoes (s : Side) (old new : WorldState) (forth back : List Pdu) : Type 0 where
   forth_then : List Pdu
   back_then : List Pdu
@@ -254,7 +255,7 @@ module _ (laws : CleanLaws) (old new : WorldState) (sound : IsSound old) (kept :
         subst (λ (t : Side). IsSoundEntity P (delivered_from t old) (sound (other s)).first there) (other-other s) (sound (other s)).entity in
         laws.grounds.more P P (delivered_from s old) h.hears.more (sound (other s)).first there (λ id put is. is) now
 
-    -- those of the lane whose frame came stand in front
+    -- those of the lane whose frame came stand first
     swaps : SwapsPdus (h.given ++ arriving_from s new) forth
     swaps = swapped-spelled (arriving_from s old) (h.given ++ arriving_from s new) forth (delivers-arriving s l old new h spared.link spared.link_low) k.spelled
 

@@ -1,4 +1,4 @@
--- What the debts of one transaction come to where it is at rest.
+-- What the debts of one transaction come to if it is at rest.
 use Rattle.std.proofs.Common.{◌≡◌, ◌≤◌, Bool, true, [], refl, subst}
 use Rattle.cfdp_directives.specs.User.Put.{Put}
 use Rattle.cfdp_sender.specs.declared.phase.SenderPhase.TheVariants as sending

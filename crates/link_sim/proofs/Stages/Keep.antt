@@ -188,7 +188,7 @@ module _ (m : OctetMap) (files : FileMap) (r : ReceiverState) where
       (λ _. by-fewer m s.metadata s.ending s (record { naks = omega arith; finisheds = omega arith })))
       (λ _. record { naks = omega arith; finisheds = omega arith }))
 
-  -- where it receives, the first of two; else the second, which leaves the phase
+  -- if it receives, the first of two; otherwise the second, which leaves the phase
   in-phase : (a b : ReceiverAfter) → FewerAfter a → FewerAfter b → b.receiver.phase ≡ r.phase
       → ReceiverKeeps r (if is_receiving r.phase then a else b).receiver
   in-phase a b f g same = cond_both (is_receiving r.phase) a b (λ (c : ReceiverAfter). ReceiverKeeps r c.receiver)
@@ -226,7 +226,7 @@ receiver-keeps m files r large v =
     record { fewer = record { naks = k.fewer.naks; finisheds = k.fewer.finisheds }; closed = k.closed }
 
 -- ---- of a transaction
--- where there was a receiver, there is one still
+-- if there was a receiver, there is one still
 abbrev pub StaysReceiver : (old new : Option ReceiverState) → Type 0
 StaysReceiver (Some r) new = (s : ReceiverState) × ((new ≡ Some s) × ReceiverKeeps r s)
 StaysReceiver None new = Unit {0}

@@ -30,7 +30,7 @@ use Rattle.link_sim.proofs.Course.Ends.{whole}
 use Rattle.link_sim.proofs.Course.Laws.{CourseLaws, TellsWell, told_with}
 use Rattle.link_sim.proofs.Course.SenderStays.{finished-file}
 
--- nothing is told
+-- nothing is indicated
 silent : (put : Put) (awake : Bool) → TellsWell put awake []
 silent put awake = record { good = refl; unpaused = λ _. refl }
 

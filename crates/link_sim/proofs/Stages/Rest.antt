@@ -125,7 +125,7 @@ unfolding Runs
 over-runs zero put a b over runs = subst IsOver (sym runs) over
 over-runs (suc n) put a b over runs = over-step put runs.0 b (over-runs n put a runs.0 over runs.1.0) runs.1.1
 
--- where the EOF was acknowledged, no ACK is waited for
+-- if the EOF was acknowledged, no ACK is waited for
 pub answered-waits : (x : SenderState) → is_answered x ≡ true → sender_waits EofAck x ≡ false
 answered-waits x h = and_right (not x.suspended) (waits_for_eof_ack x.phase x) (by x.phase h)
   where

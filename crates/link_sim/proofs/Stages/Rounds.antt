@@ -1,4 +1,4 @@
--- Where timers of a sender expire in a transaction that stands still: it stands still once it has
+-- If timers of a sender expire in a transaction that stands still: it stands still once it has
 -- settled, and its EOF was acknowledged if it was for that that they waited.
 use Rattle.std.proofs.Common.{◌≡◌, ◌⊎◌, inl, inr, ℕ, zero, suc, ◌+◌, ◌<◌, ◌≤◌, ◌&&◌, ◌||◌, not, slice_index_or, Bool, true, false, List, [], ◌∷◌, length, Option, Some, None, Contains, refl, sym, ap, subst, ◌∙◌, arith, if◌then◌else◌}
 use Rattle.std.proofs.lemmas.Bool.{false≢true, true≢false, both_ways, cond_both, and_left, and_right, or_left, lt-ltb, cases_Bool}
@@ -50,7 +50,7 @@ contains-which x y xs h = by h.0 h.1 h.2
 pub contains-none : {X : Type 0} (x : X) → Contains [] x → ⊥
 contains-none x h = let low : h.0 < 0 = h.1 in omega (arith, low)
 
--- ---- more was told of it: it stands as before
+-- ---- more was indicated of it: it stands as before
 pub stands-told : (here there : Limits) (put : Put) (a b : Exchange) → TellsMore a b → Stands here there put a → Stands here there put b
 stands-told here there put a b t s = subst (Stands here there put) (sym t.is) (record {
   course = laws.told_more put true false false false a.sender a.receiver a.forth a.back a.told t.told a.told_there t.told_there t.stays t.stays_there s.course;
@@ -119,7 +119,7 @@ module _ (here there : Limits) (policy : Policy) (put : Put) (a : Exchange) (lim
   itself : (P : SenderState → Type 0) → P a.sender → Goes P a
   itself P p = record { sender = a.sender; told = a.told; stays = λ h. h; is = refl; holds = p }
 
-  -- ---- where the EOF was acknowledged, the count alone
+  -- ---- if the EOF was acknowledged, the count alone
   abbrev Recounted : SenderState → Type 0
   Recounted y = (count : ℕ) × (y ≡ record a.sender { count = count })
 
@@ -136,7 +136,7 @@ module _ (here there : Limits) (policy : Policy) (put : Put) (a : Exchange) (lim
       by Nak = (p.0, refl)
       by FinishedAck = (p.0, refl)
 
-  -- ---- where it wasn't, the EOF falls due again, if it is for that that one waits
+  -- ---- if it wasn't, the EOF falls due again, if it is for that that one waits
   abbrev again : SenderState
   again = record a.sender { count = a.sender.count + 1; eof_due = true }
 
@@ -205,7 +205,8 @@ module _ (here there : Limits) (policy : Policy) (put : Put) (a : Exchange) (lim
       (record { size = refl; sent = refl; phase = refl; eof = refl; ack = refl; metadata = λ h. h; octets = λ n h. h; acknowledged = λ h. h })
       s.course.truth.acknowledged (λ g. still g.due) (λ _ h. h) s.course)
 
-  -- an EOF that is due again brings its ACK and the file, and the end too where the receiver isn't finishing
+  -- an EOF that is due again brings its ACK and the file, and the end too if the receiver isn't
+  -- finishing
   none-owed : (o : Option ReceiverState) → a.receiver ≡ o → maybe owes_ack o ≡ false
   none-owed (Some r) is = ap is_no_error (due-none put a s.course s.rests r is).0
   none-owed None is = refl

@@ -1,4 +1,4 @@
--- Where timers of a receiver expire in a transaction that stands still: once it has settled it stands
+-- If timers of a receiver expire in a transaction that stands still: once it has settled it stands
 -- still again, and it is complete if what they waited for was more than that something comes.
 use Rattle.std.proofs.Common.{◌≡◌, ◌⊎◌, inl, inr, ℕ, ◌<◌, ◌≤◌, ◌&&◌, not, Bool, true, false, List, [], ◌∷◌, Option, Some, None, is_some, is_none, Contains, refl, sym, ap, subst, ◌∙◌, arith, if◌then◌else◌}
 use Rattle.std.proofs.lemmas.Bool.{false≢true, both_ways, cond_both, and_parts}
@@ -76,7 +76,7 @@ module _ (here there : Limits) (policy : Policy) (put : Put) (a : Exchange) (lim
   laws : CourseLaws
   laws = course-laws
 
-  -- ---- the exchange with another receiver, and more told there
+  -- ---- the exchange with another receiver, and more indicated there
   abbrev at : ReceiverState → Bool → Exchange
   at q told = record a { receiver = Some q; told_there = told }
 
@@ -150,11 +150,11 @@ module _ (here there : Limits) (policy : Policy) (put : Put) (a : Exchange) (lim
     waited-phase : (phase : ReceiverPhase) (k : Kind) → r.phase ≡ phase → waits k r ≡ true → waits_in phase k r ≡ true
     waited-phase phase k phase_is w = sym (ap (λ p. waits_in p k r) phase_is) ∙ (and_parts (not r.suspended) (waits_in r.phase k r) w).1
 
-    -- the kinds of which it is complete
+    -- the kinds that it is complete with
     abbrev Completes : List Kind → Type 0
     Completes ks = Contains ks Nak ⊎ Contains ks FinishedAck
 
-    -- while it receives, Inactivity alone: its counts begin anew
+    -- while it receives, Inactivity alone: its counts begin again
     abbrev recounted : ℕ → ℕ → ReceiverState
     recounted naks finisheds = record r { nak_count = naks; finished_count = finisheds }
 

@@ -55,7 +55,7 @@ opened-as put large (KeepAlive progress) t opening times files addressing = absu
 one-receiver : (s : Seen) (r p : ReceiverState) (m n : OctetMap) → s ≡ Receives r m → s ≡ Receives p n → r ≡ p
 one-receiver s r p m n e f = (let both : Receives r m ≡ Receives p n = sym e ∙ f in cc)
 
--- nothing bad is told of a true PDU that a receiver hears
+-- nothing bad is indicated of a true PDU that a receiver hears
 pub heard-good : (put : Put) (a b : Exchange) (s : ReceiverHears put a b) → IsTrueForth put s.heard → list_any is_bad s.after.told ≡ false
 heard-good put a b s t =
     subst (λ (d : ReceiverAfter). list_any is_file_fault d.told ≡ false → list_any is_bad d.told ≡ false)

@@ -1,4 +1,4 @@
--- What a transaction waits for that stands still, and that it is complete where it waits for nothing.
+-- What a transaction waits for that stands still, and that it is complete if it waits for nothing.
 use Rattle.std.proofs.Common.{◌≡◌, ◌≢◌, ◌&&◌, ◌||◌, not, Bool, true, false, Option, Some, None, is_some, is_none, refl, sym, ap, subst, ◌∙◌}
 use Rattle.std.proofs.lemmas.Bool.{false≢true, both_ways, and_from, true_from_ne_false}
 use Rattle.cfdp_directives.specs.declared.user.limits.Limits.{Limits}
@@ -73,7 +73,7 @@ module _ (put : Put) (a : Exchange) (c : IsActiveCourse put a) (rests : IsAtRest
         by false true some isnt h = refl
         by false false some isnt h = absurd (false≢true h)
 
-  -- ---- where it waits for nothing
+  -- ---- if it waits for nothing
   module _ (unwaited : (k : Kind) → k ≢ Inactivity → sender_waits k a.sender ≡ false)
       (unwaited_there : (r : ReceiverState) → a.receiver ≡ Some r → (k : Kind) → k ≢ Inactivity → waits k r ≡ false) where
     -- the receiver is closed, unless it misses something and knows no EOF

@@ -1,4 +1,4 @@
--- Where a receiver knows no EOF, and none comes, a run leaves it so; and where one comes, all debts are
+-- If a receiver knows no EOF, and none comes, a run leaves it so; and if one comes, all debts are
 -- paid.
 use Rattle.std.proofs.Common.{◌≡◌, ◌≢◌, ◌⊎◌, inl, inr, ℕ, zero, suc, ◌+◌, ◌≤◌, ◌==◌, ◌&&◌, ◌||◌, not, min, nat_lt, Bool, true, false, List, [], ◌∷◌, length, Option, Some, None, is_some, refl, sym, ap, subst, ◌∙◌, if◌then◌else◌}
 use Rattle.std.specs.FinMap as map
@@ -68,7 +68,7 @@ eof-or-none put x o forth back b c t unknown = elim (cases_Bool x.eof_taken) [
     never : (d : Bool) → (d ≡ true → maybe knows_ending o ≡ true) → d ≡ false
     never d h = false_from_ne_true d (λ is. both_ways (maybe knows_ending o) unknown (h is))
 
--- an EOF that comes brings all, where the receiver isn't finishing yet
+-- an EOF that comes brings all, if the receiver isn't finishing yet
 pub eof-brings-all : (put : Put) (ends : Bool) (a : Exchange) → IsActiveCourse put a → EofComes a.sender a.receiver a.forth a.back
     → (ends ≡ true → maybe finishes a.receiver ≡ false) → CourseIn put true true true ends a
 eof-brings-all put ends a c e receives = record {
@@ -269,8 +269,8 @@ not-finishing (Some r) h = from r.phase h
 alone : (put : Put) (a : Exchange) → IsActiveCourse put a → CourseIn put false false false false a
 alone put a c = record { truth = c.truth; active = λ f. absurd (false≢true f); ack_comes = c.ack_comes; file_comes = c.file_comes; end_comes = c.end_comes }
 
--- A run to rest of where the receiver knows no EOF, or there is none: it is complete, or no EOF is known
--- still.
+-- A run to rest in which the receiver knows no EOF, or there is none: it is complete, or no EOF is
+-- known still.
 pub first-settle : (n : ℕ) (put : Put) (a b : Exchange) → a.sender.size ≡ length put.octets → 1 ≤ a.sender.segment → IsActiveCourse put a → maybe knows_ending a.receiver ≡ false → Runs n put a b →
     IsAtRest b
     → IsCompleteExchange b ⊎ (maybe knows_ending b.receiver ≡ false)

@@ -1,4 +1,4 @@
--- A lane that takes a damaged frame counts it, and is else as it was.
+-- A lane that takes a damaged frame counts it, and is otherwise as it was.
 use Rattle.std.proofs.Common.{◌≡◌, ℕ, Bool, true, false, ◌==◌, ◌&&◌, not, if◌then◌else◌, List, [], length, get_or, Option, Some, None, refl, sym, ap, subst, ◌∙◌, inl, inr, arith, length-set}
 use Rattle.std.proofs.lemmas.List.{get_or-set_other}
 use Rattle.cfd_bits.specs.Counting.{raised}
@@ -69,8 +69,8 @@ takes-damaged frame up new pdus damaged given = elim given.takes [
         let control : new.control ≡ up.control = given.control ∙ ap (λ (f : Option FrameError). control_unless f up frame) damaged in
         ((λ i. record { link = t.link i; last = t.last i; begun = t.begun i; drops = t.drops i; control = control i }), t.pdus)
 
--- ---- both lanes of a link tell a damaged frame by the same
--- what is wrong else
+-- ---- both lanes of a link know a damaged frame by the same
+-- what is wrong otherwise
 abbrev rest_of : List ℕ → ChannelConfig → Option FrameError
 rest_of text c =
     if not (field text 0 2 == 1) then Some Version

@@ -13,7 +13,7 @@ use Rattle.link_sim.proofs.Lanes.Each.{either-lane}
 use Rattle.cfdp_station.proofs.Whole.{next-is_whole, none-is_whole}
 use Rattle.link_sim.proofs.Ways.Pulling.{one_less, pulled_more, pulled_none}
 
--- where a whole zone waits, there is a buffer
+-- if a whole zone waits, there is a buffer
 pub some-room : (d : LinkSenderState) (blanks : ℕ) → blanks ≡ 0 → WaitAtMost blanks d → d.link.zone ≤ length d.waiting → ⊥
 some-room d blanks none enough whole =
     let same : blanks * d.link.zone ≡ 0 * d.link.zone = ap (λ n. n * d.link.zone) none in

@@ -1,4 +1,4 @@
--- Where pieces of octets lie.
+-- The places of pieces of octets.
 use Rattle.std.proofs.Common.{◌≡◌, MatchOption, inl, inr, ℕ, zero, suc, add-one, ◌+◌, ◌*◌, ◌<◌, ◌≤◌, List, [], ◌∷◌, ◌++◌, length, take, drop, slice_index_or, refl, sym, ap, subst, ◌∙◌, arith}
 use Rattle.std.specs.List.{slice_get}
 use Rattle.std.proofs.lemmas.Option.{slice_get_cases}
@@ -22,7 +22,7 @@ none_before len = omega arith
 one_before : (len n : ℕ) → suc n * len ≡ len + n * len
 one_before len n = omega arith
 
--- one more is that behind those before it
+-- one more is the one after those before it
 more : (len n : ℕ) (o : List ℕ) → pieces len (suc n) o ≡ pieces len n o ++ take len (drop (n * len) o) ∷ []
 unfolding pieces
 more len zero o = rw (none_before len) refl
@@ -64,7 +64,7 @@ room_at len count blanks total place is h =
     let one : (place + 1) * len ≡ place * len + len = omega arith in
     omega (arith, is, least, one)
 
--- room for more was made behind them
+-- room for more was made after them
 pub pieces_grown : (len count blanks more n : ℕ) (o p q : List ℕ) → length o ≡ (count + blanks) * len → n ≡ (count + more) * len → p ≡ take n o ++ q → pieces len count p ≡ pieces len count o
 pieces_grown len count blanks more n o p q is room grown =
     let k : ℕ = count * len in
@@ -75,7 +75,7 @@ pieces_grown len count blanks more n o p q is room grown =
     let front : k ≤ length (take n o) = omega (arith, length-take n o, in_old, in_new) in
     pieces_front len count p o (ap (take k) grown ∙ take-append-le k (take n o) q front ∙ take-take k n o in_new)
 
--- one was written behind them
+-- one was written after them
 pub pieces_pulled : (len count n : ℕ) (w o r : List ℕ) → length w ≡ n → r ≡ o → take (count * len) w ≡ take (count * len) r → pieces len (count + 1) (take n (w ++ drop (length w) o))
     ≡ pieces len count o ++ take len (drop (count * len) w) ∷ []
 pieces_pulled len count n w o r whole is front =

@@ -39,7 +39,7 @@ ends_struck marks run h = record {
   end = h.end;
 }
 
--- a drop that was counted for want of memory would show
+-- a drop that was counted for lack of memory would show
 counted-shows : (counts new : List ℕ) → length counts ≡ 12 → new ≡ link_drops.counted counts NoMemory → count_of new 11 ≡ count_of counts 11 → count_of new 11 < 2 ^ 64 - 1 → ⊥
 unfolding link_drops.counted
 counted-shows counts new long is same low =
@@ -49,7 +49,7 @@ counted-shows counts new long is same low =
     let then : count_of counts 11 ≡ n = refl in
     omega (arith, now, then, same, low)
 
--- what will arrive at an end, behind these marks
+-- what will arrive at an end, after these marks
 abbrev arrives : LinkReceiverState → List (List ℕ) → List Bool → ℕ → List (List ℕ)
 arrives up ps marks run = pdus_in (busy (unbroken (length marks * up.link.zone) 0 (held_at (run == 0) up.begun) ps))
 
@@ -69,7 +69,7 @@ record Hears (up new : LinkReceiverState) (ps : List (List ℕ)) (marks : List B
   pub clear : list_any not marks ≡ false → count_of new.drops 11 ≡ 0 → new.drops ≡ up.drops
   pub memory : count_of new.drops 11 ≡ 0 → count_of up.drops 11 ≡ 0
 
--- where no frame was struck, none was of late
+-- if no frame was struck, none was of late
 false-behind : (before : List Bool) (n : ℕ) → list_any not (before ++ replicate n false) ≡ false → n ≡ 0
 false-behind [] zero none = refl
 false-behind [] (suc n) none = absurd cc
@@ -88,7 +88,7 @@ grown : (up new : LinkReceiverState) (ps : List (List ℕ)) (marks : List Bool) 
 grown up new ps marks added link m =
     ap (λ k. pdus_in (survivors k.zone (marks ++ true ∷ []) 0 ps)) link ∙ ap pdus_in m.completed ∙ pdus-append (survivors up.link.zone marks 0 ps) m.more
 
--- The PDUs of the packets that it completes are the first of those that were to arrive.
+-- The PDUs of the packets that it completes are the first of those that were expected.
 next-lands : (up new : LinkReceiverState) (ps : List (List ℕ)) (marks : List Bool) (run : ℕ) (old out : List (List ℕ)) → 0 < up.link.zone →
     (r : IsReceived up ps marks run) → (t : TakesNext up new ps r.read run old out) → arrives up ps marks run ≡ pdus_in t.added ++ arrives new ps (marks ++ true ∷ []) 0
 next-lands up new ps marks run old out pos r t =
@@ -140,7 +140,7 @@ heard_next up new ps marks run old out pos r t =
       memory = λ e. sym kept ∙ e;
     }
 
--- The PDUs of the packets that the next frame completes are the first of those that are to arrive.
+-- The PDUs of the packets that the next frame completes are the first of those that will arrive.
 first-lands : (up : LinkReceiverState) (ps : List (List ℕ)) (marks : List Bool) (run : ℕ) (added : List (List ℕ)) → 0 < up.link.zone → (r : IsReceived up ps marks run) →
     survivors up.link.zone (r.read ++ true ∷ []) 0 ps ≡ survivors up.link.zone r.read 0 ps ++ added → (rest : List (List ℕ)) × (arrives up ps marks run ≡ pdus_in added ++ rest)
 first-lands up ps marks run added pos r completed =

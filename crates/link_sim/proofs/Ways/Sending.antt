@@ -71,7 +71,7 @@ pub last_of_link : (link : ChannelConfig) (ps : List (List ℕ)) (q : List ℕ) 
 last_of_link link [] q h = h.0
 last_of_link link (p ∷ ps) q h = last_of_link link ps q h.1
 
--- the receiving half, where one packet more was sent
+-- the receiving half, if one packet more was sent
 received_more : (l : OneWayState) (ps : List (List ℕ)) (q : List ℕ) → IsOneWayOf l ps → IsPacket q → ((is_idle q ≡ true) ⊎ (packet_drop l.down.link q ≡ None)) →
     IsReceived l.up (ps ++ q ∷ []) l.marks l.run
 received_more l ps q is packet ours =
@@ -138,6 +138,6 @@ pub busy-append : (ps qs : List (List ℕ)) → busy (ps ++ qs) ≡ busy ps ++ b
 busy-append [] qs = refl
 busy-append (p ∷ ps) qs = ap (λ l. keep (not (is_idle p)) p l) (busy-append ps qs) ∙ keep_behind (not (is_idle p)) p (busy ps) (busy qs)
 
--- the PDUs of packets sent and of those behind them
+-- the PDUs of packets sent and of those after them
 pub pdus_more : (ps qs : List (List ℕ)) → pdus_in (busy (ps ++ qs)) ≡ pdus_in (busy ps) ++ pdus_in (busy qs)
 pdus_more ps qs = ap pdus_in (busy-append ps qs) ∙ map-append (λ p. drop 6 p) (busy ps) (busy qs)

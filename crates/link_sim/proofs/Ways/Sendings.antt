@@ -22,7 +22,7 @@ flushes_once : (s : Side) (flushed : Bool) (old new : WorldState) → (flushed �
 flushes_once s true old new applied idle = (did.Applied, applied refl)
 flushes_once s false old new applied idle = (did.Nothing, idle refl)
 
--- ---- with a flush behind each poll
+-- ---- with a flush after each poll
 pub record SentSoFar (s : Side) (old now : WorldState) : Type 0 where
   pub count : ℕ
   pub sent : Times (SendsOut s) count old now
@@ -48,7 +48,7 @@ pub spread_failed : (Q : AllocError → Type 0) (r : Result (Unit {0}) AllocErro
 spread_failed Q (Ok x) s old new h lacks = absurd h
 spread_failed Q (Err e) s old new h lacks = record { rests = tt; spreads = tt; lacks = lacks }
 
--- ---- with one flush behind all polls
+-- ---- with one flush after all polls
 pub record PolledSoFar (s : Side) (old now : WorldState) : Type 0 where
   pub count : ℕ
   pub polled : Times (PollMoves s) count old now

@@ -68,7 +68,7 @@ module _ (most : ℕ) (st : TableState) (id : TransactionId) where
       let b : sum_by (entry_work most) (x ∷ written st id xs n s) ≡ seen_work most x.1 + sum_by (entry_work most) (written st id xs n s) = sum_by-cons (entry_work most) x (written st id xs n s) in
       omega (arith, h, a, b)
 
-  -- where no record is, none is written
+  -- if no record is, none is written
   sum-beyond : (es : List Entry) (n : ℕ) (s : Seen) → slice_get es n ≡ None → sum_by (entry_work most) (written st id es n s) ≡ sum_by (entry_work most) es
   sum-beyond [] n s at = refl
   sum-beyond (x ∷ xs) zero s at = absurd cc
@@ -261,7 +261,7 @@ hears-works most stored times files large v (Receives r m) within =
 same-works : (most : ℕ) (v : Content) (s t : Seen) → t ≡ s → Leaves most v s t
 same-works most v s t is = let e : seen_work most t ≡ seen_work most s = ap (seen_work most) is in omega (arith, e)
 
--- also where there was no memory
+-- also if there was no memory
 spoils-works : (most : ℕ) (v : Content) (s t : Seen) → IsSeenWithin most s → Spoils v s t → Leaves most v s t
 spoils-works most v (Receives r m) t within h = let e : seen_work most t ≡ receiver_work most r = ap (seen_work most) (spoils-receives v r m t h).1.0 in omega (arith, e)
 spoils-works most (Nak start end pairs) (Sends x) t within h =

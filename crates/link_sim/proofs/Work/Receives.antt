@@ -52,7 +52,7 @@ nak-ends : (most from : ℕ) → nak_work most < nak_due_work most from
 unfolding nak_due_work
 nak-ends most from = omega (arith, more-times 0 (most - from + 1) (nak_work most + 1) (omega arith))
 
--- ---- where the last of the pairs of a NAK ends
+-- ---- the end of the last pair of a NAK
 ends-further : (passes : ℕ → Bool) (from limit end n : ℕ) (rs : List (ℕ × ℕ)) → (from < end) × (end ≤ limit) → AllRangesIn passes from limit rs → (from < last_end end (take n rs))
     × (last_end end (take n rs) ≤ limit)
 ends-further passes from limit end zero rs b h = b
@@ -202,7 +202,7 @@ receives Receiving h = refl
 receives Finishing h = cc
 receives Closed h = cc
 
--- a step that is taken while it receives, and another one else
+-- a step that is taken while it receives, and another one otherwise
 by-phase : (most n : ℕ) (r : ReceiverState) (a b : ReceiverAfter) → (r.phase ≡ Receiving → LeavesWithin most n a) → LeavesWithin most n b →
     LeavesWithin most n (heard (if is_receiving r.phase then a else b))
 by-phase most n r a b h g = heard-works most n (if is_receiving r.phase then a else b)

@@ -95,7 +95,7 @@ module _ (h : Header) (old new : Counted) where
   new-dropped (Prompt keep_alive) by t = unknown (Prompt keep_alive) by t
   new-dropped (KeepAlive progress) by t = unknown (KeepAlive progress) by t
 
-  -- of a transaction that was let go, or that is new here
+  -- of a transaction that was released, or that is new here
   unplaced-taken : (v : Content) (b : Bool) → Takes (route_unplaced b h v old.state) h v old new → Taken h v old new
   unplaced-taken v false t = new-taken v t
   unplaced-taken (Eof condition checksum size tlvs) true t =

@@ -1,5 +1,5 @@
--- Each PDU that a sender sends or hears lowers the work that remains, also where the outbox can't
--- read its data.
+-- Each PDU that a sender sends or hears lowers the work that remains, also if the outbox can't read
+-- its data.
 use Rattle.std.proofs.Common.{◌≡◌, inl, inr, ◌⊎◌, ℕ, zero, suc, ◌+◌, ◌-◌, ◌*◌, ◌<◌, ◌≤◌, min, Bool, true, false, not, List, [], ◌∷◌, Option, Some, None, refl, sym, ap, subst, ◌∙◌, arith, ◌==◌, ◌&&◌, ◌||◌, nat_lt, if◌then◌else◌}
 use Rattle.std.specs.FinSet as set
 use Rattle.std.specs.Cmp.{nat_cmp_total}
@@ -79,8 +79,8 @@ count-taken s n start end some l here =
 some_is : {X : Type 0} (x y : X) → Some x ≡ Some y → y ≡ x
 some_is x y e = cc
 
--- Sending what is due lowers the sender's work by more than the PDU that is then on its way. Where
--- the outbox fails, no PDU is.
+-- Sending what is due lowers the sender's work by more than the PDU that is then on its way. If the
+-- outbox fails, no PDU is.
 pub record Falls (most : ℕ) (file : List ℕ) (x : SenderState) (d : SenderDue) : Type 0 where
   pub done : sender_work most (sender_sends Done file x d).sender + content_work most (sender_says file x d) < sender_work most x
   pub refused : sender_work most (sender_sends Refused file x d).sender < sender_work most x

@@ -24,7 +24,7 @@ use Rattle.link_sim.proofs.Lanes.Ways.{back-kept, forth-kept}
 use Rattle.link_sim.proofs.OnWay.World.{SendsOnWay, FlushesOnWay, HearsOnWay, polls-on-way, fills-on-way, delivers-on-way}
 use Rattle.link_sim.proofs.Work.Entity.{work-moved, work-failed, work-hears-all, work-none, work-cons, work-append, work-part}
 
--- what one entity, the PDUs on their way from it, and the frames behind them may still do
+-- what one entity, the PDUs on their way from it, and the frames after them may still do
 abbrev E : Side → WorldState → ℕ
 E s w = entity_work most_offset (entity_at s w)
 

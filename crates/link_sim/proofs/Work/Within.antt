@@ -75,7 +75,7 @@ use Rattle.link_sim.proofs.Work.Routes as routes
 use Rattle.link_sim.specs.Work.{IsReceiverWithin, IsSenderWithin, IsSeenWithin, AreWithin}
 
 -- ---- a sender
--- what is to be sent stays
+-- what must be sent stays
 pub sender-within : (most : ℕ) (x y : SenderState) → transfer_of y ≡ transfer_of x → IsSenderWithin most x → IsSenderWithin most y
 sender-within most x y same w = record {
   segment = subst (λ n. 1 ≤ n) (sym (ap (λ (t : Transfer). t.segment) same)) w.segment;
@@ -352,7 +352,7 @@ module _ (most : ℕ) (limit : size_limit true ≤ most) (policy : Policy) (file
 same-within : (most : ℕ) (s t : Seen) → t ≡ s → IsSeenWithin most s → IsSeenWithin most t
 same-within most s t is w = subst (IsSeenWithin most) (sym is) w
 
--- what a NAK asks for changes nothing of what is to be sent
+-- what a NAK asks for changes nothing of what must be sent
 ask-same : (p : ℕ × ℕ) (x : SenderState) → transfer_of (asks p x) ≡ transfer_of x
 ask-same p x =
     let more : SenderState = record x { asked = set.union x.asked (range p.0 (min p.1 x.sent)) } in
@@ -368,7 +368,7 @@ asked-same sending.Sending ps x = asks-same ps x
 asked-same sending.Cancelling ps x = refl
 asked-same sending.Closed ps x = refl
 
--- where there was no memory
+-- if there was no memory
 pub spoils-within : (most : ℕ) (v : Content) (s t : Seen) → Spoils v s t → IsSeenWithin most s → IsSeenWithin most t
 spoils-within most v (Receives r m) t h w = subst (IsSeenWithin most) (sym (spoils-receives v r m t h).1.0) w
 spoils-within most (Nak start end pairs) (Sends x) t h w =
@@ -399,7 +399,7 @@ module _ (most : ℕ) (st : TableState) (id : TransactionId) where
   within-set (x ∷ xs) zero r s h = (h, s.1)
   within-set (x ∷ xs) (suc n) r s h = (s.0, within-set xs n r s.1 h)
 
-  -- where no record is, none is written
+  -- if no record is, none is written
   within-beyond : (es : List Entry) (n : ℕ) (r : Seen) → slice_get es n ≡ None → AreWithin most es → AreWithin most (written st id es n r)
   unfolding AreWithin
   within-beyond [] n r at s = s

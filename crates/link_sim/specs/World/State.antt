@@ -17,7 +17,7 @@ use Rattle.link_sim.specs.OneWay.{OneWayState, IsOneWay, IsRested, arriving, on_
 use Rattle.station_pair.specs.Stations.{other}
 
 -- All frames that a station sent in a lane, in order; the marks of those that no longer wait, in
--- the same order: true where delivered; and how many of the last of these were struck in a row.
+-- the same order: `true` if delivered; and how many of the last of these were struck in a row.
 pub record LinkState : Type 0 where
   pub frames : List (List ℕ)
   pub marks : List Bool
@@ -43,7 +43,7 @@ seen_links k = record {
 }
 
 -- Both stations, what each of them sent, the accepted puts in order, and how often the time was
--- told.
+-- given.
 pub record WorldState : Type 0 where
   pub one : StationState
   pub two : StationState
@@ -79,8 +79,8 @@ way_from s l w = way (lane_down l (station_at s w).down) (lane_from s l w)
 
 -- ---- both lanes of a direction
 -- The PDUs that a station put on the link, delivered or not; those that were delivered to the other
--- one; those on their way there, and of these those that will arrive where no more is lost. Each
--- lane's are in order; those of the lane of directives stand first.
+-- one; those on their way there, and of these those that will arrive if no more is lost. Each
+-- lane's are in order; the lane of directives stands first.
 abbrev pub sent_from : Side → WorldState → List (List ℕ)
 sent_from s w = pdus_sent (way_from s Directives w) ++ pdus_sent (way_from s Data w)
 
@@ -117,7 +117,7 @@ pub record IsFirst (c : WorldConfig) (outboxes inboxes : FileMap × FileMap) (w 
   pub puts : w.puts ≡ []
   pub ticks : w.ticks ≡ 0
 
--- one station's of the files of both
+-- the files of one station
 abbrev pub files_at : Side → FileMap × FileMap → FileMap
 files_at One files = files.0
 files_at Two files = files.1

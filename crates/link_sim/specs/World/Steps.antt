@@ -51,7 +51,7 @@ pub record Spares (s : Side) (old new : WorldState) : Type 0 where
   pub station : station_at (other s) new ≡ station_at (other s) old
   pub link : link_from (other s) new ≡ link_from (other s) old
 
--- No put was accepted, and no time told.
+-- No put was accepted, and no time given.
 pub record KeepsCounts (old new : WorldState) : Type 0 where
   pub puts : new.puts ≡ old.puts
   pub ticks : new.ticks ≡ old.ticks
@@ -137,8 +137,8 @@ Calls (did.Refused (refusal.Call by)) s c id old new = RefusesCall s c id by old
 Calls (did.Refused refusal.LossRunTooLong) s c id old new = ⊥
 Calls (did.Refused refusal.NotDamaged) s c id old new = ⊥
 
--- The time was told to a station. What the steps of its timers asked of the inbox was counted where
--- it failed.
+-- A station was given the time. What the steps of its timers asked of the inbox was counted if it
+-- failed.
 pub record TellsTime (s : Side) (now : ℕ) (old new : WorldState) : Type 0 where
   pub ticked : Ticks now (entity_at s old).table (entity_at s new).table
   pub table : entity_at s new ≡ with_table (entity_at s old) (entity_at s new).table
@@ -158,7 +158,7 @@ pub record KeepsMarks (s : Side) (old new : WorldState) : Type 0 where
   pub spares : Spares s old new
   pub counts : KeepsCounts old new
 
--- The PDU whose turn it was was taken, and its one packet is behind all that were sent in its lane.
+-- The PDU whose turn it was was taken, and its one packet is after all that were sent in its lane.
 pub record SendsOne (s : Side) (old new : WorldState) : Type 0 where
   pub served : entity_at s new ≡ served storeds.Done (turn (entity_at s old)) (entity_at s old)
   pub spells : SpellsTurn (turn (entity_at s old)) (entity_at s old)
@@ -194,8 +194,8 @@ Polls (did.Refused by) s old new = ⊥
 abbrev pub filling : Side → Lane → WorldState → List (List ℕ)
 filling s l w = flush_of (packing (lane_down l (station_at s w).down))
 
--- The begun frame of each lane was filled by at most one idle packet, and left. Where none was
--- begun the lane is as it was.
+-- The begun frame of each lane was filled by at most one idle packet, and left. If none was begun
+-- the lane is as it was.
 pub record Fills (s : Side) (old new : WorldState) : Type 0 where
   pub entity : (station_at s new).entity ≡ (station_at s old).entity
   pub sends : (l : Lane) → SendsMore (way_from s l old) (way_from s l new) (filling s l old) []

@@ -22,7 +22,7 @@ returns-then-bytes-len-clause-only c p front behind s is =
     let told : c.packet_len-len.result ≡ 7 + field c.args.bytes.now 32 16 = c.packet_len-len.ensures.value in
     omega arith
 
--- the body that is lent
+-- the body that is borrowed
 lent : (front text : List ℕ) (n : ℕ) → front ≡ take n text → take (length front - 6) (drop 6 front) ≡ drop 6 (take n text)
 lent front text n e = take_rest front 6 ∙ ap (λ l. drop 6 l) e
 

@@ -1,7 +1,7 @@
 use Rattle.std.proofs.Common.{◌≡◌, ◌++◌, map, take}
 use Rattle.cfdp_command_line.proofs.settings_file.push_all.Given as goal
 
--- the words so far stand behind those that were there
+-- the words so far stand after those that were there
 abbrev pub invariant-loop-word : goal.invariant-loop-word
 invariant-loop-word l =
     map (λ word. word.bytes.items) l.all.items

@@ -8,6 +8,6 @@ returns c = record {
   lacking = λ held sums r part lacking. back-lacking held sums r part lacking r.phase refl;
   tidy = λ held sums r. back-tidy held sums r r.phase;
   well = λ held sums r h. back-well held sums r r.phase h;
-  owes = λ held sums r h. back-owes held sums r r.phase h;
+  owes = λ held sums r h. back-owes held sums r h r.phase refl;
   sender = λ file sent sums x low front cause. sender-back file sent sums x low front cause x.phase refl;
 }

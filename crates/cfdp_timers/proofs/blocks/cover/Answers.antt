@@ -1,4 +1,4 @@
--- A block more.
+-- One more block.
 use Rattle.std.proofs.Common.{sym, subst, ap, ◌∷◌, [], None, length, arith, length-append}
 use Rattle.cfdp_timers.specs.Entries.{AreFirsts}
 use Rattle.cfdp_timers.proofs.Firsts.{firsts-grown, firsts-cover}

@@ -1,4 +1,4 @@
--- One deadline more.
+-- One more deadline.
 use Rattle.std.proofs.Common.{◌+◌, drop, get_or, None, sym, ap, ◌∙◌, arith}
 use Rattle.std.proofs.lemmas.List.{at_drop_more, at_drop_all}
 use Rattle.cfdp_timers.specs.Entries.{earlier, earliest_of}

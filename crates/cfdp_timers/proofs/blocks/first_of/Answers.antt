@@ -1,4 +1,4 @@
--- Where the place wasn't the earliest before, or is no later now, the others' earliest is known.
+-- If the index wasn't the earliest before, or is no later now, the others' earliest is known.
 use Rattle.std.proofs.Common.{inl, inr, None, get_or, sym, ap, ◌∙◌, arith}
 use Rattle.cfdp_timers.specs.Entries.{earliest_of}
 use Rattle.cfdp_timers.proofs.Firsts.{window-changed, same_deadline, other_deadline}

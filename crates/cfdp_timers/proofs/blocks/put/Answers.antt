@@ -1,4 +1,4 @@
--- The block of the place is the one that changes.
+-- The block of the index is the one that changes.
 use Rattle.std.proofs.Common.{arith}
 use Rattle.cfdp_timers.proofs.Firsts.{block-within, first-before, firsts-put}
 use Rattle.cfdp_timers.proofs.blocks.put.Goals as goal

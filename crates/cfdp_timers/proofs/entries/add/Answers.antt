@@ -1,4 +1,4 @@
--- All have one place more.
+-- All have one more index.
 use Rattle.std.proofs.Common.{[], ◌∷◌, ◌++◌, None, sym, ap, subst, ◌∙◌}
 use Rattle.cfdp_timers.specs.Entries.{AreBounds, others_of}
 use Rattle.cfdp_timers.proofs.Bounded.{bounds-pushed}

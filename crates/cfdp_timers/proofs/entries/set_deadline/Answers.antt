@@ -1,4 +1,4 @@
--- The entry that is found is written, and the place beside it.
+-- The entry that is found is written, and the index beside it.
 use Rattle.std.proofs.Common.{◌≡◌, ◌<◌, length, set, get_or, Option, None, Some, is_some, false, true≢false, slice_get, refl, sym, ap, subst, ◌∙◌, arith}
 use Rattle.std.specs.List.{IsDistinct}
 use Rattle.std.specs.Map.{keys_of, lookup}

@@ -1,4 +1,4 @@
--- The last entry takes the place of the one that is found.
+-- The last entry takes the index of the one that is found.
 use Rattle.std.proofs.Common.{◌≡◌, ◌<◌, ◌-◌, ◌/◌, length, slice_get, swap_remove, Option, None, Some, false, is_some, true≢false, cond, refl, sym, ap, subst, ◌∙◌, arith, IfSome}
 use Rattle.std.proofs.lemmas.Option.{slice_get_within}
 use Rattle.indexmap.specs.IndexMap.{Updates}

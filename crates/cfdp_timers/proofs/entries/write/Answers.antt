@@ -1,4 +1,4 @@
--- The deadlines at the place are those that are written.
+-- The deadlines at the index are the written ones.
 use Rattle.std.proofs.Common.{◌≡◌, sym, ap, ◌∙◌}
 use Rattle.std.specs.Map.{values_of}
 use Rattle.std.proofs.lemmas.Option.{get_or_from_slice_get}

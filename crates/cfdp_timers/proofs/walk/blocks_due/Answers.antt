@@ -1,4 +1,4 @@
--- Where all bounds are later nothing is due, and no transaction stands behind the last block.
+-- If all bounds are later nothing is due, and no transaction stands after the last block.
 use Rattle.std.proofs.Common.{arith}
 use Rattle.cfdp_timers.proofs.Skipped.{due-none, due-end}
 use Rattle.cfdp_timers.proofs.walk.blocks_due.Goals as goal

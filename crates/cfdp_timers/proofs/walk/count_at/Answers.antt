@@ -1,4 +1,4 @@
--- One transaction more.
+-- One more transaction.
 use Rattle.std.proofs.Common.{◌+◌, length, drop, sym, ap, ◌∙◌, arith, length-append}
 use Rattle.cfdp_header.specs.declared.value.TransactionId.{TransactionId}
 use Rattle.cfdp_timers.specs.declared.deadlines.Deadlines.{Deadlines}

@@ -1,4 +1,5 @@
--- Those counted and those left are all of the block and behind it, and no more than four of each transaction.
+-- The counted ones and the others are all of the block and after it, and no more than four of each
+-- transaction.
 use Rattle.std.proofs.Common.{◌≡◌, ◌≤◌, ◌+◌, ◌-◌, ◌*◌, length, drop}
 use Rattle.cfdp_timers.specs.Entries.{due, alarms}
 use Rattle.cfdp_timers.proofs.walk.count_block.Given as goal

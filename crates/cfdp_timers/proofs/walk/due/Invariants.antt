@@ -1,4 +1,4 @@
--- Those collected and those left are all.
+-- The collected ones and the others are all.
 use Rattle.std.proofs.Common.{◌≡◌, ◌*◌, ◌++◌, map, drop}
 use Rattle.cfdp_timers.specs.Entries.{due, alarms, entry_of}
 use Rattle.cfdp_timers.proofs.walk.due.Given as goal

@@ -1,4 +1,4 @@
--- Those counted and those left are all.
+-- The counted ones and the others are all.
 use Rattle.std.proofs.Common.{◌≡◌, ◌+◌, ◌*◌, length, drop}
 use Rattle.cfdp_timers.specs.Entries.{due, alarms}
 use Rattle.cfdp_timers.proofs.walk.due_count.Given as goal

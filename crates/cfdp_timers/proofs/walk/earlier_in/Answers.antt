@@ -1,4 +1,4 @@
--- A block whose bound is no earlier is skipped; else one transaction more.
+-- A block whose bound is no earlier is skipped; otherwise one more transaction.
 use Rattle.std.proofs.Common.{◌≡◌, ◌≤◌, ◌+◌, ◌*◌, drop, get_or, sym, ap, ◌∙◌, arith}
 use Rattle.cfdp_timers.specs.Entries.{alarms, earlier, earliest}
 use Rattle.cfdp_timers.proofs.Earliest.{earliest-more, earliest-skipped}

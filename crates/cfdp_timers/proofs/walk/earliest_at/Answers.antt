@@ -1,4 +1,4 @@
--- The deadlines at the place are those that are found.
+-- The deadlines at the index are the ones that are found.
 use Rattle.std.proofs.Common.{sym, ap, ◌∙◌}
 use Rattle.cfdp_header.specs.declared.value.TransactionId.{TransactionId}
 use Rattle.cfdp_timers.specs.declared.deadlines.Deadlines.{Deadlines}

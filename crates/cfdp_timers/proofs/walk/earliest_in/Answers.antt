@@ -1,4 +1,4 @@
--- One transaction more.
+-- One more transaction.
 use Rattle.std.proofs.Common.{◌+◌, ◌*◌, sym, ap, subst, ◌∙◌}
 use Rattle.cfdp_timers.specs.Entries.{earlier}
 use Rattle.cfdp_timers.proofs.Bounded.{AreNoEarlier, no_earlier-more}

@@ -1,4 +1,5 @@
--- What is found at first is no earlier than the earliest of all, and behind the last block there is none.
+-- What is found at first is no earlier than the earliest of all, and after the last block there is
+-- none.
 use Rattle.std.proofs.Common.{◌≤◌, ◌*◌, length, sym, ap, ◌∙◌, arith}
 use Rattle.cfdp_timers.specs.Entries.{alarms, earlier, earliest}
 use Rattle.cfdp_timers.proofs.Earliest.{earliest-end, others-within}

@@ -1,4 +1,4 @@
--- One transaction more.
+-- One more transaction.
 use Rattle.std.proofs.Common.{◌+◌, ◌++◌, drop, map, sym, ap, ◌∙◌, append_assoc, Result, Ok, Err, OnOk, OnErr}
 use Rattle.cfdp_header.specs.declared.value.TransactionId.{TransactionId}
 use Rattle.cfdp_timers.specs.declared.deadlines.Deadlines.{Deadlines}

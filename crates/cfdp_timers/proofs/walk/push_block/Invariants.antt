@@ -1,4 +1,4 @@
--- Those added and those left are all of the block and behind it.
+-- The added ones and the others are all of the block and after it.
 use Rattle.std.proofs.Common.{◌≡◌, ◌*◌, ◌++◌, map, drop}
 use Rattle.cfdp_timers.specs.Entries.{due, alarms, entry_of}
 use Rattle.cfdp_timers.proofs.walk.push_block.Given as goal

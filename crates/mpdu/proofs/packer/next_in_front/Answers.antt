@@ -6,7 +6,7 @@ use Rattle.mpdu.proofs.Packed.{skip_more}
 use Rattle.mpdu.proofs.Scan.{header_len-same}
 use Rattle.mpdu.proofs.packer.next_in_front.Goals as goal
 
--- what stands behind a header says nothing in it
+-- what stands after a header says nothing in it
 header_len-front : (front behind : List ℕ) (at : ℕ) → at + 6 ≤ length front → header_len (drop at front) ≡ header_len (drop at (front ++ behind))
 header_len-front front behind at inside =
     let six : take 6 (drop at front ++ behind) ≡ take 6 (drop at front) = take-append-le 6 (drop at front) behind (omega (arith, length-drop at front)) in

@@ -53,7 +53,7 @@ returns-clause-bad c =
     ap not (sym (front_ok c))
     ∙ sym (turns_bad_is c.args.held.now.items c.args.zone.now c.append.new.held.items (some_of _ _ (c.args.held.now.ok.0) c.if-is_empty.ensures) c.requires.zone (front_is c))
 
--- what is held, up to the place where the others are read
+-- what is held, up to where the others are read
 last_is : (c : goal.After-append-2) → c.append-2.new.held.items ≡ c.args.held.now.items ++ take c.min-end.result c.args.zone.now
 last_is c = joined c.args.held.now.items c.args.zone.now c.append.new.held.items c.append-2.new.held.items c.min-end.result (front_is c) (more_is c) (omega (arith, c.args.held.now.ok.0))
 
@@ -62,7 +62,7 @@ returns-clause-read c =
     joined_all c.args.held.now.items c.args.zone.now c.append-2.new.held.items c.min-end.result (last_is c)
     ∙ sym (reads_on (length c.args.zone.now) c.args.pointer c.args.held.now.items c.args.zone.now (sym (returns-clause-goes_on c)))
 
--- the octets that its header tells
+-- the octets that its header gives
 len_is : (c : goal.After-append-2) → c.packet_len.result ≡ header_len c.append.new.held.items
 len_is c = c.packet_len.ensures.told ∙ ap header_len c.deref-2.ensures.value
 

@@ -3,7 +3,7 @@ use Rattle.cfdp_entity.specs.Forgetting.{ForgetsSome}
 use Rattle.cfdp_entity.proofs.Letting.{NoneFrom}
 use Rattle.cfdp_entity.proofs.entity.Entity.forget_closed.Given as goal
 
--- those behind were looked at: none of them is left that may go
+-- those after were looked at: none of them is left that may go
 abbrev pub invariant-loop-behind : goal.invariant-loop-behind
 invariant-loop-behind g l = record {
   some : ForgetsSome l.fn.self.state l.self.state;

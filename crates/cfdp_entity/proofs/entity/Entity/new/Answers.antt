@@ -2,7 +2,7 @@ use Rattle.std.proofs.Common.{ap}
 use Rattle.circular_buffer.specs.Buffer.{Buffer}
 use Rattle.cfdp_entity.specs.Roomy.{Roomy}
 use Rattle.cfdp_entity.specs.Strays.{StrayAck}
-use Rattle.cfdp_entity.proofs.Numbers.{free-first, unforgotten-first}
+use Rattle.cfdp_entity.proofs.PutNumbers.{free-first, unforgotten-first}
 use Rattle.cfdp_entity.proofs.entity.Entity.new.Goals as goal
 
 pub invariant_of-result : goal.invariant_of-result

@@ -1,7 +1,7 @@
 use Rattle.std.proofs.Common.{◌≢◌, refl, sym, ap, ◌∙◌}
 use Rattle.cfdp_directives.specs.Pdu.Content.{view}
 use Rattle.cfdp_entity.specs.Entity.{Counted, next_of}
-use Rattle.cfdp_entity.proofs.Numbers.{free-opened}
+use Rattle.cfdp_entity.proofs.PutNumbers.{free-opened}
 use Rattle.cfdp_entity.proofs.entity.Entity.open.Goals as goal
 
 pub invariant_of-self-2 : goal.invariant_of-self-2

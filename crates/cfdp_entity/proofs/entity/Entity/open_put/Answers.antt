@@ -4,7 +4,7 @@ use Rattle.cfdp_sender.specs.declared.transfer.Transfer.{Transfer}
 use Rattle.cfdp_entity.specs.Entity.{Counted, is_forgotten, own_id, next_of}
 use Rattle.cfdp_entity.specs.Putting.{next_id}
 use Rattle.cfdp_entity.specs.Table.{place_of}
-use Rattle.cfdp_entity.proofs.Numbers.{free-at, free-put, risen, unforgotten-at, unforgotten-behind}
+use Rattle.cfdp_entity.proofs.PutNumbers.{free-at, free-put, risen, unforgotten-at, unforgotten-behind}
 use Rattle.cfdp_entity.proofs.entity.Entity.open_put.Goals as goal
 
 pub put-requires-clause-may_add : goal.put-requires-clause-may_add

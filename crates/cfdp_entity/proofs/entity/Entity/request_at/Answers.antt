@@ -1,5 +1,5 @@
 use Rattle.cfdp_entity.specs.Entity.{next_of}
-use Rattle.cfdp_entity.proofs.Numbers.{free-called}
+use Rattle.cfdp_entity.proofs.PutNumbers.{free-called}
 use Rattle.cfdp_entity.proofs.entity.Entity.request_at.Goals as goal
 
 pub invariant_of-self-2 : goal.invariant_of-self-2

@@ -2,7 +2,7 @@ use Rattle.std.proofs.Common.{ap}
 use Rattle.cfdp_entity.specs.Entity.{next_of}
 use Rattle.cfdp_entity.specs.Table.{table_lent}
 use Rattle.cfdp_entity.specs.Gives.{stored_by_gave}
-use Rattle.cfdp_entity.proofs.Numbers.{free-taken}
+use Rattle.cfdp_entity.proofs.PutNumbers.{free-taken}
 use Rattle.cfdp_entity.proofs.entity.Entity.send_at.Goals as goal
 
 pub invariant_of-self-2 : goal.invariant_of-self-2

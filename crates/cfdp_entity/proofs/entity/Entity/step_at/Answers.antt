@@ -1,7 +1,7 @@
 use Rattle.std.proofs.Common.{ap, ◌∙◌}
 use Rattle.cfdp_directives.specs.Pdu.Content.{view}
 use Rattle.cfdp_entity.specs.Entity.{Counted, next_of, with_table}
-use Rattle.cfdp_entity.proofs.Numbers.{free-heard, free-spoiled}
+use Rattle.cfdp_entity.proofs.PutNumbers.{free-heard, free-spoiled}
 use Rattle.cfdp_entity.proofs.Sparing.{on_err, spoiled-so}
 use Rattle.cfdp_entity.proofs.entity.Entity.step_at.Goals as goal
 

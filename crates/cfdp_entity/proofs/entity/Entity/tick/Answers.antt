@@ -1,7 +1,7 @@
 use Rattle.std.proofs.Common.{Result, Ok, Err, OnErr, refl}
 use Rattle.cfdp_entity.specs.Entity.{next_of}
 use Rattle.cfdp_entity.specs.Roomy.{Becomes}
-use Rattle.cfdp_entity.proofs.Numbers.{free-ticked}
+use Rattle.cfdp_entity.proofs.PutNumbers.{free-ticked}
 use Rattle.cfdp_entity.proofs.entity.Entity.tick.Goals as goal
 
 on_err : {X E P Q : Type 0} (r : Result X E) → (P → Q) → OnErr r P → OnErr r Q

@@ -1,4 +1,4 @@
--- Each place has the flag that it has to have.
+-- Each index has the flag that it must have.
 use Rattle.std.proofs.Common.{◌≡◌, ◌≢◌, ◌<◌, ◌≤◌, ◌+◌, ◌-◌, ℕ, Bool, List, false, length, get_or, take, remove, sym, ap, ◌∙◌, arith, inl, inr, length-take, length-set}
 use Rattle.std.specs.Prelude.{slice_set}
 use Rattle.std.proofs.lemmas.Bool.{cases_lt}
@@ -6,7 +6,7 @@ use Rattle.std.proofs.lemmas.List.{ext_get_or, get_or-take, get_or-set_other}
 use Rattle.std.proofs.lemmas.List.Edits.{length-remove, get_or-remove_below, get_or-remove_above}
 use Rattle.cfdp_entity.proofs.ready.Ready.remove.Goals as goal
 
--- flags that moved up from a place on, the last one cleared and cut off
+-- flags that moved up from an index on, the last one cleared and cut off
 moved-up : (old now : List Bool) (place last : ℕ) → place < length old → last ≡ length old - 1 → length now ≡ length old → ((k : ℕ) → k < place → get_or now k false ≡ get_or old k false)
     → ((k : ℕ) → place ≤ k → k < last → get_or now k false ≡ get_or old (k + 1) false) → take (length (slice_set now last false) - 1) (slice_set now last false) ≡ remove old place
 moved-up old now place last within end size kept moved =

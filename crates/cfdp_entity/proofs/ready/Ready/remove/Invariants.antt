@@ -1,4 +1,4 @@
--- Those from the place on that were gone over have moved up.
+-- Those from the index on that were gone over have moved up.
 use Rattle.std.proofs.Common.{◌≡◌, ℕ, ◌+◌, ◌<◌, ◌≤◌, length, get_or, false}
 use Rattle.cfdp_entity.proofs.ready.Ready.remove.Given as goal
 

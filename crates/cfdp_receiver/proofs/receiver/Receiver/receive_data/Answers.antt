@@ -1,6 +1,8 @@
-use Rattle.std.proofs.Common.{◌∙◌, sym, arith}
+use Rattle.std.proofs.Common.{◌∙◌, sym, ap, arith}
 use Rattle.cfdp_directives.proofs.FileSizes.{limit_low}
+use Rattle.cfdp_receiver.specs.State.{ReceiverState}
 use Rattle.cfdp_receiver.proofs.Chains.{covered-stages, new-stages}
+use Rattle.cfdp_receiver.proofs.Limited.{none-keeps, completed-keeps}
 use Rattle.cfdp_receiver.proofs.receiver.Receiver.receive_data.Goals as goal
 
 pub returns-then-covers-clause-calls : goal.returns-then-covers-clause-calls
@@ -18,3 +20,10 @@ returns-clause-calls g c =
 
 pub overflow_add-end : goal.overflow_add-end
 overflow_add-end g c = omega (arith, c.exceeds.ensures.fits c.if-exceeds.false, limit_low c.args.large)
+
+pub returns-then-exceeds-clause-bounded : goal.returns-then-exceeds-clause-bounded
+returns-then-exceeds-clause-bounded g c = λ keeps. none-keeps c.args.most_gaps c.fault.new.self.held (ap (λ (r : ReceiverState). r.held) c.fault.ensures.receiver)
+
+pub returns-then-covers-clause-bounded : goal.returns-then-covers-clause-bounded
+returns-then-covers-clause-bounded g c = λ keeps.
+    completed-keeps c.args.most_gaps c.complete.result _ _ c.args.self.now c.complete.new.self c.complete.ensures.advances.does.receiver keeps

@@ -7,7 +7,10 @@ use Rattle.std.specs.FinSet.{contains}
 use Rattle.cfdp_extents.specs.Offsets.{Offsets}
 use Rattle.cfdp_receiver.proofs.Held.{held_with, held_below_with}
 use Rattle.cfdp_receiver.proofs.StagedLemmas.{keeps_unheld, ready_staged}
+use Rattle.cfdp_store.specs.Staged.{staged_for}
+use Rattle.cfdp_receiver.specs.Limit.{KeepsLimit}
 use Rattle.cfdp_receiver.proofs.Chains.{made-level, stops-stage}
+use Rattle.cfdp_receiver.proofs.Limited.{none-keeps, admitted-keeps, completed-keeps}
 use Rattle.cfdp_receiver.proofs.receiver.Receiver.receive_new.Goals as goal
 
 pub returns-in_err-insert-in-Done-clause-keeps : goal.returns-in_err-insert-in-Done-clause-keeps
@@ -73,3 +76,33 @@ stage-requires-clause-fits g c = omega (arith, c.requires.fits, limit_low c.args
 
 pub sums_with-sums-requires : goal.sums_with-sums-requires
 sums_with-sums-requires g c = record { fits = omega (arith, c.requires.fits, limit_low c.args.self.now.large) }
+
+pub returns-in_ok-insert-in-Done-clause-bounded : goal.returns-in_ok-insert-in-Done-clause-bounded
+returns-in_ok-insert-in-Done-clause-bounded g c = λ keeps.
+    completed-keeps c.args.most_gaps c.complete.result (staged_for (g.I.Inbox.staged c.stage.new.inbox) c.self.inside.addressing.id) (g.I.Inbox.published c.stage.new.inbox)
+    (record {
+      addressing = c.self.inside.addressing;
+      large = c.self.inside.large;
+      phase = c.self.inside.phase;
+      suspended = c.self.inside.suspended;
+      metadata = c.self.inside.metadata;
+      ending = c.self.inside.ending;
+      held = c.insert.new.self;
+      sums = c.sums_with-sums.result;
+      ack_due = c.self.inside.ack_due;
+      nak_cursor = c.self.inside.nak_cursor;
+      keep_alive_due = c.self.inside.keep_alive_due;
+      finished_due = c.self.inside.finished_due;
+      finished_taken = c.self.inside.finished_taken;
+      outcome = c.self.inside.outcome;
+      nak_count = 0;
+      finished_count = c.self.inside.finished_count;
+    })
+    c.complete.new.self c.complete.ensures.advances.does.receiver
+    (admitted-keeps c.args.most_gaps c.self.inside.held c.insert.new.self c.args.offset (c.args.offset + length c.args.bytes.now)
+    c.in_ok-insert-in-Done.ensures.ok
+    (sym c.if-not-is_admitted.false ∙ c.is_admitted.ensures)
+    (subst (λ (r : ReceiverState). KeepsLimit c.args.most_gaps r.held) (sym c.self.view_is) keeps))
+
+pub returns-in-Refused-clause-bounded : goal.returns-in-Refused-clause-bounded
+returns-in-Refused-clause-bounded g c = λ keeps. none-keeps c.args.most_gaps c.fault.new.self.held (ap (λ (r : ReceiverState). r.held) c.fault.ensures.receiver)

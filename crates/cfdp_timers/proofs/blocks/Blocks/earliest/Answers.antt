@@ -1,4 +1,4 @@
--- The earliest of the blocks' is that of all.
+-- The earliest of the blocks' is the earliest of all.
 use Rattle.std.proofs.Common.{ap, ◌∙◌}
 use Rattle.cfdp_timers.specs.Entries.{earliest_of}
 use Rattle.cfdp_timers.proofs.Firsts.{earliest-firsts}

@@ -1,4 +1,4 @@
--- A place more, where a block has room for it.
+-- One more index, if a block has room for it.
 use Rattle.std.proofs.Common.{◌*◌, ◌<◌, length, sym, subst}
 use Rattle.cfdp_timers.specs.Entries.{AreFirsts}
 use Rattle.cfdp_timers.proofs.Firsts.{firsts-push}

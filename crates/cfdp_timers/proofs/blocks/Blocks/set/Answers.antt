@@ -1,4 +1,4 @@
--- Before the write the place had the deadline that was read.
+-- Before the write the index had the deadline that was read.
 use Rattle.std.proofs.Common.{◌≡◌, None, set, get_or, sym, ap, subst, ◌∙◌, rules, arith}
 use Rattle.std.proofs.lemmas.List.{set-set, set-get_or}
 use Rattle.std.proofs.lemmas.Grind.{common_steps}

@@ -1,4 +1,4 @@
--- Those that the walk counts are those that are due, and no more than four of each transaction.
+-- The walk counts the due timers, and no more than four of each transaction.
 use Rattle.std.proofs.Common.{ap, ◌∙◌, max}
 use Rattle.cfdp_timers.specs.Due.{due_count}
 use Rattle.cfdp_timers.proofs.Distinct.{length-due-alarms}

@@ -1,4 +1,4 @@
--- Only one list is that of the timers that are due, and those are what is cleared.
+-- Only one list is the list of the due timers, and these are cleared.
 use Rattle.std.proofs.Common.{rules, arith}
 use Rattle.std.proofs.lemmas.Grind.{common_steps}
 use Rattle.cfdp_timers.specs.Due.{AreDue}

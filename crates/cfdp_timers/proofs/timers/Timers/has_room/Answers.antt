@@ -1,4 +1,4 @@
--- A transaction has room where the map has an entry for it.
+-- A transaction has room if the map has an entry for it.
 use Rattle.std.proofs.Common.{ap, ◌∙◌}
 use Rattle.std.specs.FinSet as set
 use Rattle.cfdp_timers.proofs.Kept.{has-room}

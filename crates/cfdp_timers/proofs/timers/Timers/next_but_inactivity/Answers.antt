@@ -1,4 +1,4 @@
--- The earliest of all but Inactivity's is the least deadline of the other kinds' timers.
+-- The earliest of all except Inactivity's is the least deadline of the other kinds' timers.
 use Rattle.std.proofs.Common.{sym, ap, subst, ◌∙◌}
 use Rattle.std.specs.Option.{MatchOption}
 use Rattle.cfdp_timers.specs.ButInactivity.{OnlyInactivity, IsLeastOther}

@@ -3,7 +3,7 @@ use Rattle.std.proofs.lemmas.List.{drop-drop}
 use Rattle.cfdp_directives.specs.Pdu.Codes.{file_size_octets}
 use Rattle.cfdp_directives.proofs.pdu.addressing.Addressing.write_data_front.Goals as goal
 
--- octets that stayed behind a place also stay behind a later one
+-- octets that stayed after an offset also stay after a later one
 stays : (old middle new : List ℕ) (at n end : ℕ) → end ≡ at + n → drop at middle ≡ drop at old → drop end new ≡ drop end middle → drop end new ≡ drop end old
 stays old middle new at n end is first second =
     let cut : drop (at + n) middle ≡ drop (at + n) old = sym (drop-drop n at middle) ∙ ap (λ (t : List ℕ). drop n t) first ∙ drop-drop n at old in

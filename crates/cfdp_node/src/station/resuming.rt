@@ -1,0 +1,414 @@
+//! Transfers that go on after a restart, by the journal of the station.
+use crate::station::{outbox_of, side_of, state_path};
+use crate::transfers::teller::{Teller, note};
+use cfdp_command_line::StationRequest;
+use cfdp_directives::{Addressing, Indication};
+use cfdp_exchange::{Exchange, NoteTopic};
+use cfdp_files::{HeldFolder, LockError, is_same_folder, lies_in};
+use cfdp_header::TransactionId;
+use cfdp_port::{Lookout, PeerWire, Port};
+use cfdp_report::{Name, cause_text};
+use cfdp_service::{
+    Clerk, Console, Ended, PutNames, ServiceEnds, ServiceOptions, Spool, User, run_restored,
+};
+use cfdp_station::RestoreError;
+use cfdp_store::{ResumingInbox, SeekingOutbox};
+use station_pair::WorldConfig;
+use std::alloc::AllocError;
+use std::cell::Cell;
+use std::collections::BTreeSet;
+use std::os::unix::fs::MetadataExt;
+use std::{fmt, fs};
+use transfer_journal::{
+    KeptEnd, Owner, PublishRules, Restored, Resumed, Survey, SurveyError, TransferJournal,
+    publish_again, read_survey, restore,
+};
+use valid_config::Valid;
+
+/// The exit status of bad arguments.
+const MISTAKE: u8 = 2;
+
+/// The exit status if a folder, a file, a socket or memory failed.
+const DEVICE: u8 = 3;
+
+/// What a journal says, until the station is there on which that is restored.
+#[derive(Drop)]
+pub struct Found {
+    survey: Cell<Option<Survey>>,
+    /// Whose the journal is from now on.
+    pub owner: Owner,
+}
+
+impl Found {
+    /// Returns the names of the parts of files that go on.
+    pub fn part_names(&self, rt: &HostRuntime) -> BTreeSet<String> {
+        match self.survey.take() {
+            Some(survey) => {
+                let names = kept_parts(rt, &survey);
+                self.survey.set(Some(survey));
+                names
+            }
+            None => BTreeSet::new(rt.alloc()),
+        }
+    }
+
+    /// Checks that the first put gets a number that no transaction of the journal has.
+    ///
+    /// # Errors
+    ///
+    /// The exit status if it doesn't, as standard error says.
+    pub fn check_number(
+        &self,
+        rt: &HostRuntime,
+        request: &StationRequest,
+        number: u64,
+    ) -> Result<(), u8> {
+        let Some(survey) = self.survey.take() else {
+            return Ok(());
+        };
+        let greatest = survey.greatest_number(request.numbers.id);
+        self.survey.set(Some(survey));
+        match greatest {
+            Some(used) if used >= number => {
+                let own = request.numbers.id;
+                let _ = eprintln!(rt;
+                    "error: transaction number {number} was used: the journal has {own}:{used} \
+                     (leave --first-number out, or name the state file of that journal)"
+                );
+                Err(MISTAKE)
+            }
+            Some(_) | None => Ok(()),
+        }
+    }
+
+    /// Returns what was found, once.
+    pub fn take(&self) -> Option<Survey> {
+        self.survey.take()
+    }
+}
+
+/// Reads the journal of the station, if it has one. A damaged one is set aside, and the station
+/// starts without.
+///
+/// # Errors
+///
+/// The exit status if it can't be used, as standard error says.
+pub fn found_journal(
+    rt: &HostRuntime,
+    request: &StationRequest,
+    config: Valid<WorldConfig>,
+    exchange: &Exchange,
+) -> Result<Found, u8> {
+    let mut owner = Owner {
+        entity: request.numbers.id,
+        peer: request.numbers.peer,
+        start: 1,
+    };
+    let survey = match &request.journal {
+        Some(path) => {
+            check_place(rt, request, path.as_str())?;
+            let addressing = addressing_of(request, config);
+            match read_survey(rt, path.as_str(), owner, addressing) {
+                Ok(survey) => with_changes(rt, request, path.as_str(), survey),
+                Err(SurveyError::Damaged) => {
+                    tell_damaged(rt, path.as_str(), exchange);
+                    None
+                }
+                Err(error) => return Err(tell_unusable(rt, path.as_str(), &error)),
+            }
+        }
+        None => None,
+    };
+    if let Some(found) = survey.as_ref().and_then(|survey| survey.owner()) {
+        owner.start = found.start.saturating_add(1);
+    }
+    Ok(Found {
+        survey: Cell::new(survey),
+        owner,
+    })
+}
+
+/// Notes in what a journal says which files to send changed after it was written last: the station
+/// didn't run then. It must be called before anything renames these files.
+fn with_changes(
+    rt: &HostRuntime,
+    request: &StationRequest,
+    path: &str,
+    survey: Option<Survey>,
+) -> Option<Survey> {
+    let mut survey = survey?;
+    if let Some(folder) = outbox_of(request)
+        && let Ok(journal) = fs::symlink_metadata(rt, path)
+    {
+        let written = (journal.mtime(), journal.mtime_nsec());
+        for transfer in survey.transfers_mut() {
+            if let Some(transfer) = transfer
+                && let KeptEnd::Sends(sender) = &mut transfer.end
+                && is_newer(rt, folder, sender.transfer.source.as_slice(), written)
+            {
+                sender.changes();
+            }
+        }
+    }
+    Some(survey)
+}
+
+/// Returns `true` if a file of this name is there that changed, or got this name, after that time.
+fn is_newer(rt: &HostRuntime, folder: &str, name: &[u8], then: (i64, i64)) -> bool {
+    let Ok(name) = str::from_utf8(name) else {
+        return false;
+    };
+    let Ok(path) = format!(in rt.alloc(); "{folder}/{name}") else {
+        return false;
+    };
+    match fs::symlink_metadata(rt, path.as_str()) {
+        Ok(file) => (file.ctime(), file.ctime_nsec()) > then,
+        Err(_) => false,
+    }
+}
+
+/// Returns how a file of the peer is addressed if only its name is known: as those that this
+/// station sends.
+fn addressing_of(request: &StationRequest, config: Valid<WorldConfig>) -> Addressing {
+    let own = WorldConfig::station(config, side_of(request)).get().entity;
+    Addressing {
+        id: TransactionId {
+            source: own.peer,
+            number: 0,
+        },
+        destination: own.entity,
+        id_width: own.id_width,
+        number_width: own.number_width,
+        crc: own.pdu_crc,
+    }
+}
+
+/// Looks whether the journal lies out of the peer's reach, isn't sent, and isn't the state file.
+fn check_place(rt: &HostRuntime, request: &StationRequest, path: &str) -> Result<(), u8> {
+    if is_state_file(rt, request, path) {
+        let _ = eprintln!(rt;
+            "error: {path}: the state file of this station: choose another file with --journal"
+        );
+        return Err(MISTAKE);
+    }
+    if let Some(spool) = &request.spool
+        && lies_in(rt, path, spool.as_str())
+    {
+        let _ = eprintln!(rt;
+            "error: {path}: lies in the spool {spool}, whose files are sent: choose another file \
+             with --journal"
+        );
+        return Err(MISTAKE);
+    }
+    if let Some(inbox) = &request.inbox
+        && lies_in(rt, path, inbox.as_str())
+    {
+        let _ = eprintln!(rt;
+            "error: {path}: lies in the inbox {inbox}, where the peer can replace it: choose \
+             another file with --journal"
+        );
+        return Err(MISTAKE);
+    }
+    Ok(())
+}
+
+/// Returns `true` if the state file of the station has this path, or is the file that is there.
+fn is_state_file(rt: &HostRuntime, request: &StationRequest, path: &str) -> bool {
+    match state_path(rt, request) {
+        Some(state) => {
+            state.as_str() == path || matches!(is_same_folder(rt, state.as_str(), path), Ok(true))
+        }
+        None => false,
+    }
+}
+
+/// Says that a journal was damaged.
+fn tell_damaged(rt: &HostRuntime, path: &str, exchange: &Exchange) {
+    let text = format!(in rt.alloc();
+        "{path}: damaged: it is kept as {path}.damaged, and no transfer goes on"
+    );
+    note(rt, &exchange.notes, NoteTopic::Journal, text);
+}
+
+/// Says why a journal can't be used. Answers the exit status.
+fn tell_unusable(rt: &HostRuntime, path: &str, error: &SurveyError) -> u8 {
+    match error {
+        SurveyError::OfOthers(entity, peer) => {
+            let _ = eprintln!(rt;
+                "error: {path}: the journal of entity {entity} with peer {peer}: choose another \
+                 file with --journal"
+            );
+            MISTAKE
+        }
+        SurveyError::File(LockError::InUse) => {
+            let _ = eprintln!(rt; "error: {path}: in use by another station");
+            DEVICE
+        }
+        SurveyError::File(LockError::System(error)) => {
+            let _ = eprintln!(rt; "error: {path}: {}", cause_text(error.kind()));
+            DEVICE
+        }
+        SurveyError::Damaged => DEVICE,
+    }
+}
+
+/// Takes the folder of the inbox, without what earlier runs left there, except for the parts of
+/// files that go on. Files that were about to be published are published.
+///
+/// # Errors
+///
+/// The exit status if it can't be had, as standard error says.
+pub fn held_folder(
+    rt: &HostRuntime,
+    request: &StationRequest,
+    path: &str,
+    found: &Found,
+) -> Result<HeldFolder, u8> {
+    let Some(mut survey) = found.take() else {
+        return HeldFolder::take(rt, path);
+    };
+    let held = HeldFolder::take_with(rt, path, &kept_parts(rt, &survey))?;
+    let rules = PublishRules {
+        folder: path,
+        replaces: !request.flags.no_overwrite,
+        most_size: request.limits.most_size,
+        names: request.names,
+    };
+    publish_again(rt, &mut survey, rules);
+    found.survey.set(Some(survey));
+    Ok(held)
+}
+
+/// Returns the names of the parts that are still needed; none if there is no memory for them.
+fn kept_parts(rt: &HostRuntime, survey: &Survey) -> BTreeSet<String> {
+    match survey.part_names() {
+        Ok(names) => names,
+        Err(AllocError) => BTreeSet::new(rt.alloc()),
+    }
+}
+
+/// Makes a station on which what the journal says goes on, and has it serve its clerk.
+///
+/// # Errors
+///
+/// `AllocError` if there is no memory for the station, or for what goes on.
+pub fn run_resumed<O, I, W, S, C, L>(
+    rt: &HostRuntime,
+    teller: Teller<'_>,
+    options: ServiceOptions,
+    ends: ServiceEnds<O, I, W>,
+    journal: (&TransferJournal<'_>, Survey),
+    clerk: &mut Clerk<S, C>,
+    lookout: &mut L,
+) -> Result<Ended, AllocError>
+where
+    O: SeekingOutbox,
+    I: ResumingInbox,
+    W: PeerWire,
+    S: Spool,
+    C: Console,
+    L: Lookout,
+{
+    let ServiceEnds {
+        outbox,
+        inbox,
+        wire,
+    } = ends;
+    let (journal, survey) = journal;
+    let alloc = rt.alloc();
+    let mut port = Port::new(alloc, options.side, options.config, (outbox, inbox), wire)?;
+    port.count_frames_from(options.frame_count);
+    let restored = restore(alloc, &mut port, survey)?;
+    tell_restored(rt, teller, &restored);
+    let pending = take_back(clerk, restored);
+    journal.begins(port.station(), pending.as_slice());
+    let ended = run_restored(&mut port, clerk, lookout);
+    drop(port);
+    ended.ok_or(AllocError)
+}
+
+/// Gives a clerk back the puts that go on, and lets it hear what it may not have heard: that is
+/// returned.
+fn take_back<S: Spool, C: Console>(clerk: &mut Clerk<S, C>, restored: Restored) -> Vec<Indication> {
+    let Restored {
+        resumed,
+        pending,
+        ..
+    } = restored;
+    for one in resumed {
+        take_back_one(clerk, one);
+    }
+    hear_all(clerk, pending.as_slice());
+    pending
+}
+
+/// Gives a clerk back a put that goes on, or whose end it may not have heard.
+fn take_back_one<S: Spool, C: Console>(clerk: &mut Clerk<S, C>, one: Resumed) {
+    let Resumed {
+        id,
+        name,
+        destination,
+        is_taken_back,
+        ..
+    } = one;
+    if is_taken_back {
+        let names = PutNames {
+            source: name,
+            destination,
+        };
+        clerk.takes_back(id, names);
+    }
+}
+
+fn hear_all<S: Spool, C: Console>(clerk: &mut Clerk<S, C>, pending: &[Indication]) {
+    for indication in pending {
+        clerk.hears(indication);
+    }
+}
+
+/// Says which transfers go on, and which don't.
+fn tell_restored(rt: &HostRuntime, teller: Teller<'_>, restored: &Restored) {
+    for one in &restored.resumed {
+        if one.is_open {
+            tell_resumed(rt, teller, one);
+        }
+    }
+    tell_all_lost(rt, teller, restored.lost.as_slice());
+}
+
+/// Says which transfers don't go on, and why.
+fn tell_all_lost(rt: &HostRuntime, teller: Teller<'_>, lost: &[(TransactionId, RestoreError)]) {
+    for (id, error) in lost {
+        let TransactionId { source, number } = *id;
+        let text = format!(in rt.alloc(); "transaction {source}:{number} doesn't go on: {error}");
+        teller.notes(NoteTopic::Journal, text);
+    }
+}
+
+/// Octets of a file of so many.
+#[derive(Clone, Copy)]
+struct Share {
+    octets: u64,
+    size: Option<u64>,
+}
+
+impl fmt::Display for Share {
+    fn fmt<W: fmt::Write>(&self, f: &mut fmt::Formatter<W>) -> fmt::Result {
+        let octets = self.octets;
+        match self.size {
+            Some(size) => write!(f, "{octets} of {size} octets"),
+            None => write!(f, "{octets} octets"),
+        }
+    }
+}
+
+fn tell_resumed(rt: &HostRuntime, teller: Teller<'_>, one: &Resumed) {
+    let TransactionId { source, number } = one.id;
+    let name = Name(one.name.as_slice());
+    let share = Share {
+        octets: one.octets,
+        size: one.size,
+    };
+    let text = format!(in rt.alloc(); "resumed {source}:{number} {name} at {share}");
+    teller.notes(NoteTopic::Journal, text);
+}

@@ -1,0 +1,6 @@
+mod Standing
+mod Ordering
+mod Growing
+mod Counting
+mod Completing
+mod Late

@@ -1,0 +1,234 @@
+//! A station on which the transactions of a journal are restored.
+use crate::kept::{KeptEnd, KeptReceiver, KeptSender, KeptTransfer, PendingEnd};
+use crate::survey::{ForgottenRange, Survey};
+use cfdp_directives::{Condition, Indication, Octets};
+use cfdp_extents::Extents;
+use cfdp_header::TransactionId;
+use cfdp_port::{PeerWire, Port};
+use cfdp_receiver::{CommittedReceiver, FileInfo};
+use cfdp_sender::{CommittedSender, SenderPhase, Transfer};
+use cfdp_station::RestoreError;
+use cfdp_store::{ResumingInbox, SeekingOutbox};
+use std::alloc::{AllocError, Global};
+
+/// A transaction that goes on.
+#[derive(Debug, Drop)]
+pub struct Resumed {
+    /// Which it is.
+    pub id: TransactionId,
+    /// The file's name: in the outbox, or in the inbox; empty if it isn't known.
+    pub name: Vec<u8>,
+    /// The name of a file that is sent at the peer; empty if the file is received.
+    pub destination: Vec<u8>,
+    /// Octets that were sent, or are held.
+    pub octets: u64,
+    /// Octets of the file, if they are known.
+    pub size: Option<u64>,
+    /// Whether it is open: its file isn't whole at the peer, or not acknowledged.
+    pub is_open: bool,
+    /// Whether the user takes it back: it is a put that is open, or whose end the user may not have
+    /// heard, as long as no other file has its name by now.
+    pub is_taken_back: bool,
+}
+
+/// What became of the transactions of a journal.
+#[derive(Drop)]
+pub struct Restored {
+    alloc: Global,
+    /// Those that go on.
+    pub resumed: Vec<Resumed>,
+    /// Those that don't, and why.
+    pub lost: Vec<(TransactionId, RestoreError)>,
+    /// What the user may not have heard.
+    pub pending: Vec<Indication>,
+}
+
+/// Restores the transactions of a journal on a station that was just made.
+///
+/// # Errors
+///
+/// `AllocError` if there is no memory to say what became of them: some may be restored by then.
+pub fn restore<O: SeekingOutbox, I: ResumingInbox, W: PeerWire>(
+    alloc: Global,
+    port: &mut Port<O, I, W>,
+    survey: Survey,
+) -> Result<Restored, AllocError> {
+    let mut restored = Restored {
+        alloc,
+        resumed: Vec::new(alloc),
+        lost: Vec::new(alloc),
+        pending: Vec::new(alloc),
+    };
+    for range in survey.forgotten() {
+        let ForgottenRange { source, start, end } = *range;
+        if port.restore_forgotten(source, start, end).is_err() {
+            let id = TransactionId {
+                source,
+                number: start,
+            };
+            restored.lost.push((id, RestoreError::NotOurs))?;
+        }
+    }
+    for transfer in survey.into_transfers() {
+        if let Some(transfer) = transfer {
+            restored.restores(port, transfer)?;
+        }
+    }
+    Ok(restored)
+}
+
+impl Restored {
+    /// Restores a transaction.
+    fn restores<O: SeekingOutbox, I: ResumingInbox, W: PeerWire>(
+        &mut self,
+        port: &mut Port<O, I, W>,
+        transfer: KeptTransfer,
+    ) -> Result<(), AllocError> {
+        let KeptTransfer { id, end, pending } = transfer;
+        let (resumed, answer) = match end {
+            KeptEnd::Sends(sender) => self.sender(port, sender, pending.is_some())?,
+            KeptEnd::Receives(receiver) => self.receiver(port, receiver)?,
+        };
+        match answer {
+            Ok(()) => self.resumed.push(resumed)?,
+            Err(error) => self.lost.push((id, error))?,
+        }
+        if let Some(end) = pending {
+            self.pending.push(indication_of(id, end))?;
+        }
+        Ok(())
+    }
+
+    /// Restores the record of a file that is sent. If the file isn't there any more as it was, the
+    /// transaction is cancelled for that.
+    fn sender<O: SeekingOutbox, I: ResumingInbox, W: PeerWire>(
+        &self,
+        port: &mut Port<O, I, W>,
+        sender: KeptSender,
+        is_pending: bool,
+    ) -> Result<(Resumed, Result<(), RestoreError>), AllocError> {
+        let transfer = &sender.transfer;
+        let sent = sender.sent.min(transfer.size);
+        let resumed = Resumed {
+            id: transfer.addressing.id,
+            name: Vec::from_slice(self.alloc, transfer.source.as_slice())?,
+            destination: Vec::from_slice(self.alloc, transfer.destination.as_slice())?,
+            octets: sent,
+            size: Some(transfer.size),
+            is_open: !sender.is_closed,
+            is_taken_back: !sender.is_closed || is_pending && !sender.is_changed,
+        };
+        let spare = cancelled(copied(self.alloc, transfer)?, sender.eof_taken);
+        let is_sending = !sender.is_closed && sender.cancelled_for.is_none();
+        if is_sending {
+            let _ = port.look_for(resumed.name.as_slice());
+        }
+        let sent = if is_sending { sent } else { 0 };
+        let answer = match port.restore_sender(sender.committed(), sent) {
+            Err(RestoreError::SourceFault | RestoreError::NoSuchFile | RestoreError::OtherSize) =>
+                port.restore_sender(spare, 0),
+            answer => answer,
+        };
+        Ok((resumed, answer))
+    }
+
+    /// Restores the record of a file that is received. If its part isn't there any more as far as
+    /// it was held, the whole file is received again.
+    fn receiver<O: SeekingOutbox, I: ResumingInbox, W: PeerWire>(
+        &self,
+        port: &mut Port<O, I, W>,
+        receiver: KeptReceiver,
+    ) -> Result<(Resumed, Result<(), RestoreError>), AllocError> {
+        let (committed, held) = receiver.committed();
+        let mut resumed = Resumed {
+            id: committed.addressing.id,
+            name: Vec::new(self.alloc),
+            destination: Vec::new(self.alloc),
+            octets: octets_in(&held),
+            size: committed.ending.map(|ending| ending.size),
+            is_open: committed.outcome.is_none(),
+            is_taken_back: false,
+        };
+        if let Some(info) = &committed.metadata {
+            resumed.name = Vec::from_slice(self.alloc, info.destination.as_slice())?;
+        }
+        let spare = copied_receiver(self.alloc, &committed)?;
+        let answer = match port.restore_receiver(committed, held) {
+            Err(RestoreError::ShortPart) => {
+                resumed.octets = 0;
+                port.restore_receiver(spare, Extents::new(self.alloc))
+            }
+            answer => answer,
+        };
+        Ok((resumed, answer))
+    }
+}
+
+/// Returns how many offsets are held.
+fn octets_in(held: &Extents) -> u64 {
+    let mut octets: u64 = 0;
+    for (start, end) in held.ranges() {
+        octets = octets.saturating_add(end.saturating_sub(start));
+    }
+    octets
+}
+
+/// Returns a sender that is cancelled since its file isn't there any more.
+fn cancelled(transfer: Transfer, eof_taken: bool) -> CommittedSender {
+    CommittedSender {
+        transfer,
+        phase: SenderPhase::Cancelling,
+        suspended: false,
+        eof_taken,
+        acknowledged: false,
+        condition: Condition::FILESTORE_REJECTION,
+    }
+}
+
+/// Returns a copy of what is sent.
+fn copied(alloc: Global, transfer: &Transfer) -> Result<Transfer, AllocError> {
+    Ok(Transfer {
+        addressing: transfer.addressing,
+        checksum_kind: transfer.checksum_kind,
+        segment: transfer.segment,
+        source: Octets::copied(alloc, transfer.source.as_slice())?,
+        destination: Octets::copied(alloc, transfer.destination.as_slice())?,
+        size: transfer.size,
+    })
+}
+
+/// Returns a copy of what is kept of a receiver.
+fn copied_receiver(
+    alloc: Global,
+    kept: &CommittedReceiver,
+) -> Result<CommittedReceiver, AllocError> {
+    let metadata = match &kept.metadata {
+        Some(info) => Some(FileInfo {
+            checksum_kind: info.checksum_kind,
+            destination: Octets::copied(alloc, info.destination.as_slice())?,
+        }),
+        None => None,
+    };
+    Ok(CommittedReceiver {
+        addressing: kept.addressing,
+        large: kept.large,
+        phase: kept.phase,
+        suspended: kept.suspended,
+        metadata,
+        ending: kept.ending,
+        outcome: kept.outcome,
+    })
+}
+
+/// Returns what the user hears of an end.
+fn indication_of(id: TransactionId, end: PendingEnd) -> Indication {
+    match end {
+        PendingEnd::Finished(outcome) => Indication::Finished {
+            id,
+            condition: outcome.condition,
+            delivery: outcome.delivery,
+            status: outcome.status,
+        },
+        PendingEnd::Abandoned(condition) => Indication::Abandoned(id, condition),
+    }
+}
