@@ -8,6 +8,7 @@ import struct
 
 from kills import Disk
 from lib.choices import chance_of
+from lib.control import asked, controlled
 from lib.links import Link, Relay
 from lib.pdus import METADATA
 from lib.processes import files_at
@@ -565,10 +566,30 @@ def stuck_mistakes(program):
         it = pair.starts(1, faults="file-size=4096 stays=journal")
         pair.drops(files)
         status, _, err = it.ended()
-        # It is 0 if no put was open at that moment.
         told = "note: journal: file too large, and it can't be removed: the station stops\n"
-        if status not in (0, 1) or not err.endswith(told):
+        if status != 3 or not err.endswith(told):
             yield f"it ended with status {status}, {err!r}"
+
+
+def cancel_mistakes(program):
+    """What is wrong where a station is killed right before its journal has that a put is cancelled:
+    the operator must not have heard then that it is."""
+    for turn in range(1, MOST_CALLS):
+        with Link(program, Counting(turn, lost=0, most={1: 2_000})) as link:
+            pair = Pair(link, every=3_600_000)
+            pair.drops({"a": bytes(3_000_000)})
+            words = [*pair.words, "--spool", "from"]
+            it, port = controlled(link, 1, words, STEADY, faults=f"before=sync:{turn}:journal")
+            waits_for(lambda: link.relay.holds or it.process.poll() is not None)
+            if it.process.poll() is None:
+                (number,) = link.relay.numbers[1, "a"]
+                status, out, _ = asked(program, port, "cancel", f"1:{number}")
+                if status == 0:
+                    yield f"it answered {out!r}"
+                if not waits_for(lambda: it.process.poll() is not None):
+                    yield "it wasn't killed"
+                return
+    yield "it was killed before each cancellation"
 
 
 def stale_mistakes(program):
@@ -646,6 +667,7 @@ def all_mistakes(program):
     yield "journals that can't grow", full_mistakes(program)
     yield "a journal that can't grow and can't be removed", stuck_mistakes(program)
     yield "a journal that a start can't write", stale_mistakes(program)
+    yield "a cancellation that the journal doesn't have yet", cancel_mistakes(program)
     left = "after=rename:1:.leaving/a"
     yield "a journal, and a file that changes before it goes on", changed_mistakes(program, "")
     yield "a journal, and a file that comes after it was sent", changed_mistakes(program, left)

@@ -820,5 +820,9 @@ fn ran_status<'a>(
     };
     let ran = ran(context, parts, spool);
     tell_untold(rt, ran.exit, &told);
-    shown_status(rt, &request.shown, &ran)
+    let status = shown_status(rt, &request.shown, &ran);
+    match &journal {
+        Some(journal) if journal.is_stuck() => DEVICE,
+        Some(_) | None => status,
+    }
 }

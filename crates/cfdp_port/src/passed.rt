@@ -4,8 +4,8 @@ use cfdp_station::Polled;
 /// What passed at a station that takes turns over a wire.
 #[derive(Clone, Copy)]
 pub enum Passed<'a> {
-    /// It accepted a put.
-    Put,
+    /// It accepted a put, or did what was asked of a transaction.
+    Asked,
     /// It was given the time.
     Ticked(u64),
     /// It was polled, and answered so.

@@ -1,9 +1,13 @@
 //! A station on a wire, with all that its turns need.
-ghost use Rattle.std.specs.Prelude.{◌≡◌, drop, is_some, IfErr, IfOk, OnErr, OnOk};
+ghost use Rattle.std.specs.Prelude.{◌≡◌, drop, is_some, true, IfErr, IfOk, OnErr, OnOk};
 ghost use Rattle.std.specs.FinMap as map;
-ghost use Rattle.cfdp_entity.specs.Entity.{phase_told};
+ghost use Rattle.cfdp_store.specs.Stores.{failures_after};
+ghost use Rattle.cfdp_entity.specs.Entity.{entity_lent, phase_told};
 ghost use Rattle.cfdp_entity.specs.Restoring.{ForgottenCause, ReceiverCause, RestoresReceiver};
 ghost use Rattle.cfdp_entity.specs.Restoring.{RestoresSender, SenderCause, with_forgotten};
+ghost use Rattle.cfdp_entity.specs.Restoring.{was_read, was_shown};
+ghost use Rattle.cfdp_entity.specs.Table.{ShowsIf};
+ghost use Rattle.cfdp_station.specs.Station.{KeepsLink};
 ghost use Rattle.cfdp_station.specs.Requests.{StationAnswers};
 ghost use Rattle.cfdp_station.specs.New.{IsNewAt};
 ghost use Rattle.cfdp_port.specs.Asking.{CountsFrom, FailsToLook, ForgetsTold, LetsGo, LooksAt};
@@ -121,6 +125,15 @@ impl<O: Outbox, I: Inbox, W: Wire> Port<O, I, W> {
             self.old.station.entity.state self.new.station.entity.state) }
         ensures refused { IfErr result (λ by. SenderCause by kept sent
             self.old.station.entity.state) }
+        ensures err { OnErr result (self.new.station.entity.state
+            ≡ entity_lent self.new.station.entity.state self.old.station.entity.state) }
+        ensures shows { ShowsIf true self.old.station.entity.state.table
+            self.new.station.entity.state.table }
+        ensures outbox { self.new.station.entity.outbox_failures
+            ≡ failures_after self.old.station.entity.outbox_failures (was_read result) }
+        ensures inbox { self.new.station.entity.inbox_failures
+            ≡ self.old.station.entity.inbox_failures }
+        ensures link { KeepsLink self.old.station self.new.station }
         ensures wire { self.new.wire ≡ self.old.wire }
     {
         self.station.restore_sender(kept, sent)
@@ -138,11 +151,14 @@ impl<O: Outbox, I: Inbox, W: Wire> Port<O, I, W> {
         start: u64,
         end: u64,
     ) -> Result<(), RestoreError>
-        ensures restored { OnOk result (self.new.station.entity.state
-            ≡ with_forgotten source start end self.old.station.entity.state) }
+        ensures restored { OnOk result (self.new.station.entity
+            ≡ record self.old.station.entity {
+              state = with_forgotten source start end self.old.station.entity.state;
+            }) }
         ensures refused { IfErr result (λ by. ForgottenCause by source end
             self.old.station.entity.state) }
         ensures err { OnErr result (self.new ≡ self.old) }
+        ensures link { KeepsLink self.old.station self.new.station }
         ensures wire { self.new.wire ≡ self.old.wire }
     {
         self.station.restore_forgotten(source, start, end)
@@ -211,23 +227,33 @@ impl<O: Outbox, I: Inbox, W: Wire> Port<O, I, W> {
         an_entity_goes_on();
         let answer = self.station.put(source, destination);
         match answer {
-            Ok(_) => lookout.sees(self.side, Passed::Put, &self.station),
+            Ok(_) => lookout.sees(self.side, Passed::Asked, &self.station),
             Err(_) => {}
         }
         answer
     }
 
-    /// Does what is asked of a transaction, as [`Station::request`] says.
+    /// Does what is asked of a transaction, as [`Station::request`] says, which is shown if it does.
     ///
     /// # Errors
     ///
     /// If [`Station::request`] refuses it.
-    pub fn request(&mut self, id: TransactionId, request: Request) -> Result<(), RequestError>
+    pub fn request<L: Lookout>(
+        &mut self,
+        id: TransactionId,
+        request: Request,
+        lookout: &mut L,
+    ) -> Result<(), RequestError>
         ensures answers { AtStation (StationAnswers request id result) self.old self.new }
         ensures gains { Gains (table_of self.old.station) (table_of self.new.station) }
     {
         an_entity_goes_on();
-        self.station.request(id, request)
+        let answer = self.station.request(id, request);
+        match answer {
+            Ok(()) => lookout.sees(self.side, Passed::Asked, &self.station),
+            Err(_) => {}
+        }
+        answer
     }
 
     /// Discards the records of all transactions that are over, as far as there is memory to note
@@ -332,6 +358,13 @@ impl<O: Outbox, I: ResumingInbox, W: Wire> Port<O, I, W> {
             self.old.station.entity.state self.new.station.entity.state) }
         ensures refused { IfErr result (λ by. ReceiverCause by kept held
             self.old.station.entity.state) }
+        ensures err { OnErr result (self.new.station.entity.state
+            ≡ self.old.station.entity.state) }
+        ensures inbox { self.new.station.entity.inbox_failures
+            ≡ failures_after self.old.station.entity.inbox_failures (was_shown result) }
+        ensures outbox { self.new.station.entity.outbox_failures
+            ≡ self.old.station.entity.outbox_failures }
+        ensures link { KeepsLink self.old.station self.new.station }
         ensures wire { self.new.wire ≡ self.old.wire }
     {
         self.station.restore_receiver(kept, held)

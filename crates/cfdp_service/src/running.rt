@@ -1,5 +1,5 @@
 //! A whole service: a station is made, and serves its user to the end.
-ghost use Rattle.std.specs.Prelude.{◌≡◌, List, IfNone, IfOk, IfSome};
+ghost use Rattle.std.specs.Prelude.{◌≡◌, ◌<◌, List, IfNone, IfOk, IfSome};
 ghost use Rattle.cfdp_port.specs.Port.{table_of};
 ghost use Rattle.cfdp_service.specs.Calls.{Chain, UserCall};
 ghost use Rattle.cfdp_service.specs.Serving.{Ran, Serves, has_failed};
@@ -68,7 +68,7 @@ pub fn run<O: SeekingOutbox, I: Inbox, W: PeerWire, U: User, L: Lookout>(
     Ok(ended)
 }
 
-/// Has a station serve its user as [`run`] does, on which what an earlier run left open was restored.
+/// Has a station serve its user as [`run`] does, after what an earlier run left open was restored.
 /// Returns `None`, and does nothing, if the station has discarded an indication by now.
 pub fn run_restored<O: SeekingOutbox, I: Inbox, W: PeerWire, U: User, L: Lookout>(
     port: &mut Port<O, I, W>,
@@ -79,7 +79,8 @@ pub fn run_restored<O: SeekingOutbox, I: Inbox, W: PeerWire, U: User, L: Lookout
         × Serves W.steps ended.is_short calls port.old port.new
         × Chain U.steps calls user.old user.new
         × (ended.has_failed ≡ has_failed port.old.station port.new.station)) }
-    ensures none { IfNone result ((port.new ≡ port.old) × (user.new ≡ user.old)) }
+    ensures none { IfNone result ((0 < (table_of port.old.station).gone)
+        × (port.new ≡ port.old) × (user.new ≡ user.old)) }
 {
     if port.station().indications_gone() > 0 {
         return None;

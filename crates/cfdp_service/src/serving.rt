@@ -169,7 +169,7 @@ fn fulfil<O: SeekingOutbox, I: Inbox, W: PeerWire, L: Lookout>(
 {
     match wish {
         Wish::Put(names) => Reply::Put(put_file(port, names, lookout)),
-        Wish::Change(id, request) => Reply::Change(port.request(*id, *request)),
+        Wish::Change(id, request) => Reply::Change(port.request(*id, *request, lookout)),
     }
 }
 

@@ -351,7 +351,7 @@ impl<'a> Seen<'a> {
 /// those that it sends.
 fn note_frame(passed: Passed<'_>, own: &mut Watch, other: &mut Watch, log: &mut Log) {
     match passed {
-        Passed::Put | Passed::Ticked(_) | Passed::Polled(_) => {}
+        Passed::Asked | Passed::Ticked(_) | Passed::Polled(_) => {}
         Passed::Left {
             lane,
             frame,

@@ -133,7 +133,7 @@ impl<'a> TransferJournal<'a> {
                 self.commits(station);
                 self.tries_again(station);
             }
-            Passed::Put => self.commits(station),
+            Passed::Asked => self.commits(station),
             Passed::Polled(_) => {
                 if self.lacks_eof(station) {
                     self.commits(station);

@@ -661,7 +661,7 @@ impl Lookout for Notices<'_> {
                 }
                 self.tells(now, station);
             }
-            Passed::Put | Passed::Polled(_) => {}
+            Passed::Asked | Passed::Polled(_) => {}
         }
         self.lookout.sees(side, passed, station);
     }
