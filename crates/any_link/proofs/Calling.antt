@@ -246,7 +246,7 @@ said_heard (Hears indication) calls told said a = absurd said
 said_heard (Intends intent) calls told said a = heard_more calls (Intends intent ∷ []) told a (λ i has. none_heard told i has)
 said_heard Ends calls told said a = heard_more calls (Ends ∷ []) told a (λ i has. none_heard told i has)
 
-hears_all : (all : List Indication) → heard_by (map Hears all) ≡ all
+pub hears_all : (all : List Indication) → heard_by (map Hears all) ≡ all
 hears_all [] = refl
 hears_all (i ∷ all) = ap (λ l. i ∷ l) (hears_all all)
 

@@ -1,20 +1,20 @@
-mod Standing
-mod Sounds
-mod Holding
-mod Telling
+pub mod Standing
+pub mod Sounds
+pub mod Holding
+pub mod Telling
 mod Turning
-mod Hearing
+pub mod Hearing
 mod Transmitting
-mod Doing
-mod Promising
-mod Inboxing
-mod Calling
-mod Knowing
+pub mod Doing
+pub mod Promising
+pub mod Inboxing
+pub mod Calling
+pub mod Knowing
 mod Lasting
-mod Sending
-mod Lying
+pub mod Sending
+pub mod Lying
 mod Wishing
 mod Readying
 mod Shading
-mod Reaching
+pub mod Reaching
 mod Ending

@@ -14,7 +14,7 @@ use Rattle.cfdp_header.specs.declared.value.TransactionId.{TransactionId}
 use Rattle.cfdp_header.specs.Files.{FileMap}
 use Rattle.cfdp_header.specs.Ids.{same_id}
 use Rattle.cfdp_directives.specs.declared.user.indication.Indication.{Indication}
-use Rattle.cfdp_directives.specs.User.Completions.{FinishedOnce, completions, is_finished}
+use Rattle.cfdp_directives.specs.User.Completions.{FinishedOnce, IsToldComplete, completions, is_finished}
 use Rattle.cfdp_directives.specs.User.Put.{Put, inbox_after, overwritten}
 use Rattle.cfdp_directives.proofs.Puts.{count_by-append, inbox_after-append}
 use Rattle.cfdp_entity.specs.Sound.{FindsById}
@@ -36,7 +36,7 @@ use Rattle.any_link.proofs.Calling.{IsPut, accepts_put}
 use Rattle.any_link.proofs.Doing.{AllLaws}
 use Rattle.any_link.proofs.Inboxing.{all_told, in_one}
 use Rattle.any_link.proofs.Knowing.{AreKnown, Known, delivered, served_known, went_known, went_sent}
-use Rattle.any_link.proofs.Promising.{AreHeld, held_at, held_keeps, inboxed_so, own_so}
+use Rattle.any_link.proofs.Promising.{AreHeld, folded_so, held_at, held_keeps, inboxed_so, own_so}
 use Rattle.any_link.proofs.Sending.{Left, Tracks, WasSent, names_of, of_id, once_first, tracks_all}
 
 -- ---- lists
@@ -119,23 +119,28 @@ lies_so p by_id first before behind put is =
     (over_all p by_id put.destination behind (overwritten mid (p put.id)) (put.id ∷ []) now)
 
 -- ---- what was sent lies there
-sent_lies : (all : AllLaws) (c : Setup) (joined : AreJoined c) (w : Stations) (h : AreHeld c w) (files : Side → FileMap) (s : Side) (name : List ℕ) (put : Put) → IsSent s name put w → Lies (other s) put w
-sent_lies all c joined w h files s name put sent =
+-- What a station indicated complete as a sender, the other one has completed.
+pub sent_done : (all : AllLaws) (c : Setup) (joined : AreJoined c) (w : Stations) (h : AreHeld c w) (files : Side → FileMap) (s : Side) (id : TransactionId) → IsToldComplete (own_of (served_at s w)) (told_by (served_at s w)) id →
+    Contains (completed_by (served_at (other s) w)) id
+sent_done all c joined w h files s id is_told =
     let k : KeepPromise c files w = held_keeps all c joined w h files in
     let mine : IsOf (served_at s w).kept (at s k.now) = k.is s in
     let its : IsOf (served_at (other s) w).kept (at (other s) k.now) = k.is (other s) in
-    let own : ℕ = own_of (served_at (other s) w) in
-    let told = subst (λ (x : StationState × List Indication). (put.id.source ≡ x.0.entity.state.config.entity) × Contains (x.1 ++ x.0.entity.state.table.told) (delivered put.id))
-    (λ i. (sym mine.station i, sym mine.told i)) sent.told in
-    let done = (k.told s put.id told).completed in
-    let there : Contains (completed_by (served_at (other s) w)) put.id =
-    subst (λ (x : StationState × List Indication). Contains (completions x.0.entity.state.config.entity (x.1 ++ x.0.entity.state.table.told)) put.id) (λ i. (its.station i, its.told i)) done in
-    let all_lives = all_told own w.puts (served_at (other s) w) (inboxed_so all c joined w h (other s)) in
-    let one = in_one own (inboxes (served_at (other s) w)) put.id (subst (λ (l : List Indication). Contains (completions own l) put.id) (sym all_lives) there) in
+    let told = subst (λ (x : StationState × List Indication). (id.source ≡ x.0.entity.state.config.entity) × Contains (x.1 ++ x.0.entity.state.table.told) (delivered id))
+    (λ i. (sym mine.station i, sym mine.told i)) is_told in
+    let done = (k.told s id told).completed in
+    subst (λ (x : StationState × List Indication). Contains (completions x.0.entity.state.config.entity (x.1 ++ x.0.entity.state.table.told)) id) (λ i. (its.station i, its.told i)) done
+
+-- The file of a put that a station completed lies in its inbox, as `Lies` says.
+pub done_lies : (all : AllLaws) (c : Setup) (joined : AreJoined c) (w : Stations) (h : AreHeld c w) (s : Side) (put : Put) → found w.puts put.id ≡ Some put → Contains (completed_by (served_at s w)) put.id → Lies s put w
+done_lies all c joined w h s put is_put there =
+    let own : ℕ = own_of (served_at s w) in
+    let all_lives = all_told own w.puts (served_at s w) (inboxed_so all c joined w h s) in
+    let one = in_one own (inboxes (served_at s w)) put.id (subst (λ (l : List Indication). Contains (completions own l) put.id) (sym all_lives) there) in
     let l : InboxLife = one.0 in
     let parts = split (completions own l.told) put.id one.2 in
     let has : HasFile (found w.puts) (finds_by_id w.puts) put.destination (inbox_after (found w.puts) l.begun (parts.0 ++ put.id ∷ parts.1)) (put.id ∷ parts.1) =
-    lies_so (found w.puts) (finds_by_id w.puts) l.begun parts.0 parts.1 put sent.is_put in
+    lies_so (found w.puts) (finds_by_id w.puts) l.begun parts.0 parts.1 put is_put in
     record {
       life = l;
       one_of = one.1;
@@ -146,19 +151,22 @@ sent_lies all c joined w h files s name put sent =
       among = has.among;
       is_put = has.is_put;
       name = has.name_is;
-      file = ap (λ (f : FileMap). get f put.destination) (k.folded (other s) l one.1 ∙ ap (λ (ids : List TransactionId). inbox_after (found w.puts) l.begun ids) parts.2) ∙ has.file;
+      file = ap (λ (f : FileMap). get f put.destination) (folded_so all c joined w h s l one.1 ∙ ap (λ (ids : List TransactionId). inbox_after (found w.puts) l.begun ids) parts.2) ∙ has.file;
     }
+
+sent_lies : (all : AllLaws) (c : Setup) (joined : AreJoined c) (w : Stations) (h : AreHeld c w) (files : Side → FileMap) (s : Side) (name : List ℕ) (put : Put) → IsSent s name put w → Lies (other s) put w
+sent_lies all c joined w h files s name put sent = done_lies all c joined w h (other s) put sent.is_put (sent_done all c joined w h files s put.id sent.told)
 
 -- ---- what left the spool
 -- Puts of what left, in order, each of its transaction, for which this holds.
-record PutsOf (P : Put → Type 0) (left : List Left) : Type 0 where
+pub record PutsOf (P : Put → Type 0) (left : List Left) : Type 0 where
   pub puts : List Put
   pub named : map (λ (put : Put). put.source) puts ≡ names_of left
   pub counted : (id : TransactionId) → count_by (λ (put : Put). same_id put.id id) puts ≡ of_id id left
   pub each : (put : Put) → Contains puts put → P put
 
 -- A put of one that left.
-record PutOf (P : Put → Type 0) (l : Left) : Type 0 where
+pub record PutOf (P : Put → Type 0) (l : Left) : Type 0 where
   pub put : Put
   pub source : put.source ≡ l.name
   pub its_id : put.id ≡ l.id
@@ -167,7 +175,7 @@ record PutOf (P : Put → Type 0) (l : Left) : Type 0 where
 count_first : {X : Type 0} (p : X → Bool) (x : X) (xs : List X) → count_by p (x ∷ xs) ≡ cond (p x) 1 0 + count_by p xs
 count_first p x xs = count_by-append p (x ∷ []) xs ∙ omega arith
 
-all_puts : (P : Put → Type 0) (left : List Left) → ((l : Left) → Contains left l → PutOf P l) → PutsOf P left
+pub all_puts : (P : Put → Type 0) (left : List Left) → ((l : Left) → Contains left l → PutOf P l) → PutsOf P left
 all_puts P [] each = record { puts = []; named = refl; counted = λ id. refl; each = λ put has. absurd (none put has) }
   where
     none : (put : Put) → Contains [] put → ⊥

@@ -137,7 +137,7 @@ shade_same : (old new : Served) → new ≡ record old { kept = new.kept } → n
 shade_same old new same has = ap shade same ∙ ap (λ (f : FileMap). record (shade old) { kept = kept_sending f new.kept }) (sym has)
 
 module _ {W : Type 0} (Steps : W → WireCall → W → Type 0) where
-  deed_so : (deed : Deed) (c : StationConfig) (theirs : EndKept) (others : FileMap) (old new : Served) (puts puts_then : List Put) → serving.DoesDeed Steps deed c theirs old new puts puts_then → LongOf old →
+  pub deed_so : (deed : Deed) (c : StationConfig) (theirs : EndKept) (others : FileMap) (old new : Served) (puts puts_then : List Put) → serving.DoesDeed Steps deed c theirs old new puts puts_then → LongOf old →
       standing.DoesDeed Steps deed c (kept_sending others theirs) (shade old) (shade new) puts puts_then × LongOf new
   deed_so (Wishes wish reply) c theirs others old new puts puts_then (station, now, added, does, same, more) long =
       let r = wish_so wish reply old.has now old.kept.station station added does long in
@@ -192,6 +192,10 @@ module _ {W : Type 0} (Steps : W → WireCall → W → Type 0) where
   module _ (c : Setup) where
     pub shade_all : Stations → Stations
     shade_all w = record { one = shade w.one; two = shade w.two; puts = w.puts }
+
+    pub shaded_is : (w : Stations) → shade_all w ≡ record { one = shade w.one; two = shade w.two; puts = w.puts }
+    unfolding shade_all
+    shaded_is w = refl
 
     pub record AreLong (w : Stations) : Type 0 where
       pub one : LongOf w.one
@@ -288,12 +292,12 @@ module _ {W : Type 0} (Steps : W → WireCall → W → Type 0) where
     holds_so laws w k One = alike_holds laws c.one.entity.policy _ w.one.kept.station.entity.state refl refl refl refl (k One)
     holds_so laws w k Two = alike_holds laws c.two.entity.policy _ w.two.kept.station.entity.state refl refl refl refl (k Two)
 
-    sent_so : (s : Side) (name : List ℕ) (put : Put) (w : Stations) → promise.IsSent s name put (shade_all w) → promise.IsSent s name put w
+    pub sent_so : (s : Side) (name : List ℕ) (put : Put) (w : Stations) → promise.IsSent s name put (shade_all w) → promise.IsSent s name put w
     unfolding shade_all
     sent_so One name put w i = record { is_put = i.is_put; source = i.source; destination = i.destination; told = i.told }
     sent_so Two name put w i = record { is_put = i.is_put; source = i.source; destination = i.destination; told = i.told }
 
-    lies_so : (s : Side) (put : Put) (w : Stations) → promise.Lies s put (shade_all w) → promise.Lies s put w
+    pub lies_so : (s : Side) (put : Put) (w : Stations) → promise.Lies s put (shade_all w) → promise.Lies s put w
     unfolding shade_all
     lies_so One put w l = record { life = l.life; one_of = l.one_of; before = l.before; behind = l.behind; is = l.is; last = l.last; among = l.among; is_put = l.is_put; name = l.name; file = l.file }
     lies_so Two put w l = record { life = l.life; one_of = l.one_of; before = l.before; behind = l.behind; is = l.is; last = l.last; among = l.among; is_put = l.is_put; name = l.name; file = l.file }

@@ -1,0 +1,6 @@
+mod Back
+mod Lives
+mod Events
+mod Spool
+mod Restarts
+mod Resumed
