@@ -1,5 +1,5 @@
 -- What holds of both stations, as something is done at one of them, or it resumes.
-use Rattle.std.proofs.Common.{◌≡◌, ℕ, zero, suc, List, [], ◌++◌, Some, refl, sym, ap, subst, ◌∙◌, append-nil}
+use Rattle.std.proofs.Common.{◌≡◌, ℕ, zero, suc, List, [], ◌++◌, refl, sym, ap, subst, ◌∙◌, append-nil}
 use Rattle.std.specs.Prelude.{Contains}
 use Rattle.std.proofs.lemmas.List.Elements.{Contains-append_left}
 use Rattle.cfdp_header.specs.declared.value.TransactionId.{TransactionId}
@@ -18,14 +18,14 @@ use Rattle.any_order.proofs.Kept.{IsJoinedTo, TellsAll}
 use Rattle.any_order.proofs.Promise.{joined_to}
 use Rattle.any_order.proofs.Puts.{finds_more}
 use Rattle.cfdp_port.specs.Calls.{WireCall}
-use Rattle.any_link.specs.Serving.{Deed, InboxLife, Served, Stations, kept_sending, served_at}
+use Rattle.any_link.specs.Serving.{Deed, Stations, served_at}
 use Rattle.any_link.specs.Serving as serving
 use Rattle.any_link.proofs.Doing.{AllLaws, deed_held}
 use Rattle.any_link.proofs.Holding.{Held, held_other}
-use Rattle.any_link.proofs.Inboxing.{Inboxed, deed_inboxed, inboxed_on, told_in}
-use Rattle.any_link.proofs.Knowing.{AreKnown, Known, served_known}
+use Rattle.any_link.proofs.Inboxing.{Inboxed, deed_inboxed, inboxed_on}
+use Rattle.any_link.proofs.Knowing.{AreKnown, served_known}
 use Rattle.any_link.proofs.Promising.{AreHeld, deed_added, held_at}
-use Rattle.any_link.proofs.Reaching.{AreLong, LongOf, deed_so, served_so, shade, shade_all, shaded_is}
+use Rattle.any_link.proofs.Reaching.{LongOf, deed_so, served_so, shade, shade_all, shaded_is}
 use Rattle.any_link.proofs.Standing as standing
 use Rattle.any_link.proofs.Telling.{told_of}
 use Rattle.any_link_resumes.specs.Resuming.{BothLives, Does, DoesEvent, GoesOrResumes, HaveServedOrResumed, Resumes, ResumesFrom, ServiceEvent, ServiceLife, life_of, stations_of}

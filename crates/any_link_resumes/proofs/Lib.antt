@@ -4,3 +4,4 @@ mod Events
 mod Spool
 mod Restarts
 mod Resumed
+mod Worked

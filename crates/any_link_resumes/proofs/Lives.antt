@@ -1,6 +1,6 @@
 -- What is known of a life of a station, as something is done at it: of the calls of its user, of what came back as the life
 -- began, and of what its user heard again.
-use Rattle.std.proofs.Common.{◌≡◌, ℕ, ◌<◌, ◌≤◌, List, [], ◌∷◌, ◌++◌, length, map, slice_get, take, drop, Some, None, refl, sym, ap, subst, ◌∙◌, arith, append-nil, append_assoc}
+use Rattle.std.proofs.Common.{◌≡◌, ℕ, ◌<◌, ◌≤◌, List, [], ◌∷◌, ◌++◌, map, slice_get, take, drop, Some, sym, ap, subst, ◌∙◌, arith, append-nil, append_assoc}
 use Rattle.std.specs.Prelude.{Contains, count_by}
 use Rattle.std.proofs.lemmas.List.{take-append-drop}
 use Rattle.std.proofs.lemmas.List.Elements.{Contains-append_left, Contains-append_right}
@@ -24,13 +24,13 @@ use Rattle.cfdp_port.specs.Port.{table_of}
 use Rattle.cfdp_service.specs.Calls.{UserCall, Hears, heard_by}
 use Rattle.cfdp_service.specs.Serving.{HearsGone, once_told, said_by, wish_calls}
 use Rattle.any_link.specs.Serving.{Deed, LetsGo, Says, Served, Starts, Stops, Tells, Turns, Wishes, kept_sending, served_on}
-use Rattle.any_link.proofs.Calling.{ArePut, AreTold, all_more, hears_all, hears_known, none_known}
+use Rattle.any_link.proofs.Calling.{ArePut, all_more, hears_all, hears_known, none_known}
 use Rattle.any_link.proofs.Doing.{AllLaws, deed_hears, deed_told}
 use Rattle.any_link.proofs.Holding.{Held}
 use Rattle.any_link.proofs.Knowing.{Known, deed_known}
 use Rattle.any_link.proofs.Promising.{deed_added}
 use Rattle.any_link.proofs.Reaching.{shade}
-use Rattle.any_link.proofs.Standing.{DoesDeed, StartsAnew}
+use Rattle.any_link.proofs.Standing.{DoesDeed}
 use Rattle.any_link.proofs.Telling.{TellsMore, told_of}
 use Rattle.any_link_resumes.specs.Resuming.{BeganAs, ResumesFrom, ServiceLife, entity_in}
 

@@ -1,13 +1,11 @@
 -- Stations that only restart are a case of stations that restart or resume.
 use Rattle.std.proofs.Common.{◌≡◌, ℕ, zero, suc, [], refl, ap}
 use Rattle.cfdp_header.specs.Files.{FileMap}
-use Rattle.cfdp_directives.specs.User.Put.{Put}
-use Rattle.cfdp_station.specs.declared.config.StationConfig.{StationConfig}
 use Rattle.cfdp_station.specs.Transmitting.{Times}
 use Rattle.any_order.specs.Calls.{One, Two, Setup, Side, other, setup_of}
 use Rattle.cfdp_port.specs.Calls.{WireCall}
-use Rattle.any_link.specs.Serving.{AreFirst, Deed, DoesDeed, Goes, HaveServed, LetsGo, Says, Served, Starts, Stations, Stops, Tells, Turns, Wishes, served_at}
-use Rattle.any_link_resumes.specs.Resuming.{BeganAs, BothLives, Does, GoesOrResumes, HaveServedOrResumed, ServiceLife, life_of, stations_of}
+use Rattle.any_link.specs.Serving.{Deed, DoesDeed, Goes, HaveServed, LetsGo, Says, Served, Starts, Stations, Stops, Tells, Turns, Wishes, served_at}
+use Rattle.any_link_resumes.specs.Resuming.{BeganAs, BothLives, Does, GoesOrResumes, HaveServedOrResumed, ServiceLife, life_of}
 
 -- a life that a start began
 abbrev life_with : Served → ServiceLife

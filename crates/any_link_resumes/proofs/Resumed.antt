@@ -1,5 +1,5 @@
 -- A station may be killed at any time, and resume as it was.
-use Rattle.std.proofs.Common.{◌≡◌, ℕ, ◌+◌, ◌<◌, ◌≤◌, Option, None, List, [], ◌++◌, length, slice_get, take, Some, refl, sym, ap, subst}
+use Rattle.std.proofs.Common.{◌≡◌, ℕ, ◌+◌, ◌<◌, ◌≤◌, Option, None, List, [], ◌++◌, length, take, refl, subst}
 use Rattle.std.specs.Prelude.{Contains}
 use Rattle.aos_frame.specs.declared.config.Lane.{Lane}
 use Rattle.link_stack.specs.Downward.{both_counted_from, first_down}
@@ -9,27 +9,19 @@ use Rattle.cfdp_header.specs.Files.{FileMap}
 use Rattle.cfdp_directives.specs.declared.user.indication.Indication.{Indication}
 use Rattle.cfdp_directives.specs.User.Completions.{FinishedOnce}
 use Rattle.cfdp_directives.specs.User.Put.{Put}
-use Rattle.cfdp_store.specs.Staged.{OctetMap}
-use Rattle.cfdp_receiver.specs.State.{ReceiverState, kind_told}
-use Rattle.cfdp_receiver.specs.declared.state.ReceiverPhase.TheVariants.{Receiving}
-use Rattle.cfdp_receiver.specs.Summed.{SumsStaged}
 use Rattle.cfdp_entity.specs.Entity.{EntityState}
-use Rattle.cfdp_entity.specs.Seen.{Receives}
 use Rattle.cfdp_entity.specs.Sound.{IsSound}
-use Rattle.cfdp_entity.specs.Table.{Entry}
 use Rattle.cfdp_resuming.specs.Entity.{IsResumed}
 use Rattle.cfdp_station.specs.declared.config.StationConfig.{StationConfig}
 use Rattle.cfdp_station.specs.Station.{StationState}
 use Rattle.shown_sources.specs.Shown.{entity_sending}
-use Rattle.any_order.specs.Calls.{AreJoined, One, Two, Setup, Side, other, setup_of}
+use Rattle.any_order.specs.Calls.{One, Two, Setup, Side, setup_of}
 use Rattle.any_order.specs.Kept.{all_kept, frames_in}
 use Rattle.any_order.specs.Promise.{found}
 use Rattle.cfdp_port.specs.Calls.{WireCall}
-use Rattle.any_link.specs.Serving.{Served, kept_sending, life_from}
-use Rattle.any_link.proofs.Doing.{AllLaws}
-use Rattle.any_link.proofs.Holding.{Held}
+use Rattle.any_link.specs.Serving.{life_from}
 use Rattle.any_link.proofs.Promising.{held_at}
-use Rattle.any_link.proofs.Reaching.{LongOf, shade}
+use Rattle.any_link.proofs.Reaching.{LongOf}
 use Rattle.any_link_resumes.specs.Resuming.{AreSummed, BothLives, GoesOrResumes, Resumes, ResumesFrom, ServiceLife, entity_in, life_of}
 use Rattle.any_link_resumes.proofs.Events.{AreAlive, shaded}
 

@@ -1,5 +1,5 @@
 -- What left a spool as sent lies in the inbox of the other station, where stations resume.
-use Rattle.std.proofs.Common.{◌≡◌, ◌⊎◌, Bool, true, false, ℕ, zero, suc, ◌+◌, ◌<◌, ◌≤◌, Option, Some, None, Ok, List, [], ◌∷◌, ◌++◌, length, map, slice_get, take, drop, refl, sym, ap, ap₂, subst, ◌∙◌, inl, inr, arith, ⊎_elim, append_assoc, cond}
+use Rattle.std.proofs.Common.{◌≡◌, ◌⊎◌, Bool, true, false, ℕ, zero, suc, ◌+◌, ◌<◌, ◌≤◌, Option, Some, None, Ok, List, [], ◌∷◌, ◌++◌, length, map, take, refl, sym, ap, subst, ◌∙◌, inl, inr, arith, ⊎_elim, append_assoc, cond}
 use Rattle.std.specs.Prelude.{Contains, count_by}
 use Rattle.std.proofs.lemmas.Bool.{cases_Bool}
 use Rattle.std.proofs.lemmas.List.Elements.{Contains-append_cases, Contains-append_left, Contains-append_right}
@@ -10,7 +10,7 @@ use Rattle.cfdp_directives.specs.declared.user.indication.Indication.{Indication
 use Rattle.cfdp_directives.specs.User.Completions.{FinishedOnce, IsToldComplete, completions, is_finished}
 use Rattle.cfdp_directives.specs.User.Put.{Put}
 use Rattle.cfdp_directives.proofs.Puts.{count_by-append, finished-append}
-use Rattle.cfdp_entity.specs.Table.{Entry, TableState}
+use Rattle.cfdp_entity.specs.Table.{TableState}
 use Rattle.cfdp_station.specs.Station.{StationState}
 use Rattle.cfdp_station.specs.Transmitting.{Times}
 use Rattle.any_order.specs.Calls.{AreJoined, One, Two, Setup, Side, other, setup_of}
@@ -21,27 +21,26 @@ use Rattle.cfdp_service.specs.Calls.{UserCall, Asks, Answered, Hears, Chain, hea
 use Rattle.cfdp_service.specs.Clerk.{ClerkState, ClerkSteps, IsAccepted, WishesFile}
 use Rattle.cfdp_service.specs.declared.clerk.OpenFile.{OpenFile}
 use Rattle.cfdp_service.specs.declared.wish.PutNames.{PutNames}
-use Rattle.cfdp_service.specs.declared.wish.Reply.{Reply}
 use Rattle.cfdp_service.specs.declared.wish.Reply.TheVariants as replies
 use Rattle.cfdp_service.specs.declared.wish.Wish.{Wish}
 use Rattle.cfdp_service.specs.declared.wish.Wish.TheVariants as wishes
 use Rattle.any_link.specs.Promise as promise
 use Rattle.any_link.specs.Promise.{IsSent, Lies}
 use Rattle.any_link.specs.Serving.{Served, Stations, served_at}
-use Rattle.any_link.proofs.Calling.{ArePut, AreTold, IsPut, accepts_put, asks_put, hears_all}
+use Rattle.any_link.proofs.Calling.{ArePut, IsPut, accepts_put, asks_put, hears_all}
 use Rattle.any_link.proofs.Doing.{AllLaws}
 use Rattle.any_link.proofs.Hearing.{heard_both}
-use Rattle.any_link.proofs.Knowing.{Known, delivered}
+use Rattle.any_link.proofs.Knowing.{delivered}
 use Rattle.any_link.proofs.Lying.{PutOf, PutsOf, all_puts, done_lies, sent_done}
-use Rattle.any_link.proofs.Promising.{AreHeld, held_at, own_so}
-use Rattle.any_link.proofs.Reaching.{lies_so, sent_so, shade, shade_all, shaded_is}
+use Rattle.any_link.proofs.Promising.{held_at, own_so}
+use Rattle.any_link.proofs.Reaching.{lies_so, sent_so, shade, shaded_is}
 use Rattle.any_link.proofs.Sending.{Left, Tracks, WasSent, names_of, of_id, once_first, tracks_all}
 use Rattle.any_link.proofs.Telling.{told_of}
 use Rattle.any_link_resumes.specs.Promise.{AreDelivered, CameBack}
-use Rattle.any_link_resumes.specs.Resuming.{BothLives, GoesOrResumes, HaveServedOrResumed, ServiceLife, calls_in, entity_in, life_of, stations_of}
+use Rattle.any_link_resumes.specs.Resuming.{BothLives, GoesOrResumes, HaveServedOrResumed, ServiceLife, calls_in, life_of, stations_of}
 use Rattle.any_link_resumes.proofs.Back.{ResumedSound}
 use Rattle.any_link_resumes.proofs.Events.{AreAlive, Since, all_alive, shaded, went_alive}
-use Rattle.any_link_resumes.proofs.Lives.{IsBackPut, KnownLife, heard_first}
+use Rattle.any_link_resumes.proofs.Lives.{IsBackPut}
 
 -- ---- lists
 abbrev first_or : {X : Type 0} → X → List X → X
