@@ -252,9 +252,9 @@ pub insert_key-new : (id : TransactionId) (ks : List TransactionId) → position
 insert_key-new id ks h = ap (λ b. cond b ks (ks ++ id ∷ [])) (any-none (same_id id) ks (position-none (same_id id) ks h))
 
 -- transactions are forgotten
-pub forgets-all : (source : ℕ) (ranges : List (ℕ × ℕ)) (slots written : List (Option KeptTransfer)) (old new : Survey) → IsAligned old → written ≡ with_none (is_in source ranges) old.ids.keys slots → slots ≡ old.transfers.items → new.transfers.items ≡ written → new.ids.keys ≡ old.ids.keys → new.addressing ≡ old.addressing → new.owner ≡ old.owner → new.forgotten.items ≡ old.forgotten.items ++ map (range_of source) ranges → Forgets source ranges old new
-forgets-all source ranges slots written old new aligned drops same wrote keys addressing owner forgotten =
-    let items : new.transfers.items ≡ with_none (is_in source ranges) old.ids.keys old.transfers.items = wrote ∙ drops ∙ ap (with_none (is_in source ranges) old.ids.keys) same in
+pub forgets-all : (source : ℕ) (ranges : List (ℕ × ℕ)) (ids : List TransactionId) (slots written : List (Option KeptTransfer)) (old new : Survey) → IsAligned old → written ≡ with_none (is_in source ranges) ids slots → ids ≡ old.ids.keys → slots ≡ old.transfers.items → new.transfers.items ≡ written → new.ids.keys ≡ old.ids.keys → new.addressing ≡ old.addressing → new.owner ≡ old.owner → new.forgotten.items ≡ old.forgotten.items ++ map (range_of source) ranges → Forgets source ranges old new
+forgets-all source ranges ids slots written old new aligned drops known same wrote keys addressing owner forgotten =
+    let items : new.transfers.items ≡ with_none (is_in source ranges) old.ids.keys old.transfers.items = wrote ∙ drops ∙ (λ i. with_none (is_in source ranges) (known i) (same i)) in
     record {
       aligned = ap length items ∙ length-with_none (is_in source ranges) old.ids.keys old.transfers.items ∙ aligned ∙ sym (ap length keys);
       addressing = addressing;

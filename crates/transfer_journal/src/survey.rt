@@ -174,7 +174,7 @@ impl Survey {
     {
         self.owner = owner_in(record).or(self.owner);
         match forgotten_by(record) {
-            Some((source, ranges)) => self.forgets(source, ranges.as_slice()),
+            Some(those) => self.forgets(those.0, those.1.as_slice()),
             None => Ok(()),
         }
     }
