@@ -12,7 +12,8 @@ use Rattle.cfdp_station.specs.Config.{IsStationConfig}
 use Rattle.cfdp_station.specs.Station.{StationState}
 use Rattle.station_pair.specs.declared.world_config.WorldConfig.{WorldConfig}
 use Rattle.station_pair.specs.Stations.{IsWorldConfig}
-use Rattle.any_order.specs.Calls.{AreJoined, End, Event, Happen, IsNew, One, Two, Pair, Setup, Side, at, other, setup_of}
+use Rattle.any_order.specs.Resuming.{HappenOrResume, LifeEvent}
+use Rattle.any_order.specs.Calls.{AreJoined, End, IsNew, One, Two, Pair, Setup, Side, at, other, setup_of}
 use Rattle.any_order.specs.Kept.{EndKept, HasTaken, IsNewKept, IsOf, last_at}
 use Rattle.any_order.specs.Promise.{HoldsAt, found}
 use Rattle.any_order.specs.World.{HasRun, IsNewWorld, IsPairOf, KeepsPromise, WorldKept, first_at, kept_at, setup}
@@ -106,8 +107,8 @@ begins c sources files w is one two n = record {
 
 -- the law
 abbrev pub Law : Type 0
-Law = (c : Setup) (counts : Side → ℕ) (sources files : Side → FileMap) (events : List Event) (start now : Pair) → AreJoined c →
-    ((s : Side) → IsNew (setup_of s c) (counts s) (sources s) (files s) (at s start)) → start.puts ≡ [] → Happen c events start now → (s : Side) → HoldsAt s (files s) now
+Law = (c : Setup) (counts : Side → ℕ) (sources files : Side → FileMap) (events : List LifeEvent) (start now : Pair) → AreJoined c →
+    ((s : Side) → IsNew (setup_of s c) (counts s) (sources s) (files s) (at s start)) → start.puts ≡ [] → HappenOrResume c events start now → (s : Side) → HoldsAt s (files s) now
 
 pub keeps_promise : Law → (w : WorldKept) → HasRun w → KeepsPromise w
 keeps_promise law w run = record { run = run; holds = holds; inbox = inbox }

@@ -262,7 +262,7 @@ call_kept laws call c t first there puts puts_then old theirs new joined link k 
       (both_anew laws c t first there puts old theirs new joined link k o a.0 a.1.0 a.1.1.0)
 ]
 
-happens_kept : Laws → (c : Setup) (firsts : Firsts) (event : Event) (old new : Pair) → AreJoined c → Happens c event old new → AreKept c firsts old → AreKept c firsts new
+pub happens_kept : Laws → (c : Setup) (firsts : Firsts) (event : Event) (old new : Pair) → AreJoined c → Happens c event old new → AreKept c firsts old → AreKept c firsts new
 happens_kept laws c firsts (At One call) old new joined (does, same) k =
     let both : BothKept c.one c.two (firsts One) (firsts Two) new.puts new.one old.two =
     call_kept laws call c.one c.two (firsts One) (firsts Two) old.puts new.puts old.one old.two new.one (joined_to c One joined) (joined.link One) (k One) (k Two) does in
