@@ -331,8 +331,10 @@ def one_mistakes(program, own, faults, words, cuts, seed):
     with Link(program, relay) as link:
         pair, spool = Pair(link, rate=1000, cuts=cuts), Spool(link)
         pair.drops({"a": octets})
-        pair.starts(3 - own, words=words)
-        it = pair.starts(own, faults=faults, words=words)
+        # The receiver first: its journal is begun in its first turn, in which nothing may come yet.
+        for end in (2, 1):
+            pair.starts(end, faults=faults if end == own else "", words=words)
+        it = pair.running[own]
         is_killed = lambda: it.process.poll() is not None
         is_over = lambda: "finished" in pair.running[1].text("stdout") and files_at(link.folder, 2)
         waits_for(lambda: is_killed() or is_over())
