@@ -6,6 +6,7 @@ use crate::piece::Piece;
 use crate::stream::WebStream;
 use cfdp_console::{Answer, Ask, Caller, Guard};
 use std::alloc::AllocError;
+use std::io;
 use std::io::ErrorKind;
 
 /// The most octets of a request, with its head.
@@ -114,8 +115,7 @@ impl<S: WebStream> Visitor<S> {
 
     /// Sends a piece of what waits.
     fn sends(&mut self, now: u64) {
-        let mut piece = Piece(&mut self.stream);
-        if let Err(error) = self.caller.sends(&mut piece, now) {
+        if let Err(error) = send_piece(&mut self.caller, &mut self.stream, now) {
             self.fails(error.kind());
         }
     }
@@ -184,4 +184,10 @@ impl<S: WebStream> Visitor<S> {
             self.is_over = true;
         }
     }
+}
+
+/// Sends a piece of what waits to be sent to a caller.
+fn send_piece<S: WebStream>(caller: &mut Caller, stream: &mut S, now: u64) -> io::Result<usize> {
+    let mut piece = Piece(stream);
+    caller.sends(&mut piece, now)
 }
