@@ -28,7 +28,7 @@ use Rattle.any_order.proofs.Keeping.{taken_grown}
 use Rattle.any_order.proofs.Kept.{IsJoinedTo, IsPast, KeepsLife, SaysSo, TellsAll, heard_put, says_more, stays, this_life}
 use Rattle.any_order.proofs.Lives.{Grow, apart_more, each_life, grow_more}
 use Rattle.any_order.proofs.Promise.{Laws}
-use Rattle.any_order_resumes.specs.Resuming.{Resumes}
+use Rattle.any_order.specs.Resuming.{Resumes}
 use Rattle.any_link.specs.Serving.{kept_sending}
 use Rattle.any_link.proofs.Doing.{AllLaws}
 use Rattle.any_link.proofs.Holding.{Held, held_like}

@@ -1,5 +1,5 @@
 -- Two stations from their beginning on, as they are kept; and the promise, which holds of them.
-use Rattle.std.proofs.Common.{◌≡◌, ℕ, ◌+◌, ◌<◌, ◌^◌, Option, None, List, [], ◌∷◌, ◌++◌, length, refl, sym, ap, ap₂, subst, ◌∙◌, arith}
+use Rattle.std.proofs.Common.{◌≡◌, ℕ, ◌<◌, ◌^◌, None, List, [], ◌++◌, refl, sym, subst}
 use Rattle.aos_frame.specs.declared.config.Lane.{Lane}
 use Rattle.aos_frame.specs.declared.config.Lane.TheVariants.{Directives, Data}
 use Rattle.cfdp_header.specs.Files.{FileMap}
@@ -12,10 +12,11 @@ use Rattle.cfdp_station.specs.Config.{IsStationConfig}
 use Rattle.cfdp_station.specs.Station.{StationState}
 use Rattle.station_pair.specs.declared.world_config.WorldConfig.{WorldConfig}
 use Rattle.station_pair.specs.Stations.{IsWorldConfig}
-use Rattle.any_order.specs.Calls.{AreJoined, End, Event, Happen, IsNew, One, Two, Pair, Setup, Side, at, other, setup_of}
+use Rattle.any_order.specs.Resuming.{HappenOrResume, LifeEvent}
+use Rattle.any_order.specs.Calls.{AreJoined, End, IsNew, One, Two, Pair, Setup, Side, at, other, setup_of}
 use Rattle.any_order.specs.Kept.{EndKept, HasTaken, IsNewKept, IsOf, last_at}
 use Rattle.any_order.specs.Promise.{HoldsAt, found}
-use Rattle.any_order.specs.World.{HasRun, IsNewWorld, IsPairOf, KeepsPromise, WorldKept, first_at, kept_at, setup}
+use Rattle.any_order.specs.World.{HasRun, IsNewWorld, KeepsPromise, WorldKept, first_at, kept_at, setup}
 
 first_end : EndKept → End
 first_end k = record { station = k.station; first = 0; sent = []; came = []; heard = []; lives_before = []; told_before = []; heard_before = [] }
@@ -106,8 +107,8 @@ begins c sources files w is one two n = record {
 
 -- the law
 abbrev pub Law : Type 0
-Law = (c : Setup) (counts : Side → ℕ) (sources files : Side → FileMap) (events : List Event) (start now : Pair) → AreJoined c →
-    ((s : Side) → IsNew (setup_of s c) (counts s) (sources s) (files s) (at s start)) → start.puts ≡ [] → Happen c events start now → (s : Side) → HoldsAt s (files s) now
+Law = (c : Setup) (counts : Side → ℕ) (sources files : Side → FileMap) (events : List LifeEvent) (start now : Pair) → AreJoined c →
+    ((s : Side) → IsNew (setup_of s c) (counts s) (sources s) (files s) (at s start)) → start.puts ≡ [] → HappenOrResume c events start now → (s : Side) → HoldsAt s (files s) now
 
 pub keeps_promise : Law → (w : WorldKept) → HasRun w → KeepsPromise w
 keeps_promise law w run = record { run = run; holds = holds; inbox = inbox }

@@ -1,9 +1,9 @@
 -- What each call does at a station, by the laws of an entity.
-use Rattle.std.proofs.Common.{◌≡◌, ◌≢◌, ℕ, zero, suc, ◌+◌, ◌<◌, false, Option, Some, None, List, [], ◌∷◌, ◌++◌, ◌⊎◌, length, map, refl, sym, ap, subst, ◌∙◌, inl, inr, arith, append-nil, append_assoc}
+use Rattle.std.proofs.Common.{◌≡◌, ℕ, zero, suc, ◌+◌, ◌<◌, false, Option, Some, None, List, [], ◌∷◌, ◌++◌, ◌⊎◌, refl, sym, ap, subst, ◌∙◌, inl, inr, arith, append-nil, append_assoc}
 use Rattle.std.specs.Prelude.{Contains}
 use Rattle.aos_frame.specs.declared.config.Lane.{Lane}
 use Rattle.aos_frame.specs.declared.config.Lane.TheVariants.{Directives, Data}
-use Rattle.link_stack.specs.AnyOrder.{Receives, ReceivesAll}
+use Rattle.link_stack.specs.AnyOrder.{Receives}
 use Rattle.link_stack.specs.EndToEnd.{AreNear, DoesAll, DownCall, Put, Fill, Make, puts_of}
 use Rattle.link_stack.specs.Lives.{AreComingOf, ComingOf, numbers_of, octets_coming}
 use Rattle.cfdp_header.specs.declared.value.Header.{Header}
@@ -20,18 +20,18 @@ use Rattle.cfdp_store.specs.declared.stored.Stored.TheVariants.{Done, Refused}
 use Rattle.cfdp_entity.specs.declared.request.Request.{Request}
 use Rattle.cfdp_entity.specs.Entity.{Counted, EntityState, with_table}
 use Rattle.cfdp_entity.specs.Polling.{served, turn, turn_octets}
-use Rattle.cfdp_entity.specs.Putting.{Accepts, next_id}
+use Rattle.cfdp_entity.specs.Putting.{Accepts}
 use Rattle.cfdp_entity.specs.Requests.{IsCalled}
-use Rattle.cfdp_entity.specs.Sound.{ComesTrue, GoesOn, IsSound, SaysDelivered, SpellsTurn, next_put}
+use Rattle.cfdp_entity.specs.Sound.{GoesOn, IsSound, SaysDelivered, SpellsTurn, next_put}
 use Rattle.cfdp_entity.specs.Table.{Ticks}
 use Rattle.cfdp_station.specs.declared.config.StationConfig.{StationConfig}
 use Rattle.cfdp_station.specs.declared.polled.Polled.TheVariants.{Moved, Nothing, Full, SourceFailed}
 use Rattle.cfdp_station.specs.Link.{next_lane}
 use Rattle.cfdp_station.specs.Polling.{next_pdu}
 use Rattle.cfdp_station.specs.Station.{KeepsLink}
-use Rattle.cfdp_station.specs.Taking.{HearsAll, TakesFrame}
+use Rattle.cfdp_station.specs.Taking.{HearsAll}
 use Rattle.cfdp_station.proofs.AnyOrder.{TruthLaws, all_sound, one_goes}
-use Rattle.any_order.specs.Calls.{Call, Puts, Asks, Tells, Polls, Fills, Gives, Receives as receives, Refuses, Restarts, Does, DoesCall, End, IsOneLife, StartsAnew, entity_of, lives}
+use Rattle.any_order.specs.Calls.{Call, Puts, Asks, Tells, Polls, Fills, Gives, Receives as receives, Refuses, Restarts, Does, DoesCall, End, StartsAnew, entity_of, lives}
 use Rattle.any_order.specs.Promise.{found}
 use Rattle.any_order.proofs.Kept.{KeepsLife, Moves, SaysSo}
 use Rattle.any_order.proofs.Link.{receives_behind}

@@ -1,5 +1,5 @@
 -- Octets that come to a station, and a new station that is made.
-use Rattle.std.proofs.Common.{◌≡◌, ◌≢◌, ℕ, zero, suc, ◌+◌, ◌<◌, ◌≤◌, true, Option, Some, None, IfSome, List, [], ◌∷◌, ◌++◌, ◌⊎◌, length, map, slice_index_or, refl, sym, ap, ap₂, subst, ◌∙◌, inl, inr, arith, append-nil, append_assoc}
+use Rattle.std.proofs.Common.{◌≡◌, ℕ, zero, suc, ◌+◌, ◌<◌, ◌≤◌, true, Option, Some, None, IfSome, List, [], ◌∷◌, ◌++◌, length, map, slice_index_or, refl, sym, ap, ap₂, subst, ◌∙◌, arith, append-nil}
 use Rattle.std.specs.Prelude.{slice_get, unwrap_or}
 use Rattle.std.proofs.lemmas.List.{map-append}
 use Rattle.aos_frame.specs.Frame.{lane_channel}
@@ -7,7 +7,7 @@ use Rattle.aos_frame.specs.declared.config.Lane.{Lane}
 use Rattle.aos_frame.specs.declared.config.Lane.TheVariants.{Directives, Data}
 use Rattle.aos_frame.specs.declared.config.LinkConfig.{LinkConfig}
 use Rattle.link_stack.specs.AnyOrder.{IsStray, IsWithinCounts}
-use Rattle.link_stack.specs.EndToEnd.{AreNear, DownCall, keep_place, made_of}
+use Rattle.link_stack.specs.EndToEnd.{AreNear, keep_place, made_of}
 use Rattle.link_stack.specs.Lives.{AreComingOf, ComingOf, CopyOf, NoiseOf, Life, life_at, made_in, numbers_of, octets_coming}
 use Rattle.link_stack.specs.Downward.{both_counted_from, first_down}
 use Rattle.link_stack.specs.Upward.{first_up}
@@ -18,7 +18,7 @@ use Rattle.cfdp_entity.specs.Entity.{first_entity}
 use Rattle.cfdp_station.specs.declared.config.StationConfig.{StationConfig}
 use Rattle.cfdp_station.specs.Station.{StationState}
 use Rattle.cfdp_station.specs.Taking.{TakesFrame}
-use Rattle.any_order.specs.Calls.{Call, Receives, Restarts, End, IsOneLife, entity_of, lives, numbered_from}
+use Rattle.any_order.specs.Calls.{Receives, Restarts, End, entity_of, lives, numbered_from}
 use Rattle.any_order.specs.Kept.{DoesCalls, EndKept, HasTaken, IsOf, LifeKept, Makes, all_kept, frames_in, kept_of, last_at, last_of, present, with_last}
 use Rattle.any_order.proofs.Lives.{coming_both}
 

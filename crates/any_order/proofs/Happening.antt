@@ -1,9 +1,16 @@
 -- Calls at one of two stations are calls in the world of both.
-use Rattle.std.proofs.Common.{◌≡◌, ℕ, List, [], ◌∷◌, ◌++◌, map, refl, sym, ap, ap₂, subst, ◌∙◌}
+use Rattle.std.proofs.Common.{◌≡◌, ℕ, List, [], ◌∷◌, ◌++◌, Result, Ok, Err, map, refl, sym, ap, ap₂, subst, ◌∙◌}
+use Rattle.std.specs.declared.alloc.AllocError.{AllocError}
+use Rattle.cfdp_header.specs.Files.{FileMap}
 use Rattle.cfdp_directives.specs.User.Put as user
-use Rattle.any_order.specs.Calls.{AreJoined, Call, Event, At, End, Happen, Happens, IsNew, One, Two, Pair, Setup, Side, at, other, setup_of, lives}
+use Rattle.any_order.specs.Calls.{AreJoined, Call, Event, End, Happen, IsNew, One, Two, Pair, Setup, Side, at, other, setup_of, lives}
 use Rattle.any_order.specs.Kept.{DoesCalls, EndKept, HasTaken, IsOf, Makes}
-use Rattle.any_order.specs.World.{Happened, HasRun, IsPairOf, WorldKept, calls_at, first_at, kept_at, setup}
+use Rattle.any_order.specs.declared.answers.Resumed.{Resumed}
+use Rattle.any_order.specs.declared.answers.Resumed.TheVariants as resumed
+use Rattle.any_order.specs.Refusing.{AnswersResume}
+use Rattle.any_order.specs.Resuming.{Calls, HappenOrResume, LifeEvent, ResumesAt}
+use Rattle.any_order.specs.World.{Happened, HasResumed, HasRun, IsPairOf, ResumesBy, WorldKept, calls_at, first_at, kept_at, setup, with_kept}
+use Rattle.station_pair.specs.declared.world_config.WorldConfig.{WorldConfig}
 use Rattle.any_order.proofs.Keeping.{calls_grow, taken_grown}
 use Rattle.any_order.proofs.Lives.{Grow}
 
@@ -80,28 +87,74 @@ pub happened_two : (calls : List Call) (old new : WorldKept) → new ≡ record 
 happened_two calls old new same makes = subst (λ (w : WorldKept). Happened Two calls old w) (sym same) (second_so calls old new.two new.puts makes)
 
 -- ---- from the beginning
-happen_both : (c : Setup) (a b : List Event) (x y z : Pair) → Happen c a x y → Happen c b y z → Happen c (a ++ b) x z
-happen_both c [] b x y z same rest = subst (λ (w : Pair). Happen c b w z) same rest
+happen_both : (c : Setup) (a b : List LifeEvent) (x y z : Pair) → HappenOrResume c a x y → HappenOrResume c b y z → HappenOrResume c (a ++ b) x z
+happen_both c [] b x y z same rest = subst (λ (w : Pair). HappenOrResume c b w z) same rest
 happen_both c (event ∷ a) b x y z (mid, one, more) rest = (mid, one, happen_both c a b mid y z more rest)
+
+-- calls alone
+pub only_calls : (c : Setup) (events : List Event) (x y : Pair) → Happen c events x y → HappenOrResume c (map Calls events) x y
+only_calls c [] x y same = same
+only_calls c (event ∷ events) x y (mid, one, rest) = (mid, one, only_calls c events mid y rest)
+
+-- More happened since, and the first files are the same.
+runs_more : (old new : WorldKept) (events : List LifeEvent) (run : HasRun old) (after : Pair) → new.config ≡ old.config → ((t : Side) → first_at t new ≡ first_at t old) →
+    HappenOrResume (setup old.config) events run.now after → IsPairOf new after → HasRun new
+runs_more old new events run after config firsts happen is = record {
+  joined = subst (λ (k : WorldConfig). AreJoined (setup k)) (sym config) run.joined;
+  counts = run.counts;
+  sources = run.sources;
+  start = run.start;
+  begun = λ (t : Side). subst (λ (k : WorldConfig). IsNew (setup_of t (setup k)) (run.counts t) (run.sources t) (first_at t new) (at t run.start)) (sym config)
+      (subst (λ (f : FileMap). IsNew (setup_of t (setup old.config)) (run.counts t) (run.sources t) f (at t run.start)) (sym (firsts t)) (run.begun t));
+  none = run.none;
+  events = run.events ++ events;
+  now = after;
+  happen = subst (λ (k : WorldConfig). HappenOrResume (setup k) (run.events ++ events) run.start after) (sym config)
+      (happen_both (setup old.config) run.events events run.start run.now after run.happen happen);
+  is = is;
+}
 
 pub runs_on : (s : Side) (calls : List Call) (old new : WorldKept) → Happened s calls old new → HasRun old → HasRun new
 runs_on s calls old new h run =
     let next = h.follow run.now run.is in
-    let then : WorldKept = record old { one = new.one; two = new.two; puts = new.puts } in
-    subst HasRun (sym h.same) (record {
-      joined = run.joined;
-      counts = run.counts;
-      sources = run.sources;
-      start = run.start;
-      begun = λ (t : Side). same_first t (run.begun t);
-      none = run.none;
-      events = run.events ++ calls_at s calls;
-      now = next.0;
-      happen = happen_both (setup old.config) run.events (calls_at s calls) run.start run.now next.0 run.happen next.1;
-      is = subst (λ (w : WorldKept). IsPairOf w next.0) h.same next.2;
-    })
+    runs_more old new (map Calls (calls_at s calls)) run next.0 (ap (λ (w : WorldKept). w.config) h.same) firsts
+    (only_calls (setup old.config) (calls_at s calls) run.now next.0 next.1) next.2
   where
-    same_first : (t : Side) → IsNew (setup_of t (setup old.config)) (run.counts t) (run.sources t) (first_at t old) (at t run.start) →
-        IsNew (setup_of t (setup old.config)) (run.counts t) (run.sources t) (first_at t (record old { one = new.one; two = new.two; puts = new.puts })) (at t run.start)
-    same_first One b = b
-    same_first Two b = b
+    firsts : (t : Side) → first_at t new ≡ first_at t old
+    firsts One = ap (λ (w : WorldKept). w.first_one) h.same
+    firsts Two = ap (λ (w : WorldKept). w.first_two) h.same
+
+-- ---- a station that resumed
+resumed_config : (s : Side) (k : EndKept) (w : WorldKept) → (with_kept s k w).config ≡ w.config
+resumed_config One k w = refl
+resumed_config Two k w = refl
+
+resumed_first : (s t : Side) (k : EndKept) (w : WorldKept) → first_at t (with_kept s k w) ≡ first_at t w
+resumed_first One One k w = refl
+resumed_first One Two k w = refl
+resumed_first Two One k w = refl
+resumed_first Two Two k w = refl
+
+pub runs_resumed : (s : Side) (first number : ℕ) (old new : WorldKept) → HasResumed s first number old new → HasRun old → HasRun new
+runs_resumed s first number old new h run =
+    let next = h.follow run.now run.is in
+    runs_more old new (ResumesAt s first ∷ []) run next.0
+    (ap (λ (w : WorldKept). w.config) h.resumes.same ∙ resumed_config s (kept_at s new) old)
+    (λ (t : Side). ap (λ (w : WorldKept). first_at t w) h.resumes.same ∙ resumed_first s t (kept_at s new) old)
+    (next.0, next.1, refl) next.2
+
+-- whatever a call answered that should make a station resume
+pub resumes_by : (s : Side) (first number : ℕ) (result : Result Resumed AllocError) (old new : WorldKept) → (result ≡ Ok resumed.Done → HasResumed s first number old new) →
+    AnswersResume first number result (kept_at s old) (new ≡ old) → ResumesBy result s first number old new
+resumes_by s first number (Ok resumed.Done) old new done answers = done refl
+resumes_by s first number (Ok resumed.NumberUsed) old new done answers = answers.1
+resumes_by s first number (Ok resumed.FrameUsed) old new done answers = answers.2
+resumes_by s first number (Ok (resumed.NotRestored by)) old new done answers = answers.1
+resumes_by s first number (Err error) old new done answers = answers
+
+pub runs_by : (s : Side) (first number : ℕ) (result : Result Resumed AllocError) (old new : WorldKept) → ResumesBy result s first number old new → HasRun old → HasRun new
+runs_by s first number (Ok resumed.Done) old new by run = runs_resumed s first number old new by run
+runs_by s first number (Ok resumed.NumberUsed) old new by run = subst HasRun (sym by) run
+runs_by s first number (Ok resumed.FrameUsed) old new by run = subst HasRun (sym by) run
+runs_by s first number (Ok (resumed.NotRestored why)) old new by run = subst HasRun (sym by) run
+runs_by s first number (Err error) old new by run = subst HasRun (sym by) run

@@ -1,12 +1,10 @@
 -- What is kept of two stations, as calls are made at one of them.
-use Rattle.std.proofs.Common.{◌≡◌, ◌≢◌, ℕ, zero, suc, ◌+◌, ◌<◌, ◌≤◌, true, Option, Some, None, IfSome, List, [], ◌∷◌, ◌++◌, ◌⊎◌, length, map, slice_index_or, refl, sym, ap, ap₂, subst, ◌∙◌, inl, inr, arith, append-nil, append_assoc}
-use Rattle.std.proofs.lemmas.List.{map-append}
+use Rattle.std.proofs.Common.{◌≡◌, ℕ, ◌≤◌, None, List, [], ◌∷◌, ◌++◌, length, refl, sym, ap, ap₂, subst, ◌∙◌, arith, append-nil, append_assoc}
 use Rattle.aos_frame.specs.declared.config.Lane.{Lane}
 use Rattle.aos_frame.specs.declared.config.Lane.TheVariants.{Directives, Data}
 use Rattle.aos_frame.specs.declared.config.LinkConfig.{LinkConfig}
-use Rattle.link_stack.specs.AnyOrder.{IsWithinCounts}
-use Rattle.link_stack.specs.EndToEnd.{AreNear, DownCall, Put, Fill, Make, keep_place, made_of}
-use Rattle.link_stack.specs.Lives.{AreComingOf, ComingOf, CopyOf, NoiseOf, Life, life_at, made_in, numbers_of, octets_coming}
+use Rattle.link_stack.specs.EndToEnd.{AreNear, DownCall, Fill, Make, made_of}
+use Rattle.link_stack.specs.Lives.{Life, life_at, numbers_of}
 use Rattle.cfdp_directives.specs.declared.user.indication.Indication.{Indication}
 use Rattle.cfdp_directives.specs.User.Put as user
 use Rattle.cfdp_station.specs.declared.config.StationConfig.{StationConfig}
@@ -15,7 +13,7 @@ use Rattle.any_order.specs.Calls.{Call, Puts, Asks, Tells, Polls, Fills, Gives, 
 use Rattle.cfdp_station.specs.Transmitting.{GivesFrame}
 use Rattle.any_order.specs.Kept.{DoesCalls, EndKept, GivesAll, HasTaken, IsOf, LifeKept, MadeFrame, Makes, gives, kept_of, last_at, last_of, present, with_frame}
 use Rattle.any_order.proofs.Lists.{made_append}
-use Rattle.any_order.proofs.Lives.{Grow, IsLonger, coming_both, coming_grown, grow_last, grow_more, grow_none, numbers_grown}
+use Rattle.any_order.proofs.Lives.{Grow, coming_grown, grow_last, grow_more, grow_none, numbers_grown}
 
 -- ---- what is made
 abbrev pub more_kept : List DownCall → LifeKept → LifeKept

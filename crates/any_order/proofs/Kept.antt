@@ -1,12 +1,12 @@
 -- What every call keeps of a station and of the one at the other end.
-use Rattle.std.proofs.Common.{◌≡◌, ◌≢◌, ℕ, zero, suc, ◌+◌, ◌<◌, ◌≤◌, ◌^◌, Option, None, List, [], ◌∷◌, ◌++◌, ◌⊎◌, length, map, refl, sym, ap, subst, ◌∙◌, inl, inr, arith, append-nil, append_assoc}
+use Rattle.std.proofs.Common.{◌≡◌, ◌≢◌, ℕ, zero, suc, ◌<◌, ◌≤◌, Option, None, List, [], ◌∷◌, ◌++◌, ◌⊎◌, length, map, refl, sym, ap, subst, ◌∙◌, inl, inr, arith, append-nil, append_assoc}
 use Rattle.std.specs.Prelude.{Contains, Some}
 use Rattle.std.proofs.lemmas.List.{map-append}
 use Rattle.aos_frame.specs.Frame.{IsLink}
 use Rattle.aos_frame.specs.declared.config.Lane.{Lane}
 use Rattle.aos_frame.specs.declared.config.LinkConfig.{LinkConfig}
 use Rattle.link_stack.specs.AnyOrder.{ReceivesAll}
-use Rattle.link_stack.specs.Downward.{DownState, both_counted_from, first_down}
+use Rattle.link_stack.specs.Downward.{both_counted_from, first_down}
 use Rattle.link_stack.specs.EndToEnd.{AreNear, DoesAll, DownCall, puts_of}
 use Rattle.link_stack.specs.Lives.{AreApart, AreComingOf, ComingOf, IsLife, Life, WerePutIn, life_at, numbers_of, octets_coming}
 use Rattle.link_stack.specs.Upward.{UpState, first_up}

@@ -1,15 +1,14 @@
 -- What each method of a station's end does, as the calls that were made.
-use Rattle.std.proofs.Common.{◌≡◌, ℕ, List, [], ◌∷◌, ◌++◌, ◌⊎◌, Result, Ok, Err, OnOk, OnErr, IfOk, map, refl, sym, ap, ap₂, subst, ◌∙◌, inl, inr, append-nil}
+use Rattle.std.proofs.Common.{◌≡◌, ℕ, List, [], ◌∷◌, ◌++◌, Result, Ok, Err, OnOk, OnErr, map, refl, sym, ap, ap₂, subst, ◌∙◌, append-nil}
 use Rattle.std.proofs.lemmas.List.{map-append}
 use Rattle.std.specs.declared.alloc.AllocError.{AllocError}
 use Rattle.aos_frame.specs.Frame.{other_lane}
 use Rattle.aos_frame.specs.declared.config.Lane.{Lane}
 use Rattle.aos_frame.specs.declared.config.Lane.TheVariants.{Directives, Data}
 use Rattle.link_stack.specs.Downward.{Flushes, lane_down}
-use Rattle.link_stack.specs.EndToEnd.{DownCall, Put, Fill, Make, made_of}
+use Rattle.link_stack.specs.EndToEnd.{DownCall, Fill}
 use Rattle.cfdp_header.specs.declared.value.TransactionId.{TransactionId}
 use Rattle.cfdp_directives.specs.User.Put as user
-use Rattle.cfdp_entity.specs.declared.error.PutError.{PutError}
 use Rattle.cfdp_entity.specs.declared.error.RequestError.{RequestError}
 use Rattle.cfdp_entity.specs.declared.request.Request.{Request}
 use Rattle.cfdp_header.specs.Files.{FileMap}
@@ -24,7 +23,7 @@ use Rattle.cfdp_station.specs.declared.polled.Polled.{Polled}
 use Rattle.cfdp_station.specs.declared.polled.Polled.TheVariants.{Moved, Nothing, Full, SourceFailed}
 use Rattle.cfdp_station.specs.Polling.{Polls as IsPolled}
 use Rattle.cfdp_station.specs.Station.{KeepsLink, KeepsRest, StationState}
-use Rattle.any_order.specs.Calls.{Call, Puts, Asks, Tells, Polls, Fills, Refuses, Does, DoesCall, End, entity_of, numbered_from, sent_by}
+use Rattle.any_order.specs.Calls.{Call, Puts, Asks, Tells, Polls, Fills, Refuses, Does, DoesCall, End, numbered_from, sent_by}
 use Rattle.any_order.specs.Kept.{EndKept, GivesAll, LifeKept, MadeFrame, Makes, gives}
 use Rattle.any_order.specs.World.{request_calls, tick_calls}
 use Rattle.any_order.proofs.Keeping.{MakesNone, makes_both, makes_gives, makes_one, none_kept, on, on_does}

@@ -1,11 +1,11 @@
 -- What a frame that a station takes does to its end of the link, whatever came up before.
-use Rattle.std.proofs.Common.{◌≡◌, ℕ, Bool, true, List, [], ◌∷◌, ◌++◌, ◌⊎◌, refl, sym, ap, subst, ◌∙◌, inl, inr, append-nil}
+use Rattle.std.proofs.Common.{◌≡◌, ℕ, Bool, true, List, [], ◌∷◌, ◌++◌, ◌⊎◌, refl, sym, ap, subst, inl, inr}
 use Rattle.mpdu.specs.Stream.{survivors}
 use Rattle.link_stack.specs.AnyOrder.{Receives}
 use Rattle.link_stack.specs.declared.drops.LinkDrop.TheVariants.{NoMemory}
 use Rattle.link_stack.specs.Drops.{counted}
 use Rattle.link_stack.specs.Frames.{pdus_in}
-use Rattle.link_stack.specs.Upward.{FrameRead, HasZone, IsNextFrame, IsNextFrameOf, IsUp, IsUpOf, LaneTakes, LinkReceiverState, Takes, TakesFront, TakesNextOf, TakesNextFrontOf, frame_read}
+use Rattle.link_stack.specs.Upward.{FrameRead, HasZone, LaneTakes, LinkReceiverState, Takes, TakesFront, TakesNextOf, TakesNextFrontOf, frame_read}
 use Rattle.cfdp_station.specs.Station.{StationState}
 use Rattle.cfdp_station.specs.Taking.{TakesFrame}
 

@@ -1,13 +1,12 @@
 -- Sending ends at which more is done, and more of them.
-use Rattle.std.proofs.Common.{◌≡◌, ℕ, zero, suc, ◌+◌, ◌<◌, ◌≤◌, List, [], ◌∷◌, ◌++◌, ◌⊎◌, length, map, slice_index_or, refl, sym, ap, ap₂, subst, ◌∙◌, inl, inr, arith, append-nil, length-append}
+use Rattle.std.proofs.Common.{◌≡◌, ℕ, ◌+◌, ◌<◌, ◌≤◌, List, [], ◌∷◌, ◌++◌, length, map, slice_index_or, refl, sym, ap, subst, ◌∙◌, inl, inr, arith, append-nil, length-append}
 use Rattle.std.specs.Prelude.{Contains}
 use Rattle.std.proofs.lemmas.Bool.{cases_lt}
 use Rattle.std.proofs.lemmas.List.{get_or_append_left, get_or-append-add}
 use Rattle.aos_frame.specs.declared.config.Lane.{Lane}
 use Rattle.aos_frame.specs.declared.config.LinkConfig.{LinkConfig}
-use Rattle.link_stack.specs.Downward.{both_counted_from, first_down}
-use Rattle.link_stack.specs.EndToEnd.{DoesAll, DownCall, keep_place, made_of, puts_of}
-use Rattle.link_stack.specs.Lives.{AreApart, AreComingOf, ComingOf, CopyOf, NoiseOf, IsLife, Life, life_at, made_in, numbers_of, octets_coming}
+use Rattle.link_stack.specs.EndToEnd.{DownCall, keep_place, made_of, puts_of}
+use Rattle.link_stack.specs.Lives.{AreApart, AreComingOf, ComingOf, CopyOf, NoiseOf, Life, life_at, made_in, numbers_of, octets_coming}
 use Rattle.cfdp_directives.proofs.Puts.{Contains-append_left}
 use Rattle.any_order.proofs.Lists.{made_append, puts_append}
 

@@ -1,9 +1,8 @@
 -- What stays of a station's lives, whatever is called.
-use Rattle.std.proofs.Common.{◌≡◌, ℕ, List, [], ◌∷◌, ◌++◌, map, refl, ap, sym, ◌∙◌}
+use Rattle.std.proofs.Common.{◌≡◌, ℕ, List, [], ◌∷◌, ◌++◌, map, ap, sym, ◌∙◌}
 use Rattle.cfdp_directives.specs.declared.user.indication.Indication.{Indication}
 use Rattle.cfdp_directives.specs.User.Put as user
 use Rattle.cfdp_entity.specs.Entity.{Counted, EntityState}
-use Rattle.cfdp_entity.specs.Sound.{GoesOn as goes_on}
 use Rattle.cfdp_station.specs.Station.{StationState}
 use Rattle.cfdp_station.specs.declared.config.StationConfig.{StationConfig}
 use Rattle.cfdp_station.specs.declared.polled.Polled.TheVariants.{Moved, Nothing, Full, SourceFailed}
@@ -11,10 +10,11 @@ use Rattle.cfdp_station.proofs.AnyOrder.{TruthLaws}
 use Rattle.cfdp_store.specs.declared.stored.Stored.TheVariants.{Done, Refused}
 use Rattle.link_stack.specs.EndToEnd.{DownCall}
 use Rattle.link_stack.specs.Lives.{Life}
-use Rattle.any_order.specs.Calls.{At, Call, Does, DoesCall, End, Happen, IsOneLife, One, Two, Pair, Puts, Asks, Tells, Polls, Fills, Gives, Receives, Refuses, Restarts, Setup, Side, at, entity_of, lives, other, setup_of}
-use Rattle.any_order.specs.Kept.{EndKept, LifeKept, IsOf, all_kept, kept_of}
-use Rattle.any_order.specs.Onward.{AreNoStarts, BeginsAnew, GoesOn, IsNoStart}
-use Rattle.any_order.specs.World.{Happened, KeepsPromise, WorldKept, calls_at, kept_at, setup}
+use Rattle.any_order.specs.Calls.{Call, Does, DoesCall, End, Happen, IsOneLife, One, Two, Pair, Puts, Asks, Tells, Polls, Fills, Gives, Receives, Refuses, Restarts, Setup, Side, at, entity_of, other, setup_of}
+use Rattle.any_order.specs.Kept.{EndKept, IsOf, all_kept, kept_of}
+use Rattle.any_order.specs.Onward.{AreNoStarts, BeginsAnew, GoesOn, GoesOnInNewLife, IsNoStart}
+use Rattle.any_order.specs.Resuming.{HappensOrResumes, Resumes, ResumesAt}
+use Rattle.any_order.specs.World.{Happened, HasResumed, KeepsPromise, WorldKept, calls_at, kept_at, setup, sources_at}
 use Rattle.any_order.proofs.Calls.{EntityLaws, all_goes, served_goes}
 use Rattle.any_order.proofs.Coming.{kept_lives}
 
@@ -38,6 +38,14 @@ does_goes calls added old new p q d gone = in_life old new d.goes_on gone
 
 same_gone : (old new : EntityState) → new ≡ old → new.table.gone ≡ old.table.gone
 same_gone old new e = ap (λ (x : EntityState). x.table.gone) e
+
+-- of what is kept
+kept_goes : (k l : EndKept) (old new : End) → IsOf k old → IsOf l new → EndGoes old new → GoesOn k l
+kept_goes k l old new is then goes = record {
+  before = sym then.before ∙ (ap (λ (x : List Life). map kept_of x) goes.before ∙ is.before);
+  told_before = sym then.told ∙ (goes.told ∙ is.told);
+  gone = sym (ap (λ (st : StationState). st.entity.state.table.gone) then.station) ∙ (goes.gone ∙ ap (λ (st : StationState). st.entity.state.table.gone) is.station);
+}
 
 module _ (laws : EntityLaws) (truth : TruthLaws) where
   call_goes : (call : Call) (c : StationConfig) (old theirs new : End) (p q : List user.Put) → DoesCall call c old theirs new p q → IsNoStart call → EndGoes old new
@@ -67,14 +75,6 @@ module _ (laws : EntityLaws) (truth : TruthLaws) where
   happen_goes [] t s c old new same nostart = goes_none (at s old) (at s new) (ap (λ (p : Pair). at s p) same)
   happen_goes (call ∷ calls) t s c old new (mid, one, rest) nostart =
       goes_then (at s old) (at s mid) (at s new) (happens_goes t s call c old mid one.0 one.1 nostart.0) (happen_goes calls t s c mid new rest nostart.1)
-
-  -- of what is kept
-  kept_goes : (k l : EndKept) (old new : End) → IsOf k old → IsOf l new → EndGoes old new → GoesOn k l
-  kept_goes k l old new is then goes = record {
-    before = sym then.before ∙ (ap (λ (x : List Life). map kept_of x) goes.before ∙ is.before);
-    told_before = sym then.told ∙ (goes.told ∙ is.told);
-    gone = sym (ap (λ (st : StationState). st.entity.state.table.gone) then.station) ∙ (goes.gone ∙ ap (λ (st : StationState). st.entity.state.table.gone) is.station);
-  }
 
   pub world_goes : (t : Side) (calls : List Call) (old new : WorldKept) → KeepsPromise old → Happened t calls old new → AreNoStarts calls → (s : Side) → GoesOn (kept_at s old) (kept_at s new)
   world_goes t calls old new promised happened nostart s =
@@ -111,4 +111,40 @@ world_begins t first number old new promised happened =
         gone = sym (ap (λ (st : StationState). st.entity.state.table.gone) (next.2.of (other t)).station)
             ∙ ((other_goes t promised.run.now next.0 mid next.1.1.1 same).gone ∙ ap (λ (st : StationState). st.entity.state.table.gone) (promised.run.is.of (other t)).station);
       },
+    )
+
+-- ---- a station that resumes
+resumed_goes : (k : EndKept) (old new : End) (first : ℕ) (c : StationConfig) → IsOf k old → Resumes first c old new → map kept_of new.lives_before ≡ all_kept k
+resumed_goes k old new first c is r = ap (λ (l : List Life). map kept_of l) r.lives_before ∙ kept_lives k old is
+
+resumed_sources : (t s : Side) (c : Setup) (first : ℕ) (old new : Pair) → HappensOrResumes c (ResumesAt t first) old new → (entity_of (at s new)).table.sources ≡ (entity_of (at s old)).table.sources
+resumed_sources One One c first old new (does, same, others) = does.entity.sources
+resumed_sources One Two c first old new (does, same, others) = ap (λ (e : End). (entity_of e).table.sources) others
+resumed_sources Two One c first old new (does, same, others) = ap (λ (e : End). (entity_of e).table.sources) others
+resumed_sources Two Two c first old new (does, same, others) = does.entity.sources
+
+pub world_goes_on : (t : Side) (first number : ℕ) (old new : WorldKept) → KeepsPromise old → HasResumed t first number old new →
+    GoesOnInNewLife (kept_at t old) (kept_at t new) × (GoesOn (kept_at (other t) old) (kept_at (other t) new) × ((s : Side) → sources_at s new ≡ sources_at s old))
+world_goes_on t first number old new promised h =
+    let next = h.follow promised.run.now promised.run.is in
+    let mine : End = at t promised.run.now in
+    let resumes : Resumes first (setup_of t (setup old.config)) mine (at t next.0) = next.1.0 in
+    let is : IsOf (kept_at t old) mine = promised.run.is.of t in
+    let then : IsOf (kept_at t new) (at t next.0) = next.2.of t in
+    let entity = h.resumes.kept.entity in
+    let others : at (other t) next.0 ≡ at (other t) promised.run.now = next.1.2 in (
+      record {
+        before = sym then.before ∙ resumed_goes (kept_at t old) mine (at t next.0) first (setup_of t (setup old.config)) is resumes;
+        told_before = sym then.told ∙ (resumes.told_before ∙ is.told);
+        told = ap (λ (e : EntityState). e.table.told) entity.told;
+        gone = ap (λ (e : EntityState). e.table.gone) entity.told;
+      },
+      (
+        kept_goes (kept_at (other t) old) (kept_at (other t) new) (at (other t) promised.run.now) (at (other t) next.0) (promised.run.is.of (other t)) (next.2.of (other t))
+            (goes_none (at (other t) promised.run.now) (at (other t) next.0) others),
+        λ s.
+            ap (λ (st : StationState). st.entity.state.table.sources) (sym ((next.2.of s).station))
+            ∙ (resumed_sources t s (setup old.config) first promised.run.now next.0 next.1
+            ∙ ap (λ (st : StationState). st.entity.state.table.sources) ((promised.run.is.of s).station)),
+      ),
     )

@@ -1,11 +1,11 @@
 -- From two stations at which nothing was done to what holds of them after any calls.
-use Rattle.std.proofs.Common.{◌≡◌, ◌≢◌, ℕ, zero, suc, ◌+◌, ◌<◌, ◌≤◌, Option, Some, None, List, [], ◌∷◌, ◌++◌, ◌⊎◌, length, map, refl, sym, ap, subst, ◌∙◌, inl, inr, arith, append-nil}
-use Rattle.std.specs.Prelude.{Contains, count_by}
+use Rattle.std.proofs.Common.{◌≡◌, ℕ, ◌+◌, ◌<◌, ◌≤◌, Option, Some, None, List, [], ◌∷◌, ◌++◌, length, map, refl, sym, ap, subst, ◌∙◌, inl, inr, arith, append-nil}
+use Rattle.std.specs.Prelude.{Contains}
 use Rattle.aos_frame.specs.declared.config.Lane.{Lane}
 use Rattle.link_stack.specs.AnyOrder.{ReceivesAll}
 use Rattle.link_stack.specs.Downward.{both_counted_from, first_down}
 use Rattle.link_stack.specs.EndToEnd.{AreNear, DoesAll, DownCall, made_of, puts_of}
-use Rattle.link_stack.specs.Lives.{AreApart, AreComingOf, ComingOf, IsLife, Life, life_at, made_in, numbers_of, octets_coming}
+use Rattle.link_stack.specs.Lives.{AreApart, AreComingOf, ComingOf, IsLife, Life, life_at, numbers_of, octets_coming}
 use Rattle.link_stack.specs.Upward.{first_up}
 use Rattle.cfdp_header.specs.declared.value.Header.{Header}
 use Rattle.cfdp_header.specs.declared.value.TransactionId.{TransactionId}
@@ -17,20 +17,20 @@ use Rattle.cfdp_directives.specs.declared.pdu.codes.FileStatus.TheVariants.{Reta
 use Rattle.cfdp_directives.specs.Pdu.Codes.{no_error}
 use Rattle.cfdp_directives.specs.Pdu.Content.{Content}
 use Rattle.cfdp_directives.specs.Pdu.Grammar.{SpellsPdu}
-use Rattle.cfdp_directives.specs.User.Completions.{completions, is_finished, IsToldComplete}
+use Rattle.cfdp_directives.specs.User.Completions.{completions, IsToldComplete}
 use Rattle.cfdp_directives.specs.User.Put.{Put, HeardInFull, SaysComplete, SaysTruth, SomePdu, inbox_after}
-use Rattle.cfdp_directives.proofs.Puts.{completions-append, inbox_after-append, HeardInFull-append, SomePdu-append_left}
+use Rattle.cfdp_directives.proofs.Puts.{completions-append, inbox_after-append}
 use Rattle.cfdp_entity.specs.declared.config.EntityConfig.{EntityConfig}
 use Rattle.cfdp_entity.specs.Config.{IsConfig}
 use Rattle.cfdp_entity.specs.Entity.{EntityState, first_entity}
-use Rattle.cfdp_entity.specs.Sound.{FindsMore, IsSound}
+use Rattle.cfdp_entity.specs.Sound.{IsSound}
 use Rattle.cfdp_station.specs.declared.config.StationConfig.{StationConfig}
 use Rattle.cfdp_station.proofs.AnyOrder.{TruthLaws}
 use Rattle.any_order.specs.Calls.{AreJoined, At, Call, DoesCall, End, Event, Happen, Happens, IsNew, One, Two, Pair, Setup, Side, StartsAnew, at, entity_of, lives, numbered_from, other, setup_of}
 use Rattle.any_order.specs.Promise.{HasSent, HoldsAt, IsTold, completed, found, heard_ever, own, told_ever}
-use Rattle.any_order.proofs.Calls.{Anew, EntityLaws, call_moves}
+use Rattle.any_order.proofs.Calls.{EntityLaws, call_moves}
 use Rattle.any_order.proofs.Kept.{Grounds, IsJoinedTo, IsKept, IsPast, KeepsLife, SaysSo, TellsAll, both_mine, both_theirs, heard_put, in_either, says_more, stays, tells_behind, this_life}
-use Rattle.any_order.proofs.Lives.{Grow, WasPut, apart_more, apart_one, count_lives, each_life, grow_more}
+use Rattle.any_order.proofs.Lives.{Grow, WasPut, apart_more, apart_one, each_life, grow_more}
 
 pub record Laws : Type 0 where
   pub grounds : Grounds
@@ -262,7 +262,7 @@ call_kept laws call c t first there puts puts_then old theirs new joined link k 
       (both_anew laws c t first there puts old theirs new joined link k o a.0 a.1.0 a.1.1.0)
 ]
 
-happens_kept : Laws → (c : Setup) (firsts : Firsts) (event : Event) (old new : Pair) → AreJoined c → Happens c event old new → AreKept c firsts old → AreKept c firsts new
+pub happens_kept : Laws → (c : Setup) (firsts : Firsts) (event : Event) (old new : Pair) → AreJoined c → Happens c event old new → AreKept c firsts old → AreKept c firsts new
 happens_kept laws c firsts (At One call) old new joined (does, same) k =
     let both : BothKept c.one c.two (firsts One) (firsts Two) new.puts new.one old.two =
     call_kept laws call c.one c.two (firsts One) (firsts Two) old.puts new.puts old.one old.two new.one (joined_to c One joined) (joined.link One) (k One) (k Two) does in

@@ -1,10 +1,9 @@
 -- The files that two stations can send stay, whatever is called.
 use Rattle.std.proofs.Common.{◌≡◌, List, [], ◌∷◌, ap, sym, ◌∙◌}
-use Rattle.cfdp_header.specs.Files.{FileMap}
 use Rattle.cfdp_station.specs.Station.{StationState}
 use Rattle.cfdp_station.proofs.AnyOrder.{TruthLaws}
 use Rattle.any_order.specs.Calls.{At, Call, End, Event, Happen, Happens, One, Two, Pair, Setup, Side, at, entity_of}
-use Rattle.any_order.specs.World.{Happened, KeepsPromise, WorldKept, calls_at, kept_at, setup, sources_at}
+use Rattle.any_order.specs.World.{Happened, KeepsPromise, WorldKept, calls_at, setup, sources_at}
 use Rattle.any_order.proofs.Calls.{EntityLaws, call_sources}
 
 module _ (laws : EntityLaws) (truth : TruthLaws) where

@@ -4,7 +4,7 @@
 use Rattle.std.specs.Prelude.{◌≡◌, ◌+◌, ◌<◌, ◌≤◌, ◌^◌, ℕ, None, List, [], ◌∷◌, ◌++◌, length}
 use Rattle.aos_frame.specs.Frame.{other_lane}
 use Rattle.aos_frame.specs.declared.config.Lane.{Lane}
-use Rattle.link_stack.specs.Downward.{DownState, Flushes, both_counted_from, first_down, lane_down}
+use Rattle.link_stack.specs.Downward.{Flushes, both_counted_from, first_down, lane_down}
 use Rattle.link_stack.specs.EndToEnd.{AreNear, DownCall, Put, Fill, Make, made_of}
 use Rattle.link_stack.specs.Lives.{AreComingOf, ComingOf, Life, numbers_of, octets_coming}
 use Rattle.link_stack.specs.Upward.{first_up}

@@ -28,3 +28,10 @@ pub record BeginsAnew (old new : EndKept) : Type 0 where
   pub before : new.before ≡ all_kept old
   pub told_before : new.told_before ≡ old.told_before ++ old.station.entity.state.table.told
   pub gone : let_go_at new ≡ 0
+
+-- It resumes: its link begins another life, and the list of what it indicated goes on.
+pub record GoesOnInNewLife (old new : EndKept) : Type 0 where
+  pub before : new.before ≡ all_kept old
+  pub told_before : new.told_before ≡ old.told_before
+  pub told : new.station.entity.state.table.told ≡ old.station.entity.state.table.told
+  pub gone : let_go_at new ≡ let_go_at old

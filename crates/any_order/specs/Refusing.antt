@@ -23,6 +23,8 @@ use Rattle.any_order.specs.declared.answers.Delivered.{Delivered}
 use Rattle.any_order.specs.declared.answers.Delivered.TheVariants as delivered
 use Rattle.any_order.specs.declared.answers.Restarted.{Restarted}
 use Rattle.any_order.specs.declared.answers.Restarted.TheVariants as restarted
+use Rattle.any_order.specs.declared.answers.Resumed.{Resumed}
+use Rattle.any_order.specs.declared.answers.Resumed.TheVariants as resumed
 use Rattle.any_order.specs.declared.answers.SentFrame.{SentFrame}
 use Rattle.any_order.specs.Kept.{EndKept, LifeKept, all_kept, frames_in, last_at}
 
@@ -133,3 +135,15 @@ AnswersStart first number (Ok restarted.NumberUsed) k unchanged =
 AnswersStart first number (Ok restarted.FrameUsed) k unchanged =
     (k.station.entity.state.next ≤ number) × IsUsedFrame first k.latest × unchanged
 AnswersStart first number (Err error) k unchanged = unchanged
+
+-- a station that resumes
+abbrev pub AnswersResume : (first number : ℕ) → Result Resumed AllocError → EndKept →
+    (unchanged : Type 0) → Type 0
+AnswersResume first number (Ok resumed.Done) k unchanged = CanStart first number k
+AnswersResume first number (Ok resumed.NumberUsed) k unchanged =
+    IsUsedNumber number k × unchanged
+AnswersResume first number (Ok resumed.FrameUsed) k unchanged =
+    (k.station.entity.state.next ≤ number) × IsUsedFrame first k.latest × unchanged
+AnswersResume first number (Ok (resumed.NotRestored by)) k unchanged =
+    CanStart first number k × unchanged
+AnswersResume first number (Err error) k unchanged = unchanged

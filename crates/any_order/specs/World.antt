@@ -20,9 +20,13 @@ use Rattle.any_order.specs.declared.answers.Delivered.{Delivered}
 use Rattle.any_order.specs.declared.answers.Delivered.TheVariants as delivered
 use Rattle.any_order.specs.declared.answers.Restarted.{Restarted}
 use Rattle.any_order.specs.declared.answers.Restarted.TheVariants as restarted
+use Rattle.any_order.specs.declared.answers.Resumed.{Resumed}
+use Rattle.any_order.specs.declared.answers.Resumed.TheVariants as resumed
 use Rattle.any_order.specs.declared.answers.SentFrame.{SentFrame}
 use Rattle.any_order.specs.Calls.{AreJoined, Call, Puts, Asks, Tells, Polls, Fills, Receives}
 use Rattle.any_order.specs.Calls.{Refuses, Restarts, Event, At, Happen, IsNew, One, Two, Pair}
+use Rattle.any_order.specs.Resuming.{HappenOrResume, HappensOrResumes, LifeEvent, ResumesAt}
+use Rattle.any_order.specs.Restoring.{ResumesKept}
 use Rattle.any_order.specs.Calls.{Setup, Side, at, other, setup_of}
 use Rattle.any_order.specs.Kept.{EndKept, HasTaken, IsNewKept, IsOf, MadeFrame, gives}
 use Rattle.any_order.specs.Promise.{HoldsAt, found}
@@ -44,6 +48,10 @@ side_of sides.Two = Two
 abbrev pub kept_at : Side → WorldKept → EndKept
 kept_at One w = w.one
 kept_at Two w = w.two
+
+abbrev pub with_kept : Side → EndKept → WorldKept → WorldKept
+with_kept One k w = record w { one = k }
+with_kept Two k w = record w { two = k }
 
 -- the files that the station at a side can send
 abbrev pub sources_at : Side → WorldKept → FileMap
@@ -73,6 +81,27 @@ pub record Happened (s : Side) (calls : List Call) (old new : WorldKept) : Type 
   pub follow : (before : Pair) → IsPairOf old before →
       (after : Pair) × Happen (setup old.config) (calls_at s calls) before after
       × IsPairOf new after
+
+-- What is kept of a station that resumed is as `ResumesKept` says; of the other one, and of the
+-- puts, it is as it was.
+pub record ResumesIn (s : Side) (first number : ℕ) (old new : WorldKept) : Type 0 where
+  pub same : new ≡ with_kept s (kept_at s new) old
+  pub kept : ResumesKept first number (setup_of s (setup old.config)) (kept_at s old)
+      (kept_at s new)
+
+-- A station resumed, and counts its frames from this number on. Whatever was done before at both
+-- stations, if this was kept of it, then the station resumed since, and that is kept now.
+pub record HasResumed (s : Side) (first number : ℕ) (old new : WorldKept) : Type 0 where
+  pub resumes : ResumesIn s first number old new
+  pub follow : (before : Pair) → IsPairOf old before →
+      (after : Pair) × HappensOrResumes (setup old.config) (ResumesAt s first) before after
+      × IsPairOf new after
+
+-- A call answered so that should make a station resume: it resumed, or nothing changed.
+abbrev pub ResumesBy : Result Resumed AllocError → Side → (first number : ℕ) →
+    (old new : WorldKept) → Type 0
+ResumesBy (Ok resumed.Done) s first number old new = HasResumed s first number old new
+ResumesBy _ s first number old new = new ≡ old
 
 -- ---- which calls they are, by the answer
 abbrev pub put_calls : (source destination : List ℕ) → Result TransactionId PutError → List Call
@@ -124,7 +153,8 @@ pub record IsNewWorld (c : WorldConfig) (sources files : FileMap × FileMap) (w 
   pub first_one : w.first_one ≡ files.0
   pub first_two : w.first_two ≡ files.1
 
--- Two stations were new, and calls were made at them; what is kept is of the two that these led to.
+-- Two stations were new, and calls were made at them, or they resumed; what is kept is of the two
+-- that this led to.
 pub record HasRun (w : WorldKept) : Type 0 where
   pub joined : AreJoined (setup w.config)
   pub counts : Side → ℕ
@@ -133,14 +163,14 @@ pub record HasRun (w : WorldKept) : Type 0 where
   pub begun : (s : Side) → IsNew (setup_of s (setup w.config)) (counts s) (sources s) (first_at s w)
       (at s start)
   pub none : start.puts ≡ []
-  pub events : List Event
+  pub events : List LifeEvent
   pub now : Pair
-  pub happen : Happen (setup w.config) events start now
+  pub happen : HappenOrResume (setup w.config) events start now
   pub is : IsPairOf w now
 
--- Calls led to what is kept; and whatever calls they were, the promise holds of the two stations
--- that these led to. So it holds of what is kept: each inbox is the first one, overwritten by the
--- files of the puts that its station indicated complete, over all its lives, in that order.
+-- Calls and resumes led to what is kept; and whatever they were, the promise holds of the two
+-- stations that these led to. So it holds of what is kept: each inbox is the first one, overwritten
+-- by the files of the puts that its station indicated complete, over all its lives, in that order.
 pub record KeepsPromise (w : WorldKept) : Type 0 where
   pub run : HasRun w
   pub holds : (any : HasRun w) (s : Side) → HoldsAt s (first_at s w) any.now

@@ -1,5 +1,6 @@
 //! What the calls of a world answer.
 use aos_frame::Lane;
+use cfdp_entity::RestoreError;
 
 /// A frame that a station made: in which of its lives, from 0 on, in which lane, and at which place
 /// among the frames of that life and lane, from 0 on.
@@ -32,4 +33,17 @@ pub enum Restarted {
     NumberUsed,
     /// A frame of it had this number, or a later one, or the one before.
     FrameUsed,
+}
+
+/// What became of a station that a call should resume.
+#[derive(Clone, Copy, Debug, PartialEq, Eq)]
+pub enum Resumed {
+    /// It resumed.
+    Done,
+    /// A put of it had this number, or a later one.
+    NumberUsed,
+    /// A frame of it had this number, or a later one, or the one before.
+    FrameUsed,
+    /// A record wasn't restored, for this reason. For example, the outbox failed.
+    NotRestored(RestoreError),
 }

@@ -13,6 +13,7 @@ ghost use Rattle.link_stack.specs.Upward.{first_up};
 ghost use Rattle.std.specs.List.{flat_map};
 ghost use Rattle.cfdp_directives.specs.User.Put.{Put};
 ghost use Rattle.cfdp_entity.specs.Entity.{first_entity};
+ghost use Rattle.cfdp_entity.specs.Exchanging.{told_by};
 ghost use Rattle.cfdp_entity.specs.Polling.{turn};
 ghost use Rattle.cfdp_entity.specs.Putting.{Accepts};
 ghost use Rattle.cfdp_entity.specs.Sound.{SpellsTurn};
@@ -379,6 +380,64 @@ impl<O: SteadyOutbox, I: Inbox> OneEnd<O, I> {
                 self.last_data = None;
                 self.next = Some(number);
                 drop(old);
+                Ok(())
+            }
+            Err(AllocError) => {
+                drop(station);
+                Err(AllocError)
+            }
+        }
+    }
+}
+
+/// Makes what a new station indicated go on after what another one indicated, and puts it in place
+/// of that one, which is dropped.
+fn replace_by<O: SteadyOutbox, I: Inbox>(killed: &mut Station<O, I>, station: Station<O, I>)
+    ensures state { killed.new.entity.state
+        ≡ told_by killed.old.entity.state station.entity.state }
+    ensures down { killed.new.down ≡ station.down }
+    ensures up { killed.new.up ≡ station.up }
+{
+    let mut station = station;
+    station.exchange_indications(killed);
+    let old = mem::replace(killed, station);
+    drop(old);
+}
+
+impl<O: SteadyOutbox, I: Inbox> OneEnd<O, I> {
+    /// Goes on as another station, on which its records were restored: its puts are numbered from
+    /// this number on, and its frames from that one. What it indicated goes on.
+    pub(crate) fn resume(
+        &mut self,
+        alloc: Global,
+        station: Station<O, I>,
+        number: u64,
+        first: u32,
+    ) -> Result<(), AllocError>
+        requires { station.entity.state.next ≡ number }
+        ensures state { OnOk result (self.new.station.entity.state
+            ≡ told_by self.old.station.entity.state station.entity.state) }
+        ensures down { OnOk result (self.new.station.down ≡ station.down) }
+        ensures up { OnOk result (self.new.station.up ≡ station.up) }
+        ensures ok { OnOk result (self.new ≡ record self.old {
+          station = self.new.station;
+          before = self.old.before ++ self.old.latest ∷ [];
+          latest = record { first = first; directives = []; file_data = [] };
+          last_directives = None;
+          last_data = None;
+        }) }
+        ensures err { OnErr result (self.new ≡ self.old) }
+    {
+        match close(
+            &mut self.before,
+            &mut self.latest,
+            LifeFrames::new(alloc, first),
+        ) {
+            Ok(()) => {
+                replace_by(&mut self.station, station);
+                self.last_directives = None;
+                self.last_data = None;
+                self.next = Some(number);
                 Ok(())
             }
             Err(AllocError) => {

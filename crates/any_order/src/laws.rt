@@ -1,14 +1,17 @@
-//! The law, the contract of a function that does nothing.
+//! The laws, each the contract of a function that does nothing.
 ghost use Rattle.std.specs.Prelude.{◌≡◌, ◌∷◌, ℕ, List, []};
 ghost use Rattle.cfdp_header.specs.Files.{FileMap};
 ghost use Rattle.any_order.specs.Calls.{AreJoined, Event, Happen, IsNew, Pair, Setup, Side, at};
 ghost use Rattle.any_order.specs.Calls.{setup_of};
 ghost use Rattle.any_order.specs.Calls.{Call, Restarts, other};
-ghost use Rattle.any_order.specs.Onward.{AreNoStarts, BeginsAnew, GoesOn};
+ghost use Rattle.any_order.specs.Onward.{AreNoStarts, BeginsAnew, GoesOn, GoesOnInNewLife};
 ghost use Rattle.any_order.specs.Promise.{HoldsAt};
-ghost use Rattle.any_order.specs.World.{Happened, KeepsPromise, WorldKept, kept_at, sources_at};
+ghost use Rattle.any_order.specs.Resuming.{HappenOrResume, LifeEvent};
+ghost use Rattle.any_order.specs.World.{Happened, HasResumed, HasRun, KeepsPromise, ResumesIn};
+ghost use Rattle.any_order.specs.World.{WorldKept, kept_at, sources_at};
 
 use cfdp_entity::{an_entity_goes_on, an_entity_keeps_the_truth, an_entity_sends_the_truth};
+use cfdp_resuming::{a_resumed_entity_is_sound, an_entity_whose_records_are_restored_resumes};
 use link_stack::what_comes_up_was_put_in_once;
 
 /// What is promised of the delivery of files holds in whatever order and however often the frames
@@ -38,6 +41,50 @@ pub fn the_promise_holds_in_any_order()
     an_entity_sends_the_truth();
 }
 
+/// The promise of delivery holds also if stations that were killed resume.
+///
+/// All is as in [`the_promise_holds_in_any_order`], and besides restarts, either station may
+/// resume, any number of times. After that its link is new and leaves out at least one number of
+/// frames. Its records are restored as `IsResumed` says. Then the five promises hold for each
+/// station. That no transaction is finished twice is said of all that a station indicated since its
+/// last restart, through all times that it resumed.
+pub fn the_promise_holds_where_stations_resume()
+    ensures { (c : Setup) (counts : Side → ℕ) (sources files : Side → FileMap)
+        (events : List LifeEvent) (start now : Pair) → AreJoined c →
+        ((s : Side) → IsNew (setup_of s c) (counts s) (sources s) (files s) (at s start)) →
+        start.puts ≡ [] → HappenOrResume c events start now → (s : Side) → HoldsAt s (files s) now }
+{
+    what_comes_up_was_put_in_once();
+    an_entity_keeps_the_truth();
+    an_entity_goes_on();
+    an_entity_sends_the_truth();
+    a_resumed_entity_is_sound();
+}
+
+/// If a station of a world is restored on a new one as `ResumesIn` says, it resumes in the sense of
+/// the promise.
+pub(crate) fn a_world_resumes()
+    ensures { (side : Side) (first number : ℕ) (old new : WorldKept) → HasRun old →
+        ResumesIn side first number old new → HasResumed side first number old new }
+{
+    what_comes_up_was_put_in_once();
+    an_entity_keeps_the_truth();
+    an_entity_goes_on();
+    an_entity_sends_the_truth();
+    a_resumed_entity_is_sound();
+    an_entity_whose_records_are_restored_resumes();
+}
+
+/// If a station resumes, the life of its link that it had is the last of those before, and the list
+/// of what it indicated goes on. The other station goes on, and the files that both can send stay.
+pub fn a_resume_goes_on()
+    ensures { (side : Side) (first number : ℕ) (old new : WorldKept) → KeepsPromise old →
+        HasResumed side first number old new →
+        GoesOnInNewLife (kept_at side old) (kept_at side new)
+        × (GoesOn (kept_at (other side) old) (kept_at (other side) new)
+        × ((s : Side) → sources_at s new ≡ sources_at s old)) }
+{}
+
 /// The files that both stations can send stay, whatever is called: so those of stores over the same
 /// files are what [`UnorderedWorld::restart`](crate::UnorderedWorld::restart) asks for, at any
 /// time.
@@ -51,7 +98,8 @@ pub fn the_files_to_send_stay()
 }
 
 /// What was indicated and sent in the lives before stays, and no indication is discarded, whatever
-/// is called: a start makes the life that a station had the last of those before.
+/// is called: a start makes the life that a station had the last of those before. What a resume
+/// does is said by [`a_resume_goes_on`].
 pub fn lives_stay()
     ensures calls { (side : Side) (calls : List Call) (old new : WorldKept) → KeepsPromise old →
         Happened side calls old new → AreNoStarts calls →

@@ -1,5 +1,6 @@
 //! Two stations over a link that delivers their frames in any order, any number of times, or not at
-//! all, and among them other octets: what of the promise of delivery holds then.
+//! all, and among them other octets: what of the promise of delivery holds then, also if a station
+//! restarts or resumes.
 //!
 //! Clean completion and recovery are promises of `link_sim`, whose worlds keep the order.
 //!
@@ -10,10 +11,14 @@ mod answers;
 mod end;
 mod laws;
 mod life;
+mod restoring;
 mod unordered;
 mod world;
 
-pub use answers::{Delivered, Restarted, SentFrame};
-pub use laws::{lives_stay, the_files_to_send_stay, the_promise_holds_in_any_order};
+pub use answers::{Delivered, Restarted, Resumed, SentFrame};
+pub use laws::{
+    a_resume_goes_on, lives_stay, the_files_to_send_stay, the_promise_holds_in_any_order,
+    the_promise_holds_where_stations_resume,
+};
 pub use life::LifeFrames;
 pub use unordered::UnorderedWorld;

@@ -6,20 +6,22 @@ ghost use Rattle.std.specs.Prelude.{slice_get};
 ghost use Rattle.any_order.specs.Calls.{Call, other, setup_of};
 ghost use Rattle.any_order.specs.Kept.{all_kept};
 ghost use Rattle.link_stack.specs.Downward.{frame_lane};
-ghost use Rattle.any_order.specs.Refusing.{AnswersFrame, AnswersOctets, AnswersStart, HasDue};
+ghost use Rattle.any_order.specs.Refusing.{AnswersFrame, AnswersOctets, AnswersResume};
+ghost use Rattle.any_order.specs.Refusing.{AnswersStart, HasDue};
 ghost use Rattle.any_order.specs.Refusing.{RefusesPut, RefusesRequest};
 ghost use Rattle.any_order.specs.World.{ArePollCalls, AreFlushCalls, Happened, IsNewWorld};
-ghost use Rattle.any_order.specs.World.{KeepsPromise, deliver_calls, kept_at, octets_calls};
+ghost use Rattle.any_order.specs.World.{KeepsPromise, ResumesBy, deliver_calls, kept_at};
+ghost use Rattle.any_order.specs.World.{octets_calls};
 ghost use Rattle.any_order.specs.World.{put_calls, request_calls, restart_calls, setup, side_of};
 ghost use Rattle.any_order.specs.World.{tick_calls};
 
-use crate::answers::{Delivered, Restarted, SentFrame};
-use crate::laws::the_promise_holds_in_any_order;
+use crate::answers::{Delivered, Restarted, Resumed, SentFrame};
+use crate::laws::{a_world_resumes, the_promise_holds_where_stations_resume};
 use crate::life::LifeFrames;
 use crate::world::TwoEnds;
 use cfdp_entity::Request;
 use cfdp_header::TransactionId;
-use cfdp_station::{Inbox, Polled, PutError, RequestError, Station, SteadyOutbox};
+use cfdp_station::{Inbox, Polled, PutError, RequestError, ResumingInbox, Station, SteadyOutbox};
 use link_sim::{Side, WorldConfig};
 use std::alloc::{AllocError, Global};
 use std::marker::Model;
@@ -27,13 +29,13 @@ use valid_config::Valid;
 
 /// Two stations of CFDP, class 2, and all frames that each of them ever made, over a link that may
 /// deliver any of these, in any order, any number of times or never, and among them other octets;
-/// and either station may restart.
+/// and either station may restart, or resume.
 ///
 /// Whatever calls are made, the promise holds: each inbox is the first one, overwritten by the
-/// files of the puts that its station indicated complete, over all its lives, in that order. In one
-/// life no transaction is indicated finished twice; a put that is completed was heard in full; a
-/// sender indicates a put complete only if the other station completed it; and what a station says
-/// of a file is true.
+/// files of the puts that its station indicated complete, over all its lives, in that order. From
+/// one restart to the next no transaction is indicated finished twice; a put that is completed was
+/// heard in full; a sender indicates a put complete only if the other station completed it; and
+/// what a station says of a file is true.
 ///
 /// Clauses see what is kept of both stations. The contract of a call says which calls of the
 /// stations were made in it, whatever was done before at both.
@@ -231,7 +233,7 @@ impl<O: SteadyOutbox, I: Inbox> UnorderedWorld<O, I> {
             ≡ (kept_at (side_of side) self.now).station.entity.state.table.files }
         ensures promised { KeepsPromise self.now }
     {
-        the_promise_holds_in_any_order();
+        the_promise_holds_where_stations_resume();
         self.ends.end(side).station().inbox()
     }
 
@@ -249,5 +251,36 @@ impl<O: SteadyOutbox, I: Inbox> UnorderedWorld<O, I> {
             (λ l. slice_get (all_kept (kept_at (side_of side) self.now)) life ≡ Some l.now) }
     {
         self.ends.end(side).life(life)
+    }
+}
+
+impl<O: SteadyOutbox, I: ResumingInbox> UnorderedWorld<O, I> {
+    /// Kills a station and resumes it over these stores, which must have the files of those before.
+    /// It goes on with the transactions that it had, as from a journal, and with the list of what
+    /// it indicated: its puts are numbered from the first number on, and its frames from the second
+    /// one. Of the files that it was receiving it holds nothing, so the other station sends them
+    /// again. A put that is closed is forgotten. Nothing changes unless it answers `Done`.
+    ///
+    /// # Errors
+    ///
+    /// `AllocError` if the memory for the station, or for a record, was refused.
+    pub fn resume(
+        &mut self,
+        side: Side,
+        stores: (O, I),
+        first_number: u64,
+        first_frame: u32,
+    ) -> Result<Resumed, AllocError>
+        requires sources { O.files stores.0
+            ≡ (kept_at (side_of side) self.old).station.entity.state.table.sources }
+        requires files { I.published stores.1
+            ≡ (kept_at (side_of side) self.old).station.entity.state.table.files }
+        ensures happened { ResumesBy result (side_of side) first_frame first_number self.old
+            self.new }
+        ensures answers { AnswersResume first_frame first_number result
+            (kept_at (side_of side) self.old) (self.new ≡ self.old) }
+    {
+        a_world_resumes();
+        self.ends.resume(side, stores, first_number, first_frame)
     }
 }

@@ -1,6 +1,6 @@
 //! Two stations and all frames that each of them ever made.
-ghost use Rattle.std.specs.Prelude.{◌≡◌, ◌≢◌, List, true, false, None, map};
-ghost use Rattle.std.specs.Prelude.{IfErr, IfOk, OnErr, OnOk};
+ghost use Rattle.std.specs.Prelude.{◌≡◌, ◌≢◌, ◌≤◌, ℕ, List, true, false, None, map};
+ghost use Rattle.std.specs.Prelude.{IfErr, IfOk, IsTrue, OnErr, OnOk, Ok};
 ghost use Rattle.aos_frame.specs.declared.config.Lane.{Lane};
 ghost use Rattle.aos_frame.specs.Frame.{lane_channel};
 ghost use Rattle.link_stack.specs.AnyOrder.{IsStray};
@@ -8,22 +8,33 @@ ghost use Rattle.cfdp_directives.specs.User.Put.{Put};
 ghost use Rattle.cfdp_entity.specs.Sound.{next_put};
 ghost use Rattle.cfdp_station.specs.declared.config.StationConfig.{StationConfig};
 ghost use Rattle.cfdp_entity.specs.Config.{IsConfig};
+ghost use Rattle.cfdp_entity.specs.Entity.{EntityState, first_entity};
+ghost use Rattle.cfdp_entity.specs.Exchanging.{told_by};
 ghost use Rattle.any_order.specs.Calls.{Call, numbered_from, other, setup_of};
 ghost use Rattle.any_order.specs.Kept.{EndKept, Makes};
-ghost use Rattle.link_stack.specs.Downward.{frame_lane};
-ghost use Rattle.any_order.specs.Refusing.{AnswersFrame, AnswersOctets, AnswersStart, HasDue};
+ghost use Rattle.cfdp_station.specs.Station.{KeepsLink};
+ghost use Rattle.link_stack.specs.Downward.{both_counted_from, first_down, frame_lane};
+ghost use Rattle.link_stack.specs.Upward.{first_up};
+ghost use Rattle.any_order.specs.Refusing.{AnswersFrame, AnswersOctets, AnswersResume};
+ghost use Rattle.any_order.specs.Refusing.{AnswersStart, CanStart, HasDue};
 ghost use Rattle.any_order.specs.Refusing.{IsNoStray, RefusesPut, RefusesRequest};
+ghost use Rattle.any_order.specs.Restoring.{ComesBackFrom, ResumesKept};
 ghost use Rattle.any_order.specs.World.{ArePollCalls, AreFlushCalls, Happened, IsNewWorld};
+ghost use Rattle.any_order.specs.World.{ResumesIn};
+ghost use Rattle.any_order.specs.declared.answers.Resumed.TheVariants as resumed;
 ghost use Rattle.any_order.specs.World.{deliver_calls, kept_at, octets_calls, put_calls};
 ghost use Rattle.any_order.specs.World.{request_calls, restart_calls, setup, side_of, tick_calls};
 
-use crate::answers::{Delivered, Restarted, SentFrame};
+use crate::answers::{Delivered, Restarted, Resumed, SentFrame};
 use crate::end::{OneEnd, made_anew};
+use crate::restoring::restore_all;
 use aos_frame::{ChannelConfig, Lane, LinkConfig, decode};
 use cfdp_directives::Octets;
-use cfdp_entity::{EntityConfig, Request};
+use cfdp_entity::{EntityConfig, Request, RestoreError};
 use cfdp_header::TransactionId;
-use cfdp_station::{Inbox, Polled, PutError, RequestError, Station, StationConfig, SteadyOutbox};
+use cfdp_station::{
+    Inbox, Polled, PutError, RequestError, ResumingInbox, Station, StationConfig, SteadyOutbox,
+};
 use link_sim::{Side, WorldConfig};
 use mpdu::{ONLY_IDLE, read_pointer};
 use std::alloc::{AllocError, Global};
@@ -206,6 +217,113 @@ fn restart_at<O: SteadyOutbox, I: Inbox>(
     )?;
     end.restart(alloc, station, number, first)?;
     Ok(Restarted::Done)
+}
+
+/// Shows that the files of a station's outbox stand.
+fn show_stands<O: SteadyOutbox, I: Inbox>(station: &Station<O, I>)
+    ensures { IsTrue station.now.entity.state.table.stands }
+{
+    let _ = station.outbox();
+}
+
+/// Restores on a new station what a journal would have of the station that was killed.
+fn restore_from<O: SteadyOutbox, I: ResumingInbox>(
+    alloc: Global,
+    station: &mut Station<O, I>,
+    killed: &Station<O, I>,
+    config: Valid<StationConfig>,
+    number: u64,
+) -> Result<(), RestoreError>
+    requires valid { IsConfig (numbered_from number config.entity) }
+    requires unused { killed.now.entity.state.next ≤ number }
+    requires new { station.old.entity.state ≡ first_entity
+        killed.now.entity.state.table.sources killed.now.entity.state.table.files
+        (numbered_from number config.entity) }
+    ensures back { OnOk result ((new : EntityState)
+        → new ≡ told_by killed.now.entity.state station.new.entity.state
+        → ComesBackFrom number config.entity killed.now.entity.state new) }
+    ensures next { OnOk result (station.new.entity.state.next ≡ number) }
+    ensures link { KeepsLink station.old station.new }
+{
+    restore_all(alloc, station, killed)?;
+    show_stands(station);
+    Ok(())
+}
+
+/// Makes a new station over these stores, and restores on it what a journal would have of the
+/// station that was killed.
+fn made_again<O: SteadyOutbox, I: ResumingInbox>(
+    alloc: Global,
+    config: Valid<StationConfig>,
+    killed: &Station<O, I>,
+    stores: (O, I),
+    number: u64,
+    first: u32,
+) -> Result<Station<O, I>, RestoreError>
+    requires sources { O.files stores.0 ≡ killed.now.entity.state.table.sources }
+    requires files { I.published stores.1 ≡ killed.now.entity.state.table.files }
+    requires unused { killed.now.entity.state.next ≤ number }
+    ensures back { IfOk result (λ s. (new : EntityState)
+        → new ≡ told_by killed.now.entity.state s.entity.state
+        → ComesBackFrom number config.entity killed.now.entity.state new) }
+    ensures next { IfOk result (λ s. s.entity.state.next ≡ number) }
+    ensures down { IfOk result (λ s. s.down
+        ≡ both_counted_from first (first_down config.sends config.capacity)) }
+    ensures up { IfOk result (λ s. s.up ≡ first_up config.receives) }
+{
+    let numbered = numbered_from(config, number);
+    let Ok(mut station) = made_anew(alloc, numbered, stores.0, stores.1, first) else {
+        return Err(RestoreError::NoMemory);
+    };
+    match restore_from(alloc, &mut station, killed, config, number) {
+        Ok(()) => Ok(station),
+        Err(error) => {
+            drop(station);
+            Err(error)
+        }
+    }
+}
+
+/// Returns the answer if this is why a station can't resume.
+fn not_restored(error: RestoreError) -> Result<Resumed, AllocError>
+    ensures answers { (first number : ℕ) (k : EndKept) → CanStart first number k
+        → AnswersResume first number result k (k ≡ k) }
+    ensures other { result ≢ Ok resumed.Done }
+{
+    match error {
+        RestoreError::NoMemory => Err(AllocError),
+        other => Ok(Resumed::NotRestored(other)),
+    }
+}
+
+/// Resumes a station over these stores, if no put of it had this number or a later one, and at
+/// least one number is left out before this one of its frames.
+fn resume_at<O: SteadyOutbox, I: ResumingInbox>(
+    alloc: Global,
+    config: Valid<StationConfig>,
+    end: &mut OneEnd<O, I>,
+    stores: (O, I),
+    number: u64,
+    first: u32,
+) -> Result<Resumed, AllocError>
+    requires sources { O.files stores.0 ≡ end.old.station.entity.state.table.sources }
+    requires files { I.published stores.1 ≡ end.old.station.entity.state.table.files }
+    ensures resumes { result ≡ Ok resumed.Done
+        → ResumesKept first number config end.old end.new }
+    ensures answers { AnswersResume first number result end.old (end.new ≡ end.old) }
+{
+    if !end.is_unused(number) {
+        return Ok(Resumed::NumberUsed);
+    }
+    if !end.ends_before(first) {
+        return Ok(Resumed::FrameUsed);
+    }
+    let station = match made_again(alloc, config, end.station(), stores, number, first) {
+        Ok(station) => station,
+        Err(error) => return not_restored(error),
+    };
+    end.resume(alloc, station, number, first)?;
+    Ok(Resumed::Done)
 }
 
 /// Returns the same configuration, of a station that numbers its puts from this one on.
@@ -391,6 +509,32 @@ impl<O: SteadyOutbox, I: Inbox> TwoEnds<O, I> {
         match side {
             Side::One => restart_at(alloc, config, &mut self.one, stores, number, first),
             Side::Two => restart_at(alloc, config, &mut self.two, stores, number, first),
+        }
+    }
+}
+
+impl<O: SteadyOutbox, I: ResumingInbox> TwoEnds<O, I> {
+    pub(crate) fn resume(
+        &mut self,
+        side: Side,
+        stores: (O, I),
+        number: u64,
+        first: u32,
+    ) -> Result<Resumed, AllocError>
+        requires sources { O.files stores.0
+            ≡ (kept_at (side_of side) self.old).station.entity.state.table.sources }
+        requires files { I.published stores.1
+            ≡ (kept_at (side_of side) self.old).station.entity.state.table.files }
+        ensures resumes { result ≡ Ok resumed.Done
+            → ResumesIn (side_of side) first number self.old self.new }
+        ensures answers { AnswersResume first number result (kept_at (side_of side) self.old)
+            (self.new ≡ self.old) }
+    {
+        let alloc = self.alloc;
+        let config = WorldConfig::station(self.config, side);
+        match side {
+            Side::One => resume_at(alloc, config, &mut self.one, stores, number, first),
+            Side::Two => resume_at(alloc, config, &mut self.two, stores, number, first),
         }
     }
 }

@@ -1,3 +1,2 @@
 mod Commits
 mod Owing
-mod Resuming

@@ -7,7 +7,7 @@ use Rattle.cfdp_resuming.specs.Entity.{IsResumed}
 use Rattle.any_order.specs.Calls.{AreJoined, At, IsNew, One, Two, Pair, Setup, Side, at, entity_of, setup_of}
 use Rattle.any_order_endings.proofs.Lively.{EntityLaws, HoldsAt, first-holds, happens-holds, kept-holds}
 use Rattle.any_order_resumes.specs.Owing.{HappenOwing, IsOwing}
-use Rattle.any_order_resumes.specs.Resuming.{Calls, LifeEvent, HappensOrResumes, ResumesAt}
+use Rattle.any_order.specs.Resuming.{Calls, LifeEvent, HappensOrResumes, ResumesAt}
 
 resumed-lively : (old new : EntityState) → IsResumed old new → AllOwe new.table.records → IsLively new
 resumed-lively old new is owing = record {

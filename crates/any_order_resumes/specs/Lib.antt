@@ -1,3 +1,2 @@
 pub mod Commits
 pub mod Owing
-pub mod Resuming

@@ -2,7 +2,7 @@
 use Rattle.std.specs.Prelude.{◌≡◌, List, [], ◌∷◌}
 use Rattle.cfdp_endings.specs.Entity.{AllOwe}
 use Rattle.any_order.specs.Calls.{Pair, Setup, at, entity_of, setup_of}
-use Rattle.any_order_resumes.specs.Resuming.{Calls, LifeEvent, HappensOrResumes, ResumesAt}
+use Rattle.any_order.specs.Resuming.{Calls, LifeEvent, HappensOrResumes, ResumesAt}
 
 -- In each record that is restored, an EOF that cancels, or a Finished, is due or counts as sent if
 -- the record waits for its answer. The entity has the policy that it was set up with.

@@ -13,33 +13,10 @@ ghost use Rattle.cfdp_endings.specs.Entity.{AreRounds, GivesUp, IsLively, NoneOp
 ghost use Rattle.any_order_resumes.specs.Owing.{HappenOwing};
 ghost use Rattle.any_order_resumes.specs.Commits.{ReceiverCommits, SenderCommits};
 ghost use Rattle.any_order.specs.Calls.{AreJoined, IsNew, Pair, Setup, Side, at, setup_of};
-ghost use Rattle.any_order.specs.Promise.{HoldsAt};
-ghost use Rattle.any_order_resumes.specs.Resuming.{LifeEvent, HappenOrResume};
+ghost use Rattle.any_order.specs.Resuming.{LifeEvent};
 
 use cfdp_endings::{an_entity_alone_ends, an_entity_is_never_silent};
-use cfdp_entity::{an_entity_goes_on, an_entity_keeps_the_truth, an_entity_sends_the_truth};
-use cfdp_resuming::a_resumed_entity_is_sound;
-use link_stack::what_comes_up_was_put_in_once;
-
-/// The promise of delivery holds also if stations that were killed resume.
-///
-/// All is as in [`the_promise_holds_in_any_order`](any_order::the_promise_holds_in_any_order), and
-/// besides restarts, either station may resume, any number of times. After that its link is new and
-/// leaves out at least one number of frames. Its records are restored as `IsResumed` says. Then the
-/// five promises hold for each station. That no transaction is finished twice is said of all that a
-/// station indicated since its last restart, through all times that it resumed.
-pub fn the_promise_holds_where_stations_resume()
-    ensures { (c : Setup) (counts : Side → ℕ) (sources files : Side → FileMap)
-        (events : List LifeEvent) (start now : Pair) → AreJoined c →
-        ((s : Side) → IsNew (setup_of s c) (counts s) (sources s) (files s) (at s start)) →
-        start.puts ≡ [] → HappenOrResume c events start now → (s : Side) → HoldsAt s (files s) now }
-{
-    what_comes_up_was_put_in_once();
-    an_entity_keeps_the_truth();
-    an_entity_goes_on();
-    an_entity_sends_the_truth();
-    a_resumed_entity_is_sound();
-}
+use cfdp_entity::an_entity_goes_on;
 
 /// What is true between the sender and the receiver of a put, whatever was lost, stays true if one
 /// of them is restored and what must be on disk before a PDU leaves was there (`SenderCommits`,

@@ -1,6 +1,3 @@
-use Rattle.cfdp_station.proofs.AnyOrder.{TruthLaws}
-use Rattle.any_order.proofs.Calls.{EntityLaws}
-use Rattle.any_order.proofs.Kept.{Grounds}
 use Rattle.any_order.proofs.Promise.{Laws, promise}
 use Rattle.any_order.proofs.laws.the_promise_holds_in_any_order.Goals as goal
 

@@ -1,4 +1,4 @@
-use Rattle.std.proofs.Common.{◌≡◌, arith}
+use Rattle.std.proofs.Common.{arith}
 use Rattle.aos_frame.specs.declared.config.Lane.TheVariants.{Directives}
 use Rattle.any_order.proofs.life.take_into.Goals as goal
 

@@ -1,4 +1,4 @@
-use Rattle.std.proofs.Common.{◌≡◌, subst}
+use Rattle.std.proofs.Common.{subst}
 use Rattle.aos_frame.specs.declared.config.ChannelConfig.{ChannelConfig}
 use Rattle.link_stack.specs.AnyOrder.{IsStray}
 use Rattle.any_order.proofs.Coming.{makes_noise, strays}

@@ -1,4 +1,4 @@
-use Rattle.std.proofs.Common.{◌≡◌, ◌++◌, ◌∷◌, [], refl, ap, ◌∙◌}
+use Rattle.std.proofs.Common.{◌++◌, ◌∷◌, [], refl, ap, ◌∙◌}
 use Rattle.any_order.proofs.Leading.{makes_put_then, makes_refused, makes_same, puts_more}
 use Rattle.any_order.proofs.world.put_at.Goals as goal
 

@@ -1,4 +1,4 @@
-use Rattle.std.proofs.Common.{◌≡◌, ◌++◌, ◌∷◌, [], ◌∙◌}
+use Rattle.std.proofs.Common.{◌∙◌}
 use Rattle.any_order.proofs.Keeping.{anew_same}
 use Rattle.any_order.proofs.end.OneEnd.restart.Goals as goal
 

@@ -1,7 +1,7 @@
-use Rattle.std.proofs.Common.{◌≡◌, [], ◌∷◌, refl, sym, ap, subst, ◌∙◌, inl, inr}
+use Rattle.std.proofs.Common.{[], ◌∷◌, refl, sym, subst, inl, inr}
 use Rattle.std.proofs.lemmas.Result.{err_from_is_err_and}
 use Rattle.any_order.specs.Calls.{Polls, Refuses}
-use Rattle.any_order.specs.Kept.{EndKept, gives}
+use Rattle.any_order.specs.Kept.{gives}
 use Rattle.any_order.specs.World.{ArePollCalls}
 use Rattle.any_order.proofs.Leading.{makes_same, makes_sends}
 use Rattle.any_order.proofs.end.OneEnd.send_next.Goals as goal

@@ -1,4 +1,4 @@
-use Rattle.std.proofs.Common.{◌≡◌, sym, ◌∙◌}
+use Rattle.std.proofs.Common.{sym, ◌∙◌}
 use Rattle.any_order.proofs.Numbers.{gives_next}
 use Rattle.any_order.proofs.end.OneEnd.take_off.Goals as goal
 

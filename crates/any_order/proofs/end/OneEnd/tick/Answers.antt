@@ -1,4 +1,4 @@
-use Rattle.std.proofs.Common.{◌≡◌, refl}
+use Rattle.std.proofs.Common.{refl}
 use Rattle.any_order.proofs.Leading.{makes_tick}
 use Rattle.any_order.proofs.end.OneEnd.tick.Goals as goal
 

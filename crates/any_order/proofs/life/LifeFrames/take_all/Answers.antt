@@ -1,4 +1,4 @@
-use Rattle.std.proofs.Common.{◌≡◌, true, [], ◌∷◌, ◌++◌, sym, refl}
+use Rattle.std.proofs.Common.{[], ◌∷◌, ◌++◌}
 use Rattle.any_order.proofs.Numbers.{gives_more}
 use Rattle.any_order.proofs.life.LifeFrames.take_all.Goals as goal
 

@@ -1,4 +1,3 @@
-use Rattle.std.proofs.Common.{◌≡◌}
 use Rattle.any_order.proofs.Happening.{runs_on}
 use Rattle.any_order.proofs.unordered.UnorderedWorld.deliver_octets.Goals as goal
 

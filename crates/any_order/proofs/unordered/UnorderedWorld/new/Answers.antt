@@ -1,4 +1,4 @@
-use Rattle.std.proofs.Common.{◌≡◌, subst}
+use Rattle.std.proofs.Common.{subst}
 use Rattle.station_pair.specs.Stations.{IsWorldConfig}
 use Rattle.any_order.proofs.Beginning.{begins}
 use Rattle.any_order.proofs.unordered.UnorderedWorld.new.Goals as goal

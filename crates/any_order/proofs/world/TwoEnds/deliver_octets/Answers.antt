@@ -1,4 +1,4 @@
-use Rattle.std.proofs.Common.{◌≡◌, refl, sym, ap, ◌∙◌}
+use Rattle.std.proofs.Common.{refl, sym, ap}
 use Rattle.station_pair.specs.declared.world_config.WorldConfig.{WorldConfig}
 use Rattle.any_order.proofs.Happening.{happened_one, happened_two}
 use Rattle.any_order.proofs.world.TwoEnds.deliver_octets.Goals as goal

@@ -1,4 +1,4 @@
-use Rattle.std.proofs.Common.{◌≡◌, refl}
+use Rattle.std.proofs.Common.{refl}
 use Rattle.any_order.proofs.Happening.{happened_one, happened_two}
 use Rattle.any_order.proofs.world.TwoEnds.flush.Goals as goal
 

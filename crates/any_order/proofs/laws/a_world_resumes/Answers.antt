@@ -1,6 +1,7 @@
 use Rattle.any_order.proofs.Promise.{Laws}
-use Rattle.any_order_resumes.proofs.Resuming.{resuming_promise}
-use Rattle.any_order_resumes.proofs.laws.the_promise_holds_where_stations_resume.Goals as goal
+use Rattle.any_order.proofs.ComingBack.{ResumingLaws}
+use Rattle.any_order.proofs.ResumingIn.{world_resumes}
+use Rattle.any_order.proofs.laws.a_world_resumes.Goals as goal
 
 pub returns : goal.returns
 returns c =
@@ -22,5 +23,8 @@ returns c =
       truth = record { more = kept.more; heard = kept.heard; dropped = kept.dropped; heard_on = on.heard; dropped_on = on.dropped };
       first = kept.first;
     } in
-    λ setup counts sources files events start now joined new none happen s.
-    resuming_promise laws c.a_resumed_entity_is_sound.ensures setup files joined counts sources events start now new none happen s
+    let resuming : ResumingLaws = record {
+      resumes = c.an_entity_whose_records_are_restored_resumes.ensures.resumes;
+      told = c.an_entity_whose_records_are_restored_resumes.ensures.told;
+    } in
+    world_resumes laws c.a_resumed_entity_is_sound.ensures resuming

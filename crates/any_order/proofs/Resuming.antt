@@ -1,5 +1,5 @@
 -- What is kept of two stations, if one of them resumes.
-use Rattle.std.proofs.Common.{◌≡◌, ℕ, ◌+◌, ◌<◌, ◌≤◌, Option, None, List, [], ◌∷◌, ◌++◌, length, map, refl, sym, ap, subst, ◌∙◌, arith, append-nil}
+use Rattle.std.proofs.Common.{◌≡◌, ℕ, ◌+◌, ◌<◌, ◌≤◌, Option, None, List, [], ◌∷◌, ◌++◌, length, map, sym, ap, subst, ◌∙◌, arith, append-nil}
 use Rattle.std.specs.Prelude.{Contains}
 use Rattle.aos_frame.specs.declared.config.Lane.{Lane}
 use Rattle.link_stack.specs.AnyOrder.{ReceivesAll}
@@ -17,12 +17,12 @@ use Rattle.cfdp_entity.specs.Entity.{EntityState}
 use Rattle.cfdp_entity.specs.Sound.{IsSound}
 use Rattle.cfdp_station.specs.declared.config.StationConfig.{StationConfig}
 use Rattle.cfdp_resuming.specs.Entity.{IsResumed}
-use Rattle.any_order.specs.Calls.{AreJoined, At, End, Event, Happens, IsNew, One, Two, Pair, Setup, Side, at, entity_of, lives, other, setup_of}
+use Rattle.any_order.specs.Calls.{AreJoined, End, IsNew, One, Two, Pair, Setup, Side, at, entity_of, lives, other, setup_of}
 use Rattle.any_order.specs.Promise.{HoldsAt, found, heard_ever, told_ever}
 use Rattle.any_order.proofs.Kept.{IsJoinedTo, IsKept, IsPast, KeepsLife, SaysSo, TellsAll, heard_put, kept_stays, says_more, this_life}
 use Rattle.any_order.proofs.Lives.{Grow, apart_more, each_life, grow_more}
-use Rattle.any_order.proofs.Promise.{AreKept, BothKept, Laws, all_hold, call_kept, joined_to, new_kept}
-use Rattle.any_order_resumes.specs.Resuming.{Calls, LifeEvent, HappenOrResume, HappensOrResumes, Resumes, ResumesAt}
+use Rattle.any_order.proofs.Promise.{AreKept, BothKept, Laws, all_hold, happens_kept, joined_to, new_kept}
+use Rattle.any_order.specs.Resuming.{Calls, LifeEvent, HappenOrResume, HappensOrResumes, Resumes, ResumesAt}
 
 -- what a law says of an entity that is brought back
 abbrev pub ResumedSound : Type 0
@@ -116,18 +116,8 @@ other_side c firsts puts w same both One = subst (λ (l : List Put). IsKept c.on
 other_side c firsts puts w same both Two = subst (λ (l : List Put). IsKept c.two c.one (firsts Two) l w.two w.one) (sym same) both.mine_kept
 
 module _ (laws : Laws) (sound : ResumedSound) (c : Setup) (firsts : Side → FileMap) (joined : AreJoined c) where
-  event_kept : (event : Event) (old new : Pair) → Happens c event old new → AreKept c firsts old → AreKept c firsts new
-  event_kept (At One call) old new (does, others) k =
-      each_side c firsts new.puts new refl
-      (subst (λ (e : End). BothKept c.one c.two (firsts One) (firsts Two) new.puts new.one e) (sym others)
-      (call_kept laws call c.one c.two (firsts One) (firsts Two) old.puts new.puts old.one old.two new.one (joined_to c One joined) (joined.link One) (k One) (k Two) does))
-  event_kept (At Two call) old new (does, others) k =
-      other_side c firsts new.puts new refl
-      (subst (λ (e : End). BothKept c.two c.one (firsts Two) (firsts One) new.puts new.two e) (sym others)
-      (call_kept laws call c.two c.one (firsts Two) (firsts One) old.puts new.puts old.two old.one new.two (joined_to c Two joined) (joined.link Two) (k Two) (k One) does))
-
   life_event_kept : (event : LifeEvent) (old new : Pair) → HappensOrResumes c event old new → AreKept c firsts old → AreKept c firsts new
-  life_event_kept (Calls event) old new does k = event_kept event old new does k
+  life_event_kept (Calls event) old new does k = happens_kept laws c firsts event old new joined does k
   life_event_kept (ResumesAt One first) old new (does, same, others) k =
       each_side c firsts old.puts new same
       (subst (λ (e : End). BothKept c.one c.two (firsts One) (firsts Two) old.puts new.one e) (sym others)
@@ -137,13 +127,18 @@ module _ (laws : Laws) (sound : ResumedSound) (c : Setup) (firsts : Side → Fil
       (subst (λ (e : End). BothKept c.two c.one (firsts Two) (firsts One) old.puts new.two e) (sym others)
       (both_resumed laws sound c.two c.one (firsts Two) (firsts One) old.puts old.two old.one new.two (joined_to c Two joined) (joined.link Two) (k Two) (k One) first does))
 
-  events_kept : (events : List LifeEvent) (old new : Pair) → HappenOrResume c events old new → AreKept c firsts old → AreKept c firsts new
+  pub events_kept : (events : List LifeEvent) (old new : Pair) → HappenOrResume c events old new → AreKept c firsts old → AreKept c firsts new
   events_kept [] old new same k = subst (λ (w : Pair). AreKept c firsts w) (sym same) k
   events_kept (event ∷ events) old new (mid, here, rest) k = events_kept events mid new rest (life_event_kept event old mid here k)
 
-  pub resuming_promise : (counts : Side → ℕ) (sources : Side → FileMap) (events : List LifeEvent) (start w : Pair) → ((s : Side) → IsNew (setup_of s c) (counts s) (sources s) (firsts s) (at s start)) →
-      start.puts ≡ [] → HappenOrResume c events start w → (s : Side) → HoldsAt s (firsts s) w
-  resuming_promise counts sources events start w new none happen s =
+  -- both, from the beginning on
+  pub run_kept : (counts : Side → ℕ) (sources : Side → FileMap) (events : List LifeEvent) (start w : Pair) → ((s : Side) → IsNew (setup_of s c) (counts s) (sources s) (firsts s) (at s start)) → start.puts ≡ [] →
+      HappenOrResume c events start w → AreKept c firsts w
+  run_kept counts sources events start w new none happen =
       let kept : AreKept c firsts start =
       (λ (r : Side). new_kept laws (setup_of r c) (setup_of (other r) c) (counts r) (sources r) (firsts r) start.puts (at r start) (at (other r) start) (joined.valid r).entity (joined.link r) (new r) none) in
-      all_hold laws c firsts w s joined (events_kept events start w happen kept)
+      events_kept events start w happen kept
+
+  pub resuming_promise : (counts : Side → ℕ) (sources : Side → FileMap) (events : List LifeEvent) (start w : Pair) → ((s : Side) → IsNew (setup_of s c) (counts s) (sources s) (firsts s) (at s start)) →
+      start.puts ≡ [] → HappenOrResume c events start w → (s : Side) → HoldsAt s (firsts s) w
+  resuming_promise counts sources events start w new none happen s = all_hold laws c firsts w s joined (run_kept counts sources events start w new none happen)
