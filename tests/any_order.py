@@ -1,8 +1,9 @@
-"""Scripts by chance over a link that keeps no order, whose stations start anew: always the same
-ones. What each reports is judged by what its puts and its indications ask for, life by life.
+"""Scripts by chance over a link that keeps no order, whose stations restart or resume: always the
+same ones. What each reports is judged by what its puts and its indications ask for, life by life. A
+life goes on through all times that its station resumes, and no record may keep it from that.
 
-A report has no mark where a station started anew. So the script is cut in front of each `restart`,
-and run up to there: as many lines as a station told then are those of its lives before.
+A report has no mark where a station restarted. So the script is cut before each `restart`, and run
+up to there: as many lines as a station reported then are those of its lives before.
 """
 import random
 import subprocess
@@ -45,6 +46,7 @@ def commands(chance):
         (5, f"strike {side}{lane}"),
         (4, f"damage {side}{lane} {chance.randint(0, 30)} {chance.randint(0, 255):02X}"),
         (3, f"restart {side}"),
+        (3, f"restart {side} resume"),
         (3, f"tick {side} {chance.randint(0, 400)}"),
         (1, f"cancel {other} {name}"),
         (1, f"suspend {side} {name}\nresume {side} {name}"),
@@ -129,8 +131,9 @@ def lives_of(program, script, report):
             for side in "12":
                 if now[side][: len(before[side])] != before[side]:
                     raise ValueError(f"what station {side} told before line {place + 1} is gone")
-            side = line.split(" ")[1]
-            cuts[side].append(len(before[side]))
+            side, *resumes = line.split(" ")[1:]
+            if not resumes:
+                cuts[side].append(len(before[side]))
     for side, places in cuts.items():
         for first, end in zip(places, [*places[1:], len(now[side])]):
             yield side, now[side][first:end]
@@ -150,6 +153,8 @@ def faults_of(program, script):
         finished = [it.split(" ")[2] for it in told if it.split(" ")[1] == "finished"]
         if len(finished) != len(set(finished)):
             wrong.append(f"station {side} told a transaction finished twice in a life")
+    if any(it.endswith(" NotRestored") for it in report):
+        wrong.append("a record kept a station from resuming")
     told = told_in(report)
     complete = {side: {it.split(" ")[2] for it in filter(is_complete, told[side])} for side in "12"}
     for side, other in ("1", "2"), ("2", "1"):

@@ -18,18 +18,20 @@ use Rattle.station_pair.specs.declared.side.Side.TheVariants as sides
 use Rattle.station_pair.specs.declared.world_config.WorldConfig.{WorldConfig}
 use Rattle.any_order.specs.Calls.{Call, One, Restarts, Two, Side, other}
 use Rattle.any_order.specs.Kept.{EndKept, IsNewKept, MadeFrame, all_kept, gives}
-use Rattle.any_order.specs.Onward.{AreNoStarts, BeginsAnew, GoesOn}
+use Rattle.any_order.specs.Onward.{AreNoStarts, BeginsAnew, GoesOn, GoesOnInNewLife}
 use Rattle.any_order.specs.Refusing.{AnswersStart}
-use Rattle.any_order.specs.World.{ArePollCalls, AreFlushCalls, Happened, IsNewWorld, WorldKept, deliver_calls, kept_at, octets_calls, put_calls, request_calls, restart_calls, side_of, sources_at, tick_calls}
+use Rattle.any_order.specs.World.{ArePollCalls, AreFlushCalls, Happened, HasResumed, IsNewWorld, ResumesBy, WorldKept, deliver_calls, kept_at, octets_calls, put_calls, request_calls, restart_calls, side_of, sources_at, tick_calls}
 use Rattle.any_order.specs.declared.answers.Delivered.{Delivered}
 use Rattle.any_order.specs.declared.answers.Delivered.TheVariants as delivered
 use Rattle.any_order.specs.declared.answers.Restarted.{Restarted}
 use Rattle.any_order.specs.declared.answers.Restarted.TheVariants as restarted
+use Rattle.any_order.specs.declared.answers.Resumed.{Resumed}
+use Rattle.any_order.specs.declared.answers.Resumed.TheVariants as resumed
 use Rattle.any_order.specs.declared.answers.SentFrame.{SentFrame}
 use Rattle.cfdp_report.specs.Report.Lines.{indication_line, is_own_completion}
 use Rattle.cfdp_script.specs.Script.Outboxes.{outbox_of}
 use Rattle.cfdp_script.specs.declared.script.command.FileLine.{FileLine}
-use Rattle.cfdp_any_order_script.specs.Told.{GoesOnward, HasSources, IsNoted, Starts}
+use Rattle.cfdp_any_order_script.specs.Told.{GoesOnward, HasSources, IsNoted, Resumes, Starts}
 
 -- ---- calls that are no starts
 pub put_no : (source destination : List ℕ) (result : Result TransactionId PutError) → AreNoStarts (put_calls source destination result)
@@ -128,7 +130,7 @@ pub record StaysThrough (s : Side) (old new : WorldKept) : Type 0 where
   pub other : GoesOn (kept_at (other s) old) (kept_at (other s) new)
   pub sources : (t : Side) → sources_at t new ≡ sources_at t old
 
-stays_same : (s : Side) (v w : WorldKept) → w ≡ v → StaysThrough s v w
+pub stays_same : (s : Side) (v w : WorldKept) → w ≡ v → StaysThrough s v w
 stays_same s v w same = subst (λ (x : WorldKept). StaysThrough s v x) (sym same) (record { other = record { before = refl; told_before = refl; gone = refl }; sources = λ t. refl })
 
 pub stays_through : (s : Side) (first number : ℕ) (answer : Restarted) (v w : WorldKept) → ShowsStart v → Happened s (restart_calls first number (Ok answer)) v w →
@@ -145,6 +147,29 @@ pub not_started : (first number : ℕ) (answer : Restarted) (k : EndKept) (uncha
 not_started first number restarted.Done k unchanged is not = absurd (not refl)
 not_started first number restarted.NumberUsed k unchanged is not = is.1
 not_started first number restarted.FrameUsed k unchanged is not = is.2
+
+-- ---- a station that resumes
+abbrev pub ShowsResume : WorldKept → Type 0
+ShowsResume v = (s : Side) (first number : ℕ) (new : WorldKept) → HasResumed s first number v new → Resumes s v new
+
+pub noted_resumed : (station lives : ℕ) (told : List ℕ) (completed : ℕ) (k l : EndKept) → GoesOnInNewLife k l → IsNoted station lives told completed k → IsNoted station (lives + 1) told completed l
+noted_resumed station lives told completed k l g n =
+    let before : length k.before + 1 ≡ length (all_kept k) = sym (length-append k.before (k.latest ∷ [])) in
+    record {
+      lives = ap (λ (x : ℕ). x + 1) n.lives ∙ (before ∙ ap length (sym g.before));
+      told = n.told ∙ ap (flat_map (indication_line station)) (sym g.told_before);
+      completed = n.completed ∙ ap (count_by (is_own_completion station)) (sym g.told_before);
+      none_gone = g.gone ∙ n.none_gone;
+    }
+
+pub resumed_through : (s : Side) (first number : ℕ) (v w : WorldKept) → ShowsResume v → HasResumed s first number v w → StaysThrough s v w
+resumed_through s first number v w shows h = let resumes = shows s first number w h in record { other = resumes.1.0; sources = resumes.1.1 }
+
+pub not_resumed : (s : Side) (first number : ℕ) (answer : Resumed) (v w : WorldKept) → ResumesBy (Ok answer) s first number v w → (answer ≡ resumed.Done → ⊥) → w ≡ v
+not_resumed s first number resumed.Done v w by not = absurd (not refl)
+not_resumed s first number resumed.NumberUsed v w by not = by
+not_resumed s first number resumed.FrameUsed v w by not = by
+not_resumed s first number (resumed.NotRestored why) v w by not = by
 
 -- ---- what is indicated of all lives
 pub all_lines : (station lives : ℕ) (told : List ℕ) (completed : ℕ) (k : EndKept) → IsNoted station lives told completed k → flat_map (indication_line station) (k.told_before ++ k.station.entity.state.table.told)

@@ -1,11 +1,13 @@
 -- What came about at one of two stations, and calls that move no frame.
-use Rattle.std.proofs.Common.{arith, ◌≡◌, ℕ, ◌-◌, ◌<◌, ◌↔◌, length, inl, inr, ap₂, List, ◌++◌, Bool, true, false, Option, None, Some, refl, sym, subst, ap, ◌∙◌}
+use Rattle.std.proofs.Common.{arith, ◌≡◌, ℕ, ◌-◌, ◌<◌, ◌↔◌, length, inl, inr, ap₂, List, ◌++◌, Bool, true, false, Option, None, Some, Result, refl, sym, subst, ap, ◌∙◌}
 use Rattle.std.specs.Prelude.{IsSome, OnSome, remove, slice_get}
 use Rattle.std.proofs.lemmas.Option.{slice_get_within}
 use Rattle.station_pair.specs.declared.side.Side.{Side}
 use Rattle.station_pair.specs.declared.side.Side.TheVariants.{One, Two}
 use Rattle.any_order.specs.Calls.{Call, other}
-use Rattle.any_order.specs.World.{Happened, WorldKept, side_of}
+use Rattle.any_order.specs.World.{Happened, ResumesBy, WorldKept, side_of}
+use Rattle.any_order.specs.declared.answers.Resumed.{Resumed}
+use Rattle.std.specs.declared.alloc.AllocError.{AllocError}
 use Rattle.aos_frame.specs.declared.config.Lane.{Lane}
 use Rattle.aos_frame.specs.declared.config.Lane.TheVariants.{Directives, Data}
 use Rattle.any_order.specs.Kept.{EndKept}
@@ -14,7 +16,7 @@ use Rattle.any_order.specs.declared.answers.SentFrame.{SentFrame}
 use Rattle.any_order.specs.World.{deliver_calls, octets_calls}
 use Rattle.cfdp_any_order_script.specs.declared.answer.Answer.{Answer}
 use Rattle.cfdp_any_order_script.specs.Links.{Frames, IsBehind, made_of, made_since}
-use Rattle.cfdp_any_order_script.specs.Performing.{At, Calls, ComesDamaged, ComesFrom, OnlyCalls, PartState, PlayState, Sends, arrival_answer, behind_damage, behind_delivery, damage_answer, no_memory, part}
+use Rattle.cfdp_any_order_script.specs.Performing.{At, Calls, ComesDamaged, ComesFrom, GoesOn, OnlyCalls, PartState, PlayState, Sends, arrival_answer, behind_damage, behind_delivery, damage_answer, no_memory, part, resume_answer}
 use Rattle.cfdp_any_order_script.specs.Told.{IsFrame, kept_of, opposite}
 
 pub at_one : (s : Side) (Does : PartState → PartState → Type 0) (v old new : PlayState) → s ≡ One → v ≡ old → Does (part One v) (part One new) → new.two ≡ v.two → At s Does old new
@@ -25,6 +27,11 @@ at_two s Does v old new is same does others = subst (λ t. At t Does old new) (s
 
 pub only_calls : (s : Side) (calls : List Call) (v old new : PlayState) → v ≡ old → Happened (side_of s) calls v.world new.world → new.one ≡ v.one → new.two ≡ v.two → OnlyCalls s calls old new
 only_calls s calls v old new same happened one two = subst (λ p. OnlyCalls s calls p new) same (record { happened = happened; one = one; two = two })
+
+-- a station that resumes
+pub goes_on : (s : Side) (answer : Option Answer) (result : Result Resumed AllocError) (first number : ℕ) (v old new : PlayState) → v ≡ old → answer ≡ resume_answer result →
+    ResumesBy result (side_of s) first number v.world new.world → new.one ≡ v.one → new.two ≡ v.two → GoesOn s answer old new
+goes_on s answer result first number v old new same is by one two = subst (λ (p : PlayState). GoesOn s answer p new) same (result, first, number, is, by, one, two)
 
 pub other_side : (s : Side) → other (side_of s) ≡ side_of (opposite s)
 other_side One = refl

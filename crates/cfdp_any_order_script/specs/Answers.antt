@@ -2,7 +2,7 @@
 use Rattle.std.specs.Prelude.{ℕ, Bool, false, List, [], ◌∷◌, ◌++◌, codes, decimal, Option, None, Some}
 use Rattle.cfdp_report.specs.Report.Answers as usual
 use Rattle.cfdp_any_order_script.specs.declared.answer.Answer.{Answer}
-use Rattle.cfdp_any_order_script.specs.declared.answer.Answer.TheVariants.{Usual, NoSuchFrame, TooFar, TooLong, NumbersSpent, FramesSpent}
+use Rattle.cfdp_any_order_script.specs.declared.answer.Answer.TheVariants.{Usual, NoSuchFrame, TooFar, TooLong, NumbersSpent, FramesSpent, NotRestored}
 use Rattle.cfdp_any_order_script.specs.declared.answer.Answered.{Answered}
 
 -- the name of an answer
@@ -13,6 +13,7 @@ answer_name TooFar = codes "TooFar"
 answer_name TooLong = codes "TooLong"
 answer_name NumbersSpent = codes "NumbersSpent"
 answer_name FramesSpent = codes "FramesSpent"
+answer_name NotRestored = codes "NotRestored"
 
 -- the answer of an event, after a number of events of the command that happened: only Nothing says
 -- how many
@@ -23,6 +24,7 @@ after_so_many before TooFar = TooFar
 after_so_many before TooLong = TooLong
 after_so_many before NumbersSpent = NumbersSpent
 after_so_many before FramesSpent = FramesSpent
+after_so_many before NotRestored = NotRestored
 
 -- whether memory ran out, or a store failed
 abbrev pub is_device_fault : Option Answer → Bool

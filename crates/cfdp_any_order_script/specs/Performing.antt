@@ -23,8 +23,10 @@ use Rattle.any_order.specs.declared.answers.Delivered.{Delivered}
 use Rattle.any_order.specs.declared.answers.Delivered.TheVariants as delivered
 use Rattle.any_order.specs.declared.answers.Restarted.{Restarted}
 use Rattle.any_order.specs.declared.answers.Restarted.TheVariants as restarted
+use Rattle.any_order.specs.declared.answers.Resumed.{Resumed}
+use Rattle.any_order.specs.declared.answers.Resumed.TheVariants as resumed
 use Rattle.any_order.specs.declared.answers.SentFrame.{SentFrame}
-use Rattle.any_order.specs.World.{ArePollCalls, AreFlushCalls, Happened, WorldKept, deliver_calls, octets_calls, put_calls, request_calls, restart_calls, side_of, tick_calls}
+use Rattle.any_order.specs.World.{ArePollCalls, AreFlushCalls, Happened, ResumesBy, WorldKept, deliver_calls, octets_calls, put_calls, request_calls, restart_calls, side_of, tick_calls}
 use Rattle.cfdp_report.specs.declared.report.answer.Answer.TheVariants as usual
 use Rattle.cfdp_script.specs.Script.Run.{damaged}
 use Rattle.cfdp_script.specs.declared.script.Step.{Step}
@@ -32,11 +34,11 @@ use Rattle.cfdp_script.specs.declared.script.command.Command.{Command}
 use Rattle.cfdp_script.specs.declared.script.command.Command.TheVariants as command
 use Rattle.cfdp_script.specs.declared.script.command.Damage.{Damage}
 use Rattle.cfdp_script.specs.declared.script.command.Disorder.{Disorder}
-use Rattle.cfdp_script.specs.declared.script.command.Disorder.TheVariants.{Overtake, Again, Restart}
+use Rattle.cfdp_script.specs.declared.script.command.Disorder.TheVariants as disorder
 use Rattle.cfdp_script.specs.declared.script.command.Fate.{Fate}
 use Rattle.cfdp_script.specs.declared.script.command.Fate.TheVariants.{Arrives, IsLost}
 use Rattle.cfdp_any_order_script.specs.declared.answer.Answer.{Answer}
-use Rattle.cfdp_any_order_script.specs.declared.answer.Answer.TheVariants.{Usual, NoSuchFrame, TooFar, TooLong, NumbersSpent, FramesSpent}
+use Rattle.cfdp_any_order_script.specs.declared.answer.Answer.TheVariants.{Usual, NoSuchFrame, TooFar, TooLong, NumbersSpent, FramesSpent, NotRestored}
 use Rattle.cfdp_any_order_script.specs.declared.answer.Answered.{Answered}
 use Rattle.cfdp_any_order_script.specs.declared.play.Instead.{Instead}
 use Rattle.cfdp_any_order_script.specs.declared.play.Instead.TheVariants as instead
@@ -130,6 +132,13 @@ start_answer (Ok restarted.Done) = None
 start_answer (Ok restarted.NumberUsed) = Some NumbersSpent
 start_answer (Ok restarted.FrameUsed) = Some FramesSpent
 start_answer (Err error) = Some no_memory
+
+abbrev pub resume_answer : Result Resumed AllocError → Option Answer
+resume_answer (Ok resumed.Done) = None
+resume_answer (Ok resumed.NumberUsed) = Some NumbersSpent
+resume_answer (Ok resumed.FrameUsed) = Some FramesSpent
+resume_answer (Ok (resumed.NotRestored by)) = Some NotRestored
+resume_answer (Err error) = Some no_memory
 
 -- It wasn't done, and nothing changed.
 abbrev pub IsNotDone : (why : Answer) → Option Answer → (old new : PartState) → Type 0
@@ -232,6 +241,14 @@ abbrev pub StartsAnew : Side → Option Answer → (old new : PlayState) → Typ
 StartsAnew s answer old new = (result : Result Restarted AllocError) × (first : ℕ) × (number : ℕ)
     × (answer ≡ start_answer result)
     × OnlyCalls s (restart_calls first number result) old new
+
+-- ---- a station that resumes
+-- Its frames on the link stay as they are.
+abbrev pub GoesOn : Side → Option Answer → (old new : PlayState) → Type 0
+GoesOn s answer old new = (result : Result Resumed AllocError) × (first : ℕ) × (number : ℕ)
+    × (answer ≡ resume_answer result)
+    × ResumesBy result (side_of s) first number old.world new.world
+    × (new.one ≡ old.one) × (new.two ≡ old.two)
 
 -- ---- events
 abbrev pub Asks : Side → TransactionId → Request → Option Answer → (old new : PlayState) → Type 0
@@ -432,11 +449,12 @@ Recovers answer old new =
 
 -- ---- all commands
 abbrev pub PerformsDisorder : Disorder → Option Answer → (old new : PlayState) → Type 0
-PerformsDisorder (Overtake p) answer old new =
+PerformsDisorder (disorder.Overtake p) answer old new =
     At p.from (ComesFrom NoSuchFrame p.from p.lane p.number answer) old new
-PerformsDisorder (Again p) answer old new =
+PerformsDisorder (disorder.Again p) answer old new =
     At p.from (ComesAgain p.from p.lane p.number answer) old new
-PerformsDisorder (Restart s) answer old new = StartsAnew s answer old new
+PerformsDisorder (disorder.Restart s) answer old new = StartsAnew s answer old new
+PerformsDisorder (disorder.Resume s) answer old new = GoesOn s answer old new
 
 -- A command had this answer, none if all was done.
 abbrev pub Performs : Command → Option Answer → (old new : PlayState) → Type 0

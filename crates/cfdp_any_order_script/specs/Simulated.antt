@@ -26,7 +26,7 @@ use Rattle.cfdp_any_order_script.specs.Performing.{PlayState, Runs}
 use Rattle.cfdp_any_order_script.specs.Report.{exit_of, puts_completed, report_text}
 
 -- if a command is one that no link does that keeps the order of its frames: `overtake`, `repeat` or
--- `restart`
+-- `restart`, also with `resume`
 abbrev pub is_disorder : Command → Bool
 is_disorder (Disorder what) = true
 is_disorder _ = false

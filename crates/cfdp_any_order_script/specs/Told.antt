@@ -8,7 +8,7 @@ use Rattle.station_pair.specs.declared.side.Side.TheVariants.{One, Two}
 use Rattle.any_order.specs.declared.answers.SentFrame.{SentFrame}
 use Rattle.any_order.specs.Calls as sides
 use Rattle.any_order.specs.Kept.{EndKept, LifeKept, all_kept, frames_in}
-use Rattle.any_order.specs.Onward.{BeginsAnew, GoesOn}
+use Rattle.any_order.specs.Onward.{BeginsAnew, GoesOn, GoesOnInNewLife}
 use Rattle.any_order.specs.World.{WorldKept, kept_at, side_of, sources_at}
 use Rattle.cfdp_report.specs.Report.Lines.{indication_line, is_own_completion}
 use Rattle.cfdp_script.specs.Script.Outboxes.{outbox_of}
@@ -54,7 +54,7 @@ abbrev pub HasSources : List FileLine → WorldKept → Type 0
 HasSources files w = (s : Side) → sources_at (side_of s) w ≡ outbox_of s files
 
 -- Whatever was called, both stations went on in their lives, and the files that they can send stay.
--- (Only proofs need it, and the next one.)
+-- (Only proofs need it, and the next two.)
 abbrev pub GoesOnward : (old new : WorldKept) → Type 0
 GoesOnward old new = ((s : sides.Side) → GoesOn (kept_at s old) (kept_at s new))
     × ((s : sides.Side) → sources_at s new ≡ sources_at s old)
@@ -64,3 +64,9 @@ abbrev pub Starts : sides.Side → (old new : WorldKept) → Type 0
 Starts side old new = BeginsAnew (kept_at side old) (kept_at side new)
     × GoesOn (kept_at (sides.other side) old) (kept_at (sides.other side) new)
     × ((s : sides.Side) → sources_at s new ≡ sources_at s old)
+
+-- A station resumed, and the other one went on.
+abbrev pub Resumes : sides.Side → (old new : WorldKept) → Type 0
+Resumes side old new = GoesOnInNewLife (kept_at side old) (kept_at side new)
+    × (GoesOn (kept_at (sides.other side) old) (kept_at (sides.other side) new)
+    × ((s : sides.Side) → sources_at s new ≡ sources_at s old))

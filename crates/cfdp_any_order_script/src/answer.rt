@@ -21,6 +21,8 @@ pub enum Answer {
     NumbersSpent,
     /// The station can't restart: it has no number left for a frame.
     FramesSpent,
+    /// The station can't resume: one of its transactions wasn't restored.
+    NotRestored,
 }
 
 /// A command that was done, or tried, by its line.
@@ -94,6 +96,7 @@ impl fmt::Display for Answer {
             Answer::TooLong => f.write_str("TooLong"),
             Answer::NumbersSpent => f.write_str("NumbersSpent"),
             Answer::FramesSpent => f.write_str("FramesSpent"),
+            Answer::NotRestored => f.write_str("NotRestored"),
         }
     }
 }

@@ -1,4 +1,5 @@
-//! Scripts over a link that keeps no order, and stations that restart: their run and report.
+//! Scripts over a link that keeps no order, and stations that restart or resume: their run and
+//! report.
 //!
 //! If a script has none of the commands for that, it runs as `cfdp_script` says.
 //!

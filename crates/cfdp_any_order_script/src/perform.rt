@@ -41,7 +41,7 @@ pub fn perform(play: &mut Play<'_>, command: &Command) -> Option<Answer>
     }
 }
 
-/// Lets a frame arrive before others or once more, or restarts a station.
+/// Lets a frame arrive before others or once more, or restarts or resumes a station.
 fn disorder(play: &mut Play<'_>, what: Disorder) -> Option<Answer>
     ensures { PerformsDisorder what result play.old play.new }
 {
@@ -51,6 +51,7 @@ fn disorder(play: &mut Play<'_>, what: Disorder) -> Option<Answer>
         }
         Disorder::Again(pick) => play.again(pick.from, pick.lane, pick.number),
         Disorder::Restart(side) => play.restart(side),
+        Disorder::Resume(side) => play.resume(side),
     }
 }
 

@@ -8,14 +8,14 @@ ghost use Rattle.cfdp_any_order_script.specs.Links.{no_frames, shown};
 ghost use Rattle.cfdp_any_order_script.specs.Performing as answers;
 ghost use Rattle.cfdp_any_order_script.specs.Performing.{Asks, At, ComesAgain, ComesDamaged};
 ghost use Rattle.cfdp_any_order_script.specs.Performing.{ComesFrom, behind_delivery, part_of};
-ghost use Rattle.cfdp_any_order_script.specs.Performing.{FlushesOnce, HappensOnce, Loses};
+ghost use Rattle.cfdp_any_order_script.specs.Performing.{FlushesOnce, GoesOn, HappensOnce, Loses};
 ghost use Rattle.cfdp_any_order_script.specs.Performing.{PlayState, PollsOnce, StartsAnew, made_by};
 ghost use Rattle.link_sim.specs.declared.event.Event.TheVariants as events;
 
 use crate::answer::Answer;
 use crate::links::{Frames, arrived_back, waiting_behind};
 use crate::told::ToldWorld;
-use any_order::{Delivered, Restarted, SentFrame};
+use any_order::{Delivered, Restarted, Resumed, SentFrame};
 use aos_frame::Lane;
 use cfdp_directives::Octets;
 use cfdp_entity::Request;
@@ -131,6 +131,19 @@ fn start_answer(started: Result<Restarted, AllocError>) -> Option<Answer>
         Ok(Restarted::Done) => None,
         Ok(Restarted::NumberUsed) => Some(Answer::NumbersSpent),
         Ok(Restarted::FrameUsed) => Some(Answer::FramesSpent),
+        Err(AllocError) => Some(Answer::NO_MEMORY),
+    }
+}
+
+/// Returns the answer of a resume.
+fn resume_answer(resumed: Result<Resumed, AllocError>) -> Option<Answer>
+    ensures { result ≡ answers.resume_answer resumed }
+{
+    match resumed {
+        Ok(Resumed::Done) => None,
+        Ok(Resumed::NumberUsed) => Some(Answer::NumbersSpent),
+        Ok(Resumed::FrameUsed) => Some(Answer::FramesSpent),
+        Ok(Resumed::NotRestored(_)) => Some(Answer::NotRestored),
         Err(AllocError) => Some(Answer::NO_MEMORY),
     }
 }
@@ -432,5 +445,12 @@ impl<'a> Play<'a> {
         ensures { StartsAnew side result self.old self.new }
     {
         start_answer(self.world.restart(side))
+    }
+
+    /// Kills a station, and resumes it. Returns why it didn't, if so.
+    pub fn resume(&mut self, side: Side) -> Option<Answer>
+        ensures { GoesOn side result self.old self.new }
+    {
+        resume_answer(self.world.resume(side))
     }
 }

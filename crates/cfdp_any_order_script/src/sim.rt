@@ -96,7 +96,7 @@ fn unshown(first: (usize, Disorder)) -> BadLine
     let word = match what {
         Disorder::Overtake(_) => "overtake",
         Disorder::Again(_) => "repeat",
-        Disorder::Restart(_) => "restart",
+        Disorder::Restart(_) | Disorder::Resume(_) => "restart",
     };
     BadLine {
         line,

@@ -1,5 +1,5 @@
 //! Two stations over any link, with what they indicated in their lives before: a station that
-//! restarts keeps nothing of that.
+//! restarts keeps nothing of that, and of one that resumes the list goes on.
 ghost use Rattle.std.specs.FinMap as map;
 ghost use Rattle.std.specs.Io.KnownBytes.{Appends};
 ghost use Rattle.std.specs.List.{flat_map};
@@ -12,7 +12,8 @@ ghost use Rattle.any_order.specs.Calls.{Call, Restarts, other, setup_of};
 ghost use Rattle.any_order.specs.Onward.{AreNoStarts, GoesOn};
 ghost use Rattle.any_order.specs.Refusing.{AnswersFrame, AnswersOctets};
 ghost use Rattle.any_order.specs.World.{ArePollCalls, AreFlushCalls, Happened, IsNewWorld};
-ghost use Rattle.any_order.specs.World.{KeepsPromise, WorldKept, deliver_calls, kept_at};
+ghost use Rattle.any_order.specs.World.{HasResumed, KeepsPromise, ResumesBy, WorldKept};
+ghost use Rattle.any_order.specs.World.{deliver_calls, kept_at};
 ghost use Rattle.any_order.specs.World.{octets_calls, put_calls, request_calls, restart_calls};
 ghost use Rattle.any_order.specs.World.{setup, side_of, tick_calls};
 ghost use Rattle.any_order.specs.declared.answers.Restarted.TheVariants as restarted;
@@ -20,12 +21,14 @@ ghost use Rattle.cfdp_report.specs.Report.Lines.{indication_line, is_own_complet
 ghost use Rattle.cfdp_script.specs.Script.Outboxes.{outbox_of};
 ghost use Rattle.cfdp_timers.specs.ButInactivity.{IsLeastOther, OnlyInactivity};
 ghost use Rattle.cfdp_any_order_script.specs.Told.{IsFrame, IsNoted, kept_of, received, station_of};
-ghost use Rattle.cfdp_any_order_script.specs.Told.{GoesOnward, HasSources, Starts, told_ever};
+ghost use Rattle.cfdp_any_order_script.specs.Told.{GoesOnward, HasSources, Resumes, Starts};
+ghost use Rattle.cfdp_any_order_script.specs.Told.{told_ever};
 
 use crate::copies::copied;
 use crate::links::Made;
 use any_order::{
-    Delivered, Restarted, SentFrame, UnorderedWorld, lives_stay, the_files_to_send_stay,
+    Delivered, Restarted, Resumed, SentFrame, UnorderedWorld, a_resume_goes_on, lives_stay,
+    the_files_to_send_stay,
 };
 use aos_frame::Lane;
 use cfdp_entity::Request;
@@ -174,6 +177,26 @@ fn show_start(world: &Stations)
     let _ = world.inbox(Side::One);
 }
 
+/// Shows what a resume makes of a world.
+fn show_resume(world: &Stations)
+    ensures { (side : calls.Side) (first number : ℕ) (new : WorldKept) →
+        HasResumed side first number world.now new → Resumes side world.now new }
+{
+    a_resume_goes_on();
+    let _ = world.inbox(Side::One);
+}
+
+/// Returns how many lives before it a station has, once it begins another one.
+///
+/// # Errors
+///
+/// `AllocError` if no number has it.
+fn next_life(before: &Before) -> Result<usize, AllocError>
+    ensures { IfOk result (λ lives. lives ≡ before.now.lives + 1) }
+{
+    before.lives.checked_add(1).ok_or(AllocError)
+}
+
 /// What must be there before a station restarts: what is noted then, and its stores.
 #[derive(Drop)]
 struct Prepared {
@@ -209,7 +232,7 @@ fn prepare(
     let Ok(told) = told_now(alloc, world, side) else {
         return Err(AllocError);
     };
-    let lives = before.lives.checked_add(1).ok_or(AllocError)?;
+    let lives = next_life(before)?;
     let completed = before
         .completed
         .checked_add(completed_now(world, side))
@@ -265,6 +288,40 @@ fn restart_at(
         append_reserved(&mut before.told, prepared.told.as_slice());
     }
     Ok(answer)
+}
+
+/// Resumes a station, and notes that its link has another life. If no number is left, it tries one
+/// that was used.
+fn resume_at(
+    alloc: Global,
+    world: &mut Stations,
+    side: Side,
+    before: &mut Before,
+    files: &[FileLine],
+) -> Result<Resumed, AllocError>
+    requires noted { IsNoted (station_of side) before.old.lives before.old.told.items
+        before.old.completed (kept_of side world.old) }
+    requires sources { HasSources files.now world.old }
+    ensures happened { (first : ℕ) × (number : ℕ)
+        × ResumesBy result (side_of side) first number world.old world.new }
+    ensures noted { IsNoted (station_of side) before.new.lives before.new.told.items
+        before.new.completed (kept_of side world.new) }
+    ensures other { GoesOn (kept_at (other (side_of side)) world.old)
+        (kept_at (other (side_of side)) world.new) }
+    ensures sources { HasSources files.now world.new }
+{
+    let lives = next_life(before)?;
+    let stores = stores_of(world, alloc, side, files)?;
+    let number = before.next.unwrap_or(0);
+    let first = first_of(world, side, before.lives).unwrap_or(0);
+    show_resume(world);
+    match world.resume(side, stores, number, first)? {
+        Resumed::Done => {
+            before.lives = lives;
+            Ok(Resumed::Done)
+        }
+        other => Ok(other),
+    }
 }
 
 impl<'a> ToldWorld<'a> {
@@ -422,6 +479,25 @@ impl<'a> ToldWorld<'a> {
         match side {
             Side::One => restart_at(alloc, world, side, &mut self.one, files),
             Side::Two => restart_at(alloc, world, side, &mut self.two, files),
+        }
+    }
+
+    /// Kills a station and resumes it, with its transactions, the files that it can send and those
+    /// that it published. Its numbers are as after a restart. Nothing changes unless it returns
+    /// `Done`: `NumberUsed` if no number of a put is left, `FrameUsed` if none of a frame is.
+    ///
+    /// # Errors
+    ///
+    /// `AllocError` if there is no memory for the station.
+    pub fn resume(&mut self, side: Side) -> Result<Resumed, AllocError>
+        ensures { (first : ℕ) × (number : ℕ)
+            × ResumesBy result (side_of side) first number self.old self.new }
+    {
+        let (alloc, files) = (self.alloc, self.files);
+        let world = &mut self.world;
+        match side {
+            Side::One => resume_at(alloc, world, side, &mut self.one, files),
+            Side::Two => resume_at(alloc, world, side, &mut self.two, files),
         }
     }
 

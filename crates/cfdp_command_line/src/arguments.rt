@@ -115,7 +115,8 @@ Then, what happens:
 After one of these the link keeps no order, and no option of Output works:
   overtake S [LANE] N    deliver a frame ahead of the N that S sent before it
   repeat S [LANE] N      deliver again the frame that arrived N ago (1: last)
-  restart S              restart S: it keeps its files, but no transaction
+  restart S [resume]     restart S: it keeps its files, but no transaction;
+                         with resume: its transactions too
 
 Settings, with their defaults:
 ";

@@ -17,7 +17,7 @@ use Rattle.cfdp_script.specs.declared.script.command.Command.{Command}
 use Rattle.cfdp_script.specs.declared.script.command.Command.TheVariants.{Once, Repeat, First, Damage as DamageOne, Spread, Burst, Settle, Recover, Disorder as Does}
 use Rattle.cfdp_script.specs.declared.script.command.Damage.{Damage}
 use Rattle.cfdp_script.specs.declared.script.command.Disorder.{Disorder}
-use Rattle.cfdp_script.specs.declared.script.command.Disorder.TheVariants.{Overtake, Again, Restart}
+use Rattle.cfdp_script.specs.declared.script.command.Disorder.TheVariants.{Overtake, Again, Restart, Resume}
 use Rattle.cfdp_script.specs.declared.script.command.Pick.{Pick}
 use Rattle.cfdp_script.specs.declared.script.command.Fate.{Fate}
 use Rattle.cfdp_script.specs.declared.script.command.Fate.TheVariants.{Arrives, IsLost}
@@ -146,13 +146,24 @@ abbrev pub pick_of : List (List ℕ) → Option Pick
 pick_of words = option_and_then (λ w. option_and_then (λ from. pick_at from w.1)
     (station_of w.0)) (next_word words)
 
+-- whether a station that restarts resumes: it does if the word `resume` follows
+abbrev pub restart_at : Side → List (List ℕ) → Option Disorder
+restart_at at words = if is_some (nothing_of words) then Some (Restart at)
+    else option_and_then (λ word. if is word (codes "resume") then Some (Resume at) else None)
+    (one_of words)
+
+-- `restart S`, `restart S resume`
+abbrev pub restart_of : List (List ℕ) → Option Disorder
+restart_of words = option_and_then (λ w. option_and_then (λ at. restart_at at w.1)
+    (station_of w.0)) (next_word words)
+
 -- what no link that keeps its order does: `overtake S [LANE] N`, `repeat S [LANE] N`; and
--- `restart S`
+-- `restart S [resume]`
 abbrev pub disorder_of : List ℕ → List (List ℕ) → Option Disorder
 disorder_of verb words =
     if is verb (codes "overtake") then option_map Overtake (pick_of words)
     else if is verb (codes "repeat") then option_map Again (pick_of words)
-    else if is verb (codes "restart") then option_map Restart (station_words words)
+    else if is verb (codes "restart") then restart_of words
     else None
 
 -- a command without words after it

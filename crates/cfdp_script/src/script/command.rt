@@ -10,7 +10,8 @@ ghost use Rattle.cfdp_script.specs.Script.Lines.{transaction_words, number_words
 ghost use Rattle.cfdp_script.specs.Script.Lines.{which_of, count_of, frame_number, lane_of};
 ghost use Rattle.cfdp_script.specs.Script.Lines.{prompt_of};
 ghost use Rattle.cfdp_script.specs.Script.Lines.{damage_at, damage_of, damaged_of};
-ghost use Rattle.cfdp_script.specs.Script.Lines.{disorder_of, pick_at, pick_of};
+ghost use Rattle.cfdp_script.specs.Script.Lines.{disorder_of, pick_at, pick_of, restart_at};
+ghost use Rattle.cfdp_script.specs.Script.Lines.{restart_of};
 ghost use Rattle.cfdp_script.specs.Script.Lines.{station_of};
 
 use cfdp_directives::Octets;
@@ -103,6 +104,8 @@ pub enum Disorder {
     Again(Pick),
     /// `restart S`: the station restarts.
     Restart(Side),
+    /// `restart S resume`: the station is killed, and resumes.
+    Resume(Side),
 }
 
 /// One of the frames that a station sent, in one lane or in both, by a number.
@@ -325,9 +328,31 @@ fn parse_disorder(verb: &[u8], words: Words<'_>) -> Result<Disorder, LineError>
     } else if verb == b"repeat".as_slice() {
         Ok(Disorder::Again(parse_pick(words)?))
     } else if verb == b"restart".as_slice() {
-        Ok(Disorder::Restart(parse_alone(words)?))
+        parse_restart(words)
     } else {
         Err(LineError::UnknownCommand)
+    }
+}
+
+/// Reads a station that restarts, or resumes.
+fn parse_restart(mut words: Words<'_>) -> Result<Disorder, LineError>
+    ensures { result_ok result ≡ restart_of (left words.entry) }
+{
+    let at = parse_station(words.next_word()?)?;
+    parse_restart_at(at, words)
+}
+
+/// Reads whether this station resumes.
+fn parse_restart_at(at: Side, words: Words<'_>) -> Result<Disorder, LineError>
+    ensures { result_ok result ≡ restart_at at (left words.entry) }
+{
+    if words.is_empty() {
+        return Ok(Disorder::Restart(at));
+    }
+    if words.one()? == b"resume".as_slice() {
+        Ok(Disorder::Resume(at))
+    } else {
+        Err(LineError::ExtraWord)
     }
 }
 

@@ -98,7 +98,7 @@ const FORMS: [Form; 21] = [
     },
     Form {
         verb: "restart",
-        form: "restart S",
+        form: "restart S [resume]",
     },
 ];
 
