@@ -199,7 +199,8 @@ impl<S: Spool, C: Console> Clerk<S, C> {
     }
 
     /// Takes back a put that an earlier run made, and that goes on as this transaction. If the file
-    /// lies in the spool, it leaves that as if this run had put it.
+    /// lies in the spool, and keeps its name at the peer, it leaves the spool as if this run had
+    /// put it.
     pub fn takes_back(&mut self, id: TransactionId, names: PutNames)
         ensures own { self.new.own ≡ self.old.own }
         ensures asked { self.new.asked ≡ self.old.asked }
@@ -207,10 +208,11 @@ impl<S: Spool, C: Console> Clerk<S, C> {
         ensures failed { KeepsFiles S.failed self.old self.new }
         ensures files { (file : OpenFile) → Contains self.new.files file →
             Contains self.old.files file
-            ⊎ ((names.source.items ≡ file.name.items) × (file.id ≡ id)) }
+            ⊎ ((names.source.items ≡ file.name.items)
+            × (names.destination.items ≡ file.name.items) × (file.id ≡ id)) }
     {
         self.console.put_answered(&names, Reply::Put(Ok(id)), false);
-        let is_file = self.spool.takes_back(names.source.as_slice());
+        let is_file = names.are_alike() && self.spool.takes_back(names.source.as_slice());
         self.opened(names, is_file, id);
     }
 
