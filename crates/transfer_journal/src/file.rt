@@ -7,7 +7,7 @@ use std::fs::File;
 use std::io::{ErrorKind, Read, Write};
 use std::{fs, io};
 
-/// The most octets of a journal that are read.
+/// The most octets of a journal: a longer one is neither read nor written.
 const MOST_OCTETS: u64 = 1 << 28;
 
 /// A journal that is open to be written. No other process writes it meanwhile.
@@ -33,9 +33,7 @@ pub fn read_file(rt: &HostRuntime, path: &str) -> Result<Option<Vec<u8>>, LockEr
     lock(&file)?;
     let mut octets = Vec::new(rt.alloc());
     file.take(MOST_OCTETS + 1).read_to_end(&mut octets)?;
-    if octets.len() as u64 > MOST_OCTETS {
-        return Err(LockError::System(io::Error::from(ErrorKind::FileTooLarge)));
-    }
+    let _ = grown(0, octets.as_slice())?;
     Ok(Some(octets))
 }
 
@@ -56,8 +54,8 @@ impl JournalFile {
     ///
     /// # Errors
     ///
-    /// `InUse` if another process writes it; `System` with what the system says. What was there
-    /// stays so.
+    /// `InUse` if another process writes it; `System` with what the system says, or with
+    /// `FileTooLarge` if it would have more than 2^28 octets. What was there stays so.
     pub fn begin(
         rt: &HostRuntime,
         path: &str,
@@ -66,6 +64,7 @@ impl JournalFile {
         let part = format!(in rt.alloc(); "{path}.new").map_err(out_of_memory)?;
         let path = String::from_str(rt.alloc(), path).map_err(out_of_memory)?;
         let batch = batch_of(rt.alloc(), records).map_err(out_of_memory)?;
+        let len = grown(0, batch.as_slice())?;
         let _ = fs::remove_file(rt, part.as_str());
         let mut file = File::create_new(rt, part.as_str())?;
         lock(&file)?;
@@ -73,7 +72,6 @@ impl JournalFile {
         file.sync_all()?;
         fs::rename(rt, part.as_str(), path.as_str())?;
         sync_folder_of(rt, path.as_str())?;
-        let len = batch.len() as u64;
         Ok(JournalFile { path, file, len })
     }
 
@@ -86,12 +84,14 @@ impl JournalFile {
     ///
     /// # Errors
     ///
-    /// What the system says. The batch may be there in part: nothing must be appended after it.
+    /// What the system says, or `FileTooLarge` if it would have more than 2^28 octets. The batch may
+    /// be there in part: nothing must be appended after it.
     pub fn append(&mut self, alloc: Global, records: &[JournalRecord]) -> io::Result<()> {
         let batch = batch_of(alloc, records)?;
+        let len = grown(self.len, batch.as_slice())?;
         self.file.write_all(batch.as_slice())?;
         self.file.sync_data()?;
-        self.len = self.len.saturating_add(batch.len() as u64);
+        self.len = len;
         Ok(())
     }
 
@@ -122,6 +122,15 @@ pub fn remove_at(rt: &HostRuntime, path: &str) -> io::Result<()> {
 /// aren't only what a crash left of the last batch.
 pub fn has_batch_behind(octets: &[u8]) -> bool {
     (1..octets.len().saturating_sub(HEAD_LEN)).any(|at| first_batch(&octets[at..]).is_some())
+}
+
+/// Returns how many octets a journal of so many has with these after it.
+fn grown(len: u64, octets: &[u8]) -> io::Result<u64> {
+    let len = len.saturating_add(octets.len() as u64);
+    if len > MOST_OCTETS {
+        return Err(io::Error::from(ErrorKind::FileTooLarge));
+    }
+    Ok(len)
 }
 
 fn out_of_memory(_error: AllocError) -> LockError {

@@ -21,9 +21,9 @@ use std::alloc::{AllocError, Global};
 use std::cell::{Cell, RefCell};
 use std::collections::BTreeMap;
 use std::fs::File;
-use std::io;
 use std::io::ErrorKind;
 use std::time::Instant;
+use std::{io, mem};
 
 /// A new journal is written if the last one has more octets than this, and more than twice as many
 /// as when it was begun.
@@ -363,9 +363,17 @@ fn note_all_facts<O: Outbox, I: Inbox>(
     station: &Station<O, I>,
 ) -> Result<(), AllocError> {
     for (id, record) in station.records() {
-        let before = noted.remove(id);
-        let now = note_facts(alloc, out, *id, record, before)?;
-        let _ = noted.insert(*id, now)?;
+        // In its place: to remove and insert it would move all those after it.
+        match noted.get_mut(id) {
+            Some(place) => {
+                let before = mem::replace(place, Noted::Gone);
+                *place = note_facts(alloc, out, *id, record, Some(before))?;
+            }
+            None => {
+                let now = note_facts(alloc, out, *id, record, None)?;
+                let _ = noted.insert(*id, now)?;
+            }
+        }
     }
     note_gone(alloc, out, noted, station)
 }
