@@ -125,14 +125,14 @@ def between_mistakes(program):
 
 def replay_mistakes(program):
     """What is wrong where the frames of an older file are sent once more to a receiver that was
-    started anew: the older file replaces the newer one."""
+    started anew, without a journal: the older file replaces the newer one."""
     with Link(program, forging.Forger()) as link:
         it = Scene(program, link, forging.Form())
-        it.starts(2, ["--inbox", "to"])
+        it.starts(2, ["--inbox", "to", "--no-journal"])
         older = sent_whole(it, b"older")
         sent_whole(it, b"newer")
         it.stations[2].killed()
-        it.starts(2, ["--inbox", "to"])
+        it.starts(2, ["--inbox", "to", "--no-journal"])
         it.relay.forge(2, older)
         there = lambda: files_at(link.folder, 2)
         if not waits_for(lambda: there() == {NAME: b"older"}):

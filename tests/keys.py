@@ -268,11 +268,11 @@ def replay_mistakes(program):
 
 
 def lost_mistakes(program, is_old):
-    """What is wrong where a receiver's state file is lost, or replaced by an old copy: what came
-    since is heard once more, until it has another key."""
+    """What is wrong where the state file of a receiver without a journal is lost, or replaced by an
+    old copy: what came since is heard once more, until it has another key."""
     with Link(program, forging.Forger()) as link:
         it, state = Scene(program, link, KEYED), f"{link.folder}/2/to.state"
-        it.starts(2, ["--inbox", "to"])
+        it.starts(2, ["--inbox", "to", "--no-journal"])
         shutil.copy(state, f"{state}.old")
         older = sent_whole(it, b"older")
         sent_whole(it, b"newer")
@@ -280,7 +280,7 @@ def lost_mistakes(program, is_old):
         os.remove(state)
         if is_old:
             shutil.copy(f"{state}.old", state)
-        it.starts(2, ["--inbox", "to"])
+        it.starts(2, ["--inbox", "to", "--no-journal"])
         it.relay.forge(2, older)
         if not waits_for(lambda: files_at(link.folder, 2) == {NAME: b"older"}):
             yield f"the older file isn't heard: {it.counters(2)}"

@@ -129,7 +129,7 @@ def plain_in(folder):
 
 
 class Ends:
-    """Both stations. Whichever has ended is started anew. With `cuts` their power is cut, where
+    """Both stations, without journals. Whichever has ended is started anew. With `cuts` their power is cut, where
     else they are killed alone."""
 
     def __init__(self, link, cuts):
@@ -148,7 +148,7 @@ class Ends:
             self.notes(own)
         if it is not None and it.process.returncode not in (-9, 3):
             self.odd.append(f"{own} ended with {it.process.returncode}: {it.text('stderr')[-200:]}")
-        words = [*WORDS[own], "--state", "state", "--rate", "3000", "--no-time"]
+        words = [*WORDS[own], "--state", "state", "--no-journal", "--rate", "3000", "--no-time"]
         faults = f"kept={self.disks[own].kept}" if self.disks else ""
         self.running[own] = self.link.starts(own, words, HASTY, waits=False, faults=faults)
         # What it told is read by threads of its own, which end with it.

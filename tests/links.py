@@ -55,7 +55,7 @@ def numbers_mistakes(program, kills):
         slow = {"inactivity_time": 100, "nak_time": 2, "nak_limit": 255, "finished_time": 2}
         receiver = link.starts(2, ["--inbox", "to", "--rate", "0"], slow)
         for run in range(kills):
-            words = link.puts(1, named_files(run, puts)) + ["--rate", "1000"]
+            words = [*link.puts(1, named_files(run, puts)), "--no-journal", "--rate", "1000"]
             clock = f"clock=at:{began - run // 2 * 3600}"
             sender = link.starts(1, words, PATIENT, waits=False, faults=clock)
             if run == 0:
@@ -63,7 +63,7 @@ def numbers_mistakes(program, kills):
                 waits_for(lambda: sender.text("stdout").count("transaction") >= puts)
             time.sleep(chance.uniform(0, 0.6))
             ids += re.findall(r"transaction (\S+)", sender.killed())
-        words = link.puts(1, last) + ["--idle", "3"]
+        words = [*link.puts(1, last), "--no-journal", "--idle", "3"]
         status, out, err = link.starts(1, words, PATIENT, faults=f"clock=at:{began}").ended()
         ids += re.findall(r"transaction (\S+)", out)
         if status or unheard(err) or not out.endswith(f"complete {puts} of {puts}\n"):
@@ -135,7 +135,8 @@ def place_mistakes(program):
         if left():
             yield f"with --first-number 7 it left {left()}"
         ended = link.starts(1, ["--inbox", "to", *words], once).ended()
-        if ended[0] != 1 or unheard(ended[2]) or left() != ["from.state"]:
+        kept = ["from.state", "from.state.1-2.journal"]
+        if ended[0] != 1 or unheard(ended[2]) or left() != kept:
             yield f"it left {left()} beside the folders, {ended}"
         plain = ["--inbox", "to", "--idle", "1"]
         yield from idle_mistakes(link.starts(1, plain, faults="denied=to.state.new"))
@@ -151,7 +152,7 @@ def clock_mistakes(program):
     """What is wrong with the numbers of a station's lives, wherever its clock goes: each is greater
     than all before; and with those of new stations, which begin apart with one clock."""
     with Link(program) as link:
-        words = link.puts(1, {"a": b"hello"})
+        words = [*link.puts(1, {"a": b"hello"}), "--no-journal"]
         numbers = []
         for clock in (1_700_000_000, 1_700_000_000, 1_600_000_000, 1_800_000_000, 1_700_000_000):
             numbers += numbers_of(link.starts(1, words, faults=f"clock=at:{clock}"))
@@ -193,7 +194,7 @@ def shared_mistakes(program):
     first is gone; and its numbers begin behind those of the first."""
     with Link(program) as first, Link(program) as second:
         files, state = {"a": b"hello"}, ["--state", f"{first.folder}/numbers"]
-        words = [*state, *first.puts(1, files)]
+        words = [*state, *first.puts(1, files), "--no-journal"]
         second.puts(1, files)
         begun = first.starts(1, words)
         if begun.comes_to("transaction") is None:
@@ -650,11 +651,11 @@ def rest_mistakes(program):
 
 
 def waiting_mistakes(program):
-    """What is wrong where a receiver is killed that has acknowledged the EOF and lacks data: the
-    sender waits for an answer that the new one doesn't have, and says so."""
+    """What is wrong where a receiver without a journal is killed that has acknowledged the EOF and
+    lacks data: the sender waits for an answer that the new one doesn't have, and says so."""
     is_lossy = lambda own, frame: own == 2 or frame[1] & 63 != FILE_DATA
     with Link(program, Relay(is_lossy)) as link:
-        receiver = link.starts(2, ["--inbox", "to"])
+        receiver = link.starts(2, ["--inbox", "to", "--no-journal"])
         sender = link.starts(1, link.puts(1, {"a": bytes(5000)}))
         if receiver.comes_to("eof-recv") is None:
             yield f"the receiver got no EOF: {receiver.text('stdout')!r}"
@@ -663,7 +664,7 @@ def waiting_mistakes(program):
         receiver.killed()
         since = time.time()
         time.sleep(1)
-        link.starts(2, ["--inbox", "to"])
+        link.starts(2, ["--inbox", "to", "--no-journal"])
         link.relay.passes = lambda own, frame: True
         name = re.search(r"transaction (\S+)", sender.text("stdout"))
         yield from note_mistakes(sender, rf"(?=.*\bFinished\b)(?=.*\b{name[1]}\b)", since, 15)

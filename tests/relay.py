@@ -391,7 +391,8 @@ def set_back_mistakes(program):
     """What is wrong where the clock is set back at each start of a spool's station, which is killed
     in between: no number comes back, and each file comes with what it has."""
     files = {f"f{number:02}": bytes([number]) * 20_000 for number in range(40)}
-    slow = ["--spool", "from", "--no-time", "--rate", "400", "--at-once", "4"]
+    whole = [*SPOOL, "--no-journal"]
+    slow = [*whole, "--rate", "400", "--at-once", "4"]
     began, ids = 1_700_000_000, []
     with spool_of(program) as (link, spool):
         receiver = link.starts(2, INBOX, PATIENT | {"inactivity_time": 4})
@@ -400,7 +401,7 @@ def set_back_mistakes(program):
             sender = link.starts(1, slow, PATIENT, faults=f"clock=at:{began - run * 3600}")
             sender.comes_to("finished")
             ids += re.findall(r"transaction (\S+)", sender.killed())
-        link.starts(1, SPOOL, PATIENT, faults=f"clock=at:{began - 86400}")
+        link.starts(1, whole, PATIENT, faults=f"clock=at:{began - 86400}")
         yield from spool.mistakes(files)
         ids += re.findall(r"transaction (\S+)", link.started[-1].killed())
         if len(ids) < len(files) or len(set(ids)) < len(ids):

@@ -644,6 +644,59 @@ def stale_mistakes(program):
             yield "what is over goes on"
 
 
+# ---- journals that nobody names
+
+# What a station keeps whose journal isn't named.
+UNNAMED = [it for it in WORDS if it not in ("--journal", "journal")] + ["--carrier", "pdus"]
+
+
+def unnamed_mistakes(program):
+    """What is wrong where a station that names no journal is killed while it sends: it goes on by
+    one beside its state file, and with --no-journal by none."""
+    octets = chance_of(99).randbytes(20_000)
+    for more, is_kept in (([], True), (["--no-journal"], False)):
+        with Link(program, Counting(99, lost=0, most={1: 10_000})) as link:
+            words = [*UNNAMED, "--journal-every", str(EVERY), *more]
+            path = f"{link.folder}/1/state.1-2.journal"
+            link.starts(2, words, STEADY)
+            it = link.starts(1, [*words, "--rate", str(RATE), "--spool", "from"], STEADY)
+            drop(f"{link.folder}/1/from", "a", octets)
+            waits_for(lambda: link.relay.holds)
+            if is_kept and not waits_for(lambda: sent_of(octets_of(path) or b"") > 2_000):
+                yield f"there is {os.listdir(f'{link.folder}/1')}"
+            it.killed()
+            link.relay.release()
+            it = link.starts(1, [*words, "--spool", "from"], STEADY)
+            if it.comes_to("1 finished") is None or files_at(link.folder, 2)["a"] != octets:
+                yield f"the file didn't come: {it.text('stdout')!r}"
+            told = "note: resumed 1:" in it.text("stderr")
+            if told != is_kept or os.path.exists(path) != is_kept:
+                yield f"{more}: {it.text('stderr')!r} and {os.listdir(f'{link.folder}/1')}"
+
+
+def late_mistakes(program):
+    """What is wrong where a receiver is restarted, and frames of an older file come then, late: it
+    must not come in place of the newer one."""
+    with Link(program, Relay()) as link:
+        sender = link.starts(1, ["--unit", "ms", "--spool", "from"], STEADY)
+        receiver = link.starts(2, ["--unit", "ms", "--inbox", "to"], STEADY)
+        complete = lambda: sender.text("stdout").count(" 0 complete retained")
+        late = []
+        for count, (name, text) in enumerate((("a", b"older"), ("a", b"newer"), ("b", b""))):
+            if count == 1:
+                late = [frame for _, own, frame in list(link.relay.came) if own == 1]
+            if count == 2:
+                receiver.killed()
+                link.starts(2, ["--unit", "ms", "--inbox", "to"], STEADY)
+                for frame in late:
+                    link.relay.give(2, frame)
+            drop(f"{link.folder}/1/from", name, text)
+            if not waits_for(lambda: complete() == count + 1):
+                yield f"{name} wasn't sent: {sender.text('stdout')!r}"
+        if files_at(link.folder, 2) != {"a": b"newer", "b": b""}:
+            yield f"there is {files_at(link.folder, 2)}"
+
+
 # ---- journals that can't be used
 
 
@@ -685,6 +738,8 @@ def lone_mistakes(program, kills=KILLS):
 
 def all_mistakes(program):
     """What is tried, with what is wrong in it."""
+    yield "a journal that nobody names", unnamed_mistakes(program)
+    yield "a journal, and late frames of an older file", late_mistakes(program)
     yield "a journal that a station must not use", refusal_mistakes(program)
     yield "a journal, and what a kill costs", cost_mistakes(program)
     yield "a journal, and puts that are told again", put_mistakes(program)

@@ -69,7 +69,8 @@ def exchange_mistakes(program):
 
 
 def restart_mistakes(program):
-    """What is wrong where a station is killed as it sends, and one is started in its place."""
+    """What is wrong where a station without a journal is killed as it sends, and one is started in
+    its place."""
     chance = chance_of(38)
     first, second = chance.randbytes(1 << 20), chance.randbytes(30_000)
     settings = {**PATIENT, "inactivity_time": 10, "finished_limit": 10}
@@ -80,13 +81,13 @@ def restart_mistakes(program):
         words = ["--inbox", "to", "--idle", "15"]
         receiver = Station(program, folder, 2, 1, ports, words, settings)
         receiver.comes_up()
-        words = ["--outbox", "from", "--rate", "100", "--put", "first", "first"]
+        words = ["--outbox", "from", "--no-journal", "--rate", "100", "--put", "first", "first"]
         sender = Station(program, folder, 1, 2, ports, words, settings)
         if not receiver.comes_to(b"metadata"):
             yield "the first file never began to come"
         sender.process.send_signal(signal.SIGKILL)
         sender.process.communicate()
-        words = ["--outbox", "from", "--put", "second", "second", "--idle", "3"]
+        words = ["--outbox", "from", "--no-journal", "--put", "second", "second", "--idle", "3"]
         status, out, err = Station(program, folder, 1, 2, ports, words, settings).ended()
         if status or unheard(err) or not out.endswith("complete 1 of 1\n"):
             yield f"the new station: status {status}, {out[-300:]!r}, {err[-300:]!r}"
@@ -209,8 +210,8 @@ def memory_mistakes(program):
 
 
 def steady_mistakes(program, words):
-    """What is wrong with the memory of a long transfer: no frame takes any, whether it leaves or
-    comes. Of 4,200 frames fewer than a tenth may ask for memory: a start needs some hundreds, and a
+    """What is wrong with the memory of a long transfer without journals: no frame takes any, whether
+    it leaves or comes. Of 4,200 frames fewer than a tenth may ask for memory: a start needs some hundreds, and a
     list that grows to twice its length few."""
     octets, settings = chance_of(47).randbytes(200_000), {"segment": 64, "zone": 64}
     with tempfile.TemporaryDirectory(dir=program.room) as folder:
@@ -219,7 +220,7 @@ def steady_mistakes(program, words):
         env = {"PATH": "/usr/bin:/bin", **program.faulty(f"memory={MOST_GROWTHS},mark")}
         sends = ["--outbox", "from", "--put", "a", "b", "--idle", "2"]
         for own, those in ((2, ["--inbox", "to", "--idle", "15"]), (1, sends)):
-            those += ["--rate", "2000", *words]
+            those += ["--no-journal", "--rate", "2000", *words]
             started.append(Station(program, folder, own, 3 - own, ports, those, settings, env=env))
             started[-1].comes_up()
         yield from (f"{it.own}: {ran}" for it in started if (ran := it.ended())[0])

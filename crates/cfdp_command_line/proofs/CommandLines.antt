@@ -101,7 +101,7 @@ abbrev plain_limits : StationLimits
 plain_limits = record { retries = 3; at_once = 4; most_size = 0; most_open = 0; journal_every = 1000 }
 
 abbrev no_flags : StationFlags
-no_flags = record { remove_sent = false; no_overwrite = false; commands = false; no_time = false; json = false }
+no_flags = record { remove_sent = false; no_overwrite = false; no_journal = false; commands = false; no_time = false; json = false }
 
 -- words that say who the station is
 abbrev named : List Text → List Text
@@ -161,14 +161,14 @@ unfolding clap_on_literals
 sending_station = (refl, refl)
 
 abbrev operating : List Text
-operating = codes "--journal" ∷ codes "j" ∷ codes "--journal-every" ∷ codes "10" ∷ codes "--spool" ∷ codes "s" ∷ codes "--remove-sent" ∷ codes "--retries" ∷ codes "0" ∷ codes "--at-once" ∷ codes "3072" ∷ codes "--most-size" ∷ codes "281474976710656" ∷ codes "--most-open" ∷
+operating = codes "--journal" ∷ codes "j" ∷ codes "--journal-every" ∷ codes "10" ∷ codes "--no-journal" ∷ codes "--spool" ∷ codes "s" ∷ codes "--remove-sent" ∷ codes "--retries" ∷ codes "0" ∷ codes "--at-once" ∷ codes "3072" ∷ codes "--most-size" ∷ codes "281474976710656" ∷ codes "--most-open" ∷
     codes "4096" ∷ codes "--no-overwrite" ∷ codes "--commands" ∷ codes "--control" ∷ codes "c" ∷ codes "--no-time" ∷ codes "--json" ∷ codes "--carrier" ∷ codes "pdus" ∷ codes "--unit" ∷ codes "ms" ∷ codes "--names" ∷ codes "any" ∷ codes "--keys" ∷ codes "k" ∷ []
 
 operated_station : (refusals (named operating) ≡ [])
     × (asked_of (named operating)
     ≡ Some (station (record plain {
       limits = record { retries = 0; at_once = 3072; most_size = 281474976710656; most_open = 4096; journal_every = 10 };
-      flags = record { remove_sent = true; no_overwrite = true; commands = true; no_time = true; json = true };
+      flags = record { remove_sent = true; no_overwrite = true; no_journal = true; commands = true; no_time = true; json = true };
       carrier = PdusCarried;
       unit = Milliseconds;
       names = Any;

@@ -70,8 +70,9 @@ stores_app = with_rule (with_rule (with_rule carried_app (file_rule (codes "inbo
     (file_rule (codes "outbox"))) (file_rule (codes "state"))
 
 abbrev pub journaled_app : App
-journaled_app = with_rule (with_rule stores_app (file_rule (codes "journal")))
-    (number_rule (codes "journal-every") 10 3600000 (codes "1000"))
+journaled_app = with_rule (with_rule (with_rule stores_app (file_rule (codes "journal")))
+    (number_rule (codes "journal-every") 10 3600000 (codes "1000")))
+    (flag_rule (codes "no-journal"))
 
 abbrev pub keyed_app : App
 keyed_app = with_rule journaled_app (file_rule (codes "keys"))
@@ -180,6 +181,7 @@ abbrev pub flags_of : List Row → StationFlags
 flags_of rows = record {
   remove_sent = is_given (codes "remove-sent") rows;
   no_overwrite = is_given (codes "no-overwrite") rows;
+  no_journal = is_given (codes "no-journal") rows;
   commands = is_given (codes "commands") rows;
   no_time = is_given (codes "no-time") rows;
   json = is_given (codes "json") rows;

@@ -117,6 +117,8 @@ pub struct StationFlags {
     pub remove_sent: bool,
     /// A file that comes under a name that is there is refused.
     pub no_overwrite: bool,
+    /// No journal is kept, also if one is named.
+    pub no_journal: bool,
     /// Commands are read from standard input.
     pub commands: bool,
     /// Lines begin with no time.
@@ -170,6 +172,7 @@ machine. A console with --console-token (16 to 256 visible ASCII) may have any.
 --keys: FILE has a line for each key: SPI (1 to 65534), send or receive, and 64
 hexadecimal digits. A second receive line is the peer's former key.
 --state: without it FOLDER.state, beside --outbox or --spool, otherwise --inbox.
+--journal: without it STATE.ID-PEER.journal, beside the state file.
 
 Keys of --set and their defaults, beside those of 'sim --help' (number_width 8,
 pdu_crc 1, most_gaps 65536 here). Keys peer_.. are of what the peer sends:
@@ -178,10 +181,8 @@ pdu_crc 1, most_gaps 65536 here). Keys peer_.. are of what the peer sends:
   data_virtual_channel 7, peer_data_virtual_channel 8    of file data, 0 to 62
   apid 100, peer_apid 101  0 to 2046
   insert_zone 0, peer_insert_zone 0  octets of the insert zone, 0 to 64
-  control_field 0, peer_control_field 0
-                           1: frames have an operational control field
-  error_control 0, peer_error_control 0
-                           1: frames have a frame error control field (CRC-16)
+  control_field 0, peer_control_field 0  1: an operational control field
+  error_control 0, peer_error_control 0  1: frames have error control (CRC-16)
   mac 16                   with --keys: octets of the MAC of a frame, 16 or 32
   packet_type 0            with --carrier packets: 0 telemetry, 1 telecommand
   secondary_header 0, peer_secondary_header 0
@@ -416,7 +417,7 @@ fn journaled_command<'a>(alloc: Global) -> Result<Command<'a>, AllocError>
             alloc,
             "Identity",
             "journal",
-            "Resume open transfers after a kill, by FILE",
+            "Keep the journal in FILE, to resume by it",
         ))?
         .arg(ranged(
             alloc,
@@ -427,6 +428,12 @@ fn journaled_command<'a>(alloc: Global) -> Result<Command<'a>, AllocError>
             10,
             3_600_000,
             "Note progress in it each MS ms",
+        ))?
+        .arg(flag_under(
+            alloc,
+            "Identity",
+            "no-journal",
+            "Forget open transfers at a restart",
         ))
 }
 
@@ -728,6 +735,7 @@ fn station_flags(arguments: &ArgMatches<'_>) -> StationFlags
     StationFlags {
         remove_sent: is_given(arguments, "remove-sent"),
         no_overwrite: is_given(arguments, "no-overwrite"),
+        no_journal: is_given(arguments, "no-journal"),
         commands: is_given(arguments, "commands"),
         no_time: is_given(arguments, "no-time"),
         json: is_given(arguments, "json"),

@@ -27,8 +27,9 @@ unit = \"s\"                      # unit of the times in [set] below: s or ms
 # inbox = \"RECEIVED\"            # receive files into this folder
 # outbox = \"FILES\"              # find the files of put in this folder
 # state = \"FILES.state\"         # default: beside outbox or spool, otherwise beside inbox
-# journal = \"FILES.journal\"     # resume open transfers after a kill, by this file
+# journal = \"FILES.journal\"     # default: beside the state file, FILES.state.1-2.journal
 journal-every = 1000            # note progress in it each N ms, 10 to 3600000
+no-journal = false              # forget open transfers at a restart
 
 # Files to send.
 put = []                        # files of outbox with their names there: [[\"a.bin\", \"b.bin\"]]

@@ -25,7 +25,7 @@ pub struct SettingsOption {
 }
 
 /// All options of a station but those that name a settings file, in the order of its help.
-pub const OPTIONS: [SettingsOption; 39] = [
+pub const OPTIONS: [SettingsOption; 40] = [
     SettingsOption {
         name: "id",
         kind: ValueKind::Number,
@@ -93,6 +93,10 @@ pub const OPTIONS: [SettingsOption; 39] = [
     SettingsOption {
         name: "journal-every",
         kind: ValueKind::Number,
+    },
+    SettingsOption {
+        name: "no-journal",
+        kind: ValueKind::Flag,
     },
     SettingsOption {
         name: "keys",

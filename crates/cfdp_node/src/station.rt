@@ -271,11 +271,11 @@ fn begun<'a>(
 ) -> Result<Prepared<'a>, u8> {
     let (config, _) = configuration(rt, request, setup)?;
     let keys = keys(rt, request)?;
-    let found = found_journal(rt, request, config, exchange)?;
+    let found = found_journal(rt, request, setup, config, exchange)?;
     let held = held_inbox(rt, request, &found)?;
     check_outbox(rt, request)?;
     let spool = spool(rt, request, exchange)?;
-    let reservation = reserved(rt, request, setup)?;
+    let reservation = reserved(rt, request, setup, &found)?;
     check_kept(rt, request, &reservation)?;
     found.check_number(rt, request, reservation.number())?;
     let setup = setup.beginning_at(reservation.number());
@@ -527,12 +527,13 @@ fn reserved<'a>(
     rt: &'a HostRuntime,
     request: &StationRequest,
     setup: &StationSetup,
+    found: &Found,
 ) -> Result<Reservation<'a>, u8> {
     let (number, width) = (setup.first_number(), setup.number_width());
     let said = if number == 0 { None } else { Some(number) };
     // Each put is two words: its source and its destination.
     let puts = request.puts.len() as u64 / 2;
-    let wanted = Wanted {
+    let mut wanted = Wanted {
         said,
         width,
         puts,
@@ -540,6 +541,7 @@ fn reserved<'a>(
     };
     if let Some(path) = &request.state {
         check_state_place(rt, request, path.as_str())?;
+        wanted.said = said.or(number_after(rt, request, found, path.as_str()));
         return match Reservation::take(rt, path.as_str(), wanted) {
             Ok(reservation) => Ok(reservation),
             Err(error) => Err(tell_state(rt, path.as_str(), &error)),
@@ -553,9 +555,25 @@ fn reserved<'a>(
             let is_needed = puts > 0 || request.spool.is_some() || wanted.is_secured;
             let path = beside_told(rt, folder)?;
             check_state_place(rt, request, path.as_str())?;
+            wanted.said = number_after(rt, request, found, path.as_str());
             reserved_in(rt, path.as_str(), is_needed, wanted)
         }
         None => Ok(Reservation::by_clock(rt, None)),
+    }
+}
+
+/// Returns the number after all those of the journal, if it has any, and if there is no file of
+/// reserved numbers at this path: it was lost.
+fn number_after(
+    rt: &HostRuntime,
+    request: &StationRequest,
+    found: &Found,
+    path: &str,
+) -> Option<u64> {
+    let used = found.greatest_number(request.numbers.id)?;
+    match fs::symlink_metadata(rt, path) {
+        Err(error) if error.kind() == ErrorKind::NotFound => used.checked_add(1),
+        Ok(_) | Err(_) => None,
     }
 }
 
@@ -778,9 +796,9 @@ pub fn side_of(request: &StationRequest) -> Side {
 fn journal_of<'a>(
     rt: &'a HostRuntime,
     request: &'a StationRequest,
-    found: &Found,
+    found: &'a Found,
 ) -> Option<TransferJournal<'a>> {
-    let path = request.journal.as_ref()?.as_str();
+    let path = found.path(request)?;
     let inbox = match &request.inbox {
         Some(folder) => Some(folder.as_str()),
         None => None,

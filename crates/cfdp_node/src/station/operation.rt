@@ -391,12 +391,15 @@ fn operated<'a, O: SeekingOutbox, I: ResumingInbox, W: PeerWire, S: Spool, L: Lo
     {
         return Exit::Device(Fault::NoMemoryAtStart);
     }
-    let ran = match (transfers, survey) {
-        (Some(Transfers { journal, .. }), Some(survey)) => {
+    let ran = match transfers {
+        Some(Transfers { journal, .. }) => {
             let journal = (journal, survey);
             run_resumed(rt, teller, options, ends, journal, &mut clerk, lookout)
         }
-        (Some(_), None) | (None, _) => run(rt.alloc(), options, ends, &mut clerk, lookout),
+        None => {
+            drop(survey);
+            run(rt.alloc(), options, ends, &mut clerk, lookout)
+        }
     };
     let exit = match ran {
         Ok(ended) => clerk.console().exit(ended.is_short, ended.has_failed),

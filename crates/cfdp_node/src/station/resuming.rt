@@ -1,7 +1,8 @@
 //! Transfers that go on after a restart, by the journal of the station.
+use crate::station::setup::StationSetup;
 use crate::station::{outbox_of, side_of, state_path};
 use crate::transfers::teller::{Teller, note};
-use cfdp_command_line::StationRequest;
+use cfdp_command_line::{StationNumbers, StationRequest};
 use cfdp_directives::{Addressing, Indication};
 use cfdp_exchange::{Exchange, NoteTopic};
 use cfdp_files::{HeldFolder, LockError, is_same_folder, lies_in};
@@ -37,6 +38,8 @@ pub struct Found {
     survey: Cell<Option<Survey>>,
     /// Whose the journal is from now on.
     pub owner: Owner,
+    // Where it lies if it isn't named.
+    unnamed: Option<String>,
 }
 
 impl Found {
@@ -52,6 +55,14 @@ impl Found {
         }
     }
 
+    /// Returns the greatest number of a transaction that this entity began, if the journal has any.
+    pub fn greatest_number(&self, own: u64) -> Option<u64> {
+        let survey = self.survey.take()?;
+        let greatest = survey.greatest_number(own);
+        self.survey.set(Some(survey));
+        greatest
+    }
+
     /// Checks that the first put gets a number that no transaction of the journal has.
     ///
     /// # Errors
@@ -63,14 +74,9 @@ impl Found {
         request: &StationRequest,
         number: u64,
     ) -> Result<(), u8> {
-        let Some(survey) = self.survey.take() else {
-            return Ok(());
-        };
-        let greatest = survey.greatest_number(request.numbers.id);
-        self.survey.set(Some(survey));
-        match greatest {
+        let own = request.numbers.id;
+        match self.greatest_number(own) {
             Some(used) if used >= number => {
-                let own = request.numbers.id;
                 let _ = eprintln!(rt;
                     "error: transaction number {number} was used: the journal has {own}:{used} \
                      (leave --first-number out, or name the state file of that journal)"
@@ -81,14 +87,51 @@ impl Found {
         }
     }
 
+    /// Returns the path of the journal, if one must be kept.
+    pub fn path<'a>(&'a self, request: &'a StationRequest) -> Option<&'a str> {
+        journal_path(request, &self.unnamed)
+    }
+
     /// Returns what was found, once.
     pub fn take(&self) -> Option<Survey> {
         self.survey.take()
     }
 }
 
-/// Reads the journal of the station, if it has one. A damaged one is set aside, and the station
-/// starts without.
+/// Returns the path of the journal, if one must be kept.
+fn journal_path<'a>(request: &'a StationRequest, unnamed: &'a Option<String>) -> Option<&'a str> {
+    match (request.flags.no_journal, &request.journal, unnamed) {
+        (false, Some(path), _) | (false, None, Some(path)) => Some(path.as_str()),
+        (true, _, _) | (false, None, None) => None,
+    }
+}
+
+/// Returns the path of a journal that isn't named: beside the file of reserved numbers, if there
+/// is one, with the ids of both stations, since a journal is of one pair. None is kept in an inbox
+/// or a spool.
+fn unnamed_journal(
+    rt: &HostRuntime,
+    request: &StationRequest,
+    setup: &StationSetup,
+) -> Option<String> {
+    if request.state.is_none() && setup.first_number() != 0 {
+        return None;
+    }
+    let state = state_path(rt, request)?;
+    let StationNumbers { id, peer, .. } = request.numbers;
+    let path = format!(in rt.alloc(); "{state}.{id}-{peer}.journal").ok()?;
+    for folder in [&request.inbox, &request.spool] {
+        if let Some(folder) = folder
+            && lies_in(rt, path.as_str(), folder.as_str())
+        {
+            return None;
+        }
+    }
+    Some(path)
+}
+
+/// Reads the journal of the station, if it keeps one. A damaged one is set aside, and nothing goes
+/// on.
 ///
 /// # Errors
 ///
@@ -96,6 +139,7 @@ impl Found {
 pub fn found_journal(
     rt: &HostRuntime,
     request: &StationRequest,
+    setup: &StationSetup,
     config: Valid<WorldConfig>,
     exchange: &Exchange,
 ) -> Result<Found, u8> {
@@ -104,17 +148,20 @@ pub fn found_journal(
         peer: request.numbers.peer,
         start: 1,
     };
-    let survey = match &request.journal {
+    let unnamed = unnamed_journal(rt, request, setup);
+    let survey = match journal_path(request, &unnamed) {
         Some(path) => {
-            check_place(rt, request, path.as_str())?;
+            check_place(rt, request, path)?;
             let addressing = addressing_of(request, config);
-            match read_survey(rt, path.as_str(), owner, addressing) {
-                Ok(survey) => with_changes(rt, request, path.as_str(), survey),
+            match read_survey(rt, path, owner, addressing) {
+                Ok(survey) => with_changes(rt, request, path, survey),
                 Err(SurveyError::Damaged) => {
-                    tell_damaged(rt, path.as_str(), exchange);
+                    tell_damaged(rt, path, exchange);
                     None
                 }
-                Err(error) => return Err(tell_unusable(rt, path.as_str(), &error)),
+                // Who has that has the inbox or the state file too, which refuse this station.
+                Err(SurveyError::File(LockError::InUse)) if request.journal.is_none() => None,
+                Err(error) => return Err(tell_unusable(rt, path, &error)),
             }
         }
         None => None,
@@ -125,6 +172,7 @@ pub fn found_journal(
     Ok(Found {
         survey: Cell::new(survey),
         owner,
+        unnamed,
     })
 }
 
@@ -287,7 +335,8 @@ fn kept_parts(rt: &HostRuntime, survey: &Survey) -> BTreeSet<String> {
     }
 }
 
-/// Makes a station on which what the journal says goes on, and has it serve its clerk.
+/// Makes a station on which what the journal says goes on, if there was one, and has it serve its
+/// clerk. The journal of this run is there before its first turn.
 ///
 /// # Errors
 ///
@@ -297,7 +346,7 @@ pub fn run_resumed<O, I, W, S, C, L>(
     teller: Teller<'_>,
     options: ServiceOptions,
     ends: ServiceEnds<O, I, W>,
-    journal: (&TransferJournal<'_>, Survey),
+    journal: (&TransferJournal<'_>, Option<Survey>),
     clerk: &mut Clerk<S, C>,
     lookout: &mut L,
 ) -> Result<Ended, AllocError>
@@ -318,9 +367,14 @@ where
     let alloc = rt.alloc();
     let mut port = Port::new(alloc, options.side, options.config, (outbox, inbox), wire)?;
     port.count_frames_from(options.frame_count);
-    let restored = restore(alloc, &mut port, survey)?;
-    tell_restored(rt, teller, &restored);
-    let pending = take_back(clerk, restored);
+    let pending = match survey {
+        Some(survey) => {
+            let restored = restore(alloc, &mut port, survey)?;
+            tell_restored(rt, teller, &restored);
+            take_back(clerk, restored)
+        }
+        None => Vec::new(alloc),
+    };
     journal.begins(port.station(), pending.as_slice());
     let ended = run_restored(&mut port, clerk, lookout);
     drop(port);
