@@ -1,2 +1,3 @@
+mod Denials
 mod HearingLemmas
 mod Summing

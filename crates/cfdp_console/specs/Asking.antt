@@ -1,5 +1,6 @@
 -- What a request of the console asks of a station.
-use Rattle.std.specs.Prelude.{◌≡◌, ◌≢◌, ◌<◌, ◌⊎◌, ◌++◌, ℕ, Bool, true, false, List, [], codes, All, IsTrue, Option, Some, None, option_and_then, ⊤}
+use Rattle.std.specs.Prelude.{◌≡◌, ◌≢◌, ◌<◌, ◌⊎◌, ◌++◌, ℕ, Bool, true, false, List, [], codes, All, IsTrue, Option, Some, None, IfSome, option_and_then, if◌then◌else◌, ⊤}
+use Rattle.std.specs.Str.{IsUtf8, bytes_eq}
 use Rattle.http.specs.declared.request.Request.{Request}
 use Rattle.http.specs.Request.{head_of, body_of}
 use Rattle.http_uri.specs.Uri.{uri_path}
@@ -97,7 +98,7 @@ pub record PutOf (wanted : Data) (line : List ℕ) : Type 0 where
       destination
 
 abbrev pub Puts : List ℕ → List ℕ → Type 0
-Puts body line = (wanted : Data) × (read body ≡ Some wanted) × PutOf wanted line
+Puts body line = IsUtf8 body × (wanted : Data) × (read body ≡ Some wanted) × PutOf wanted line
 
 -- ---- the line that a request to this path, with this body, stands for
 
@@ -118,19 +119,41 @@ pub record Commands (path body line : List ℕ) : Type 0 where
 
 -- ---- what is looked at
 
+-- what is shown at a path alone, whatever the query
+abbrev pub plain_at : List ℕ → Option Look
+plain_at path =
+    if bytes_eq path (codes "/") then Some look.Page
+    else if bytes_eq path (codes "/token") then Some look.Token
+    else if bytes_eq path (codes "/status") then Some look.Status
+    else if bytes_eq path (codes "/history") then Some look.History
+    else if bytes_eq path (codes "/metrics") then Some look.Metrics
+    else if bytes_eq path (codes "/files") then Some look.Files
+    else None
+
 -- the page itself has nothing of the station
 abbrev pub IsPage : Look → Type 0
 IsPage look.Page = ⊤
 IsPage _ = ⊥
 
+abbrev pub path_in : Request (List ℕ) → List ℕ
+path_in request = uri_path (head_of request).uri
+
+-- the request is to change something
+abbrev pub IsPost : Request (List ℕ) → Type 0
+IsPost request = (head_of request).method ≡ codes "POST"
+
+-- the request is to show something
+abbrev pub IsGet : Request (List ℕ) → Type 0
+IsGet request = ((head_of request).method ≡ codes "GET") ⊎ ((head_of request).method ≡ codes "HEAD")
+
 -- Who is entitled to ask this: for a command, whoever shows the token and sends it as a POST; for
 -- what the station has, whoever shows the token, or anybody if it is open to all.
 abbrev pub IsEntitled : Guard → Request (List ℕ) → Ask → Type 0
-IsEntitled guard request (ask.Look it) =
-    IsPage it ⊎ (IsTrue guard.is_open ⊎ ShowsToken guard request)
-IsEntitled guard request (ask.Command line) = ShowsToken guard request
-    × ((head_of request).method ≡ codes "POST")
-    × Commands (uri_path (head_of request).uri) (body_of request) line.items
+IsEntitled guard request (ask.Look it) = IsGet request
+    × IfSome (plain_at (path_in request)) (λ there. it ≡ there)
+    × (IsPage it ⊎ (IsTrue guard.is_open ⊎ ShowsToken guard request))
+IsEntitled guard request (ask.Command line) = ShowsToken guard request × IsPost request
+    × Commands (path_in request) (body_of request) line.items
 
 -- who may ask this: who is entitled to, and asks by the console's own address or through the proxy
 pub record May (guard : Guard) (request : Request (List ℕ)) (it : Ask) : Type 0 where

@@ -1,5 +1,5 @@
 -- Who may ask a station something through its console.
-use Rattle.std.specs.Prelude.{◌≡◌, ◌≤◌, ◌⊎◌, ◌++◌, ℕ, List, codes, All, IsTrue, Option, Some, None, ⊤}
+use Rattle.std.specs.Prelude.{◌≡◌, ◌≢◌, ◌≤◌, ◌⊎◌, ◌++◌, ℕ, List, [], codes, All, IsTrue, Option, Some, None, ⊤}
 use Rattle.std.specs.List.{starts_with}
 use Rattle.std.specs.Prelude.{nat_eq}
 use Rattle.http.specs.declared.request.Request.{Request}
@@ -43,12 +43,16 @@ ProxyOriginFits None host = ⊤
 ProxyOriginFits (Some origin) host =
     (origin.bytes ≡ codes "https://" ++ host) ⊎ (origin.bytes ≡ codes "http://" ++ host)
 
+-- the name of the host that the operator gave for a proxy, if one was given
+abbrev pub IsProxyHost : Guard → List ℕ → Type 0
+IsProxyHost guard host = (guard.proxy_host.items ≢ []) × (host ≡ guard.proxy_host.items)
+
 -- A proxy, whose host the operator named, asks for it: by that name, and no page of another site
 -- sends it.
 pub record IsByProxy (guard : Guard) (request : Request (List ℕ)) : Type 0 where
   pub host : FieldValue
   pub is_there : field_of request (codes "host") ≡ Some host
-  pub named : host.bytes ≡ guard.proxy_host.items
+  pub named : IsProxyHost guard host.bytes
   pub origin : ProxyOriginFits (field_of request (codes "origin")) host.bytes
 
 -- the request may be answered

@@ -4,4 +4,5 @@ pub mod Hearing
 pub mod Shown
 pub mod Ranges
 pub mod Rounds
+pub mod Denying
 pub mod Details

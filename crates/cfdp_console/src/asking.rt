@@ -1,7 +1,7 @@
 //! What a request asks of a station.
-ghost use Rattle.std.specs.Prelude.{◌≡◌, codes, IfOk};
-ghost use Rattle.http.specs.Request.{head_of};
-ghost use Rattle.cfdp_console.specs.Asking.{IsEntitled, May};
+ghost use Rattle.std.specs.Prelude.{IfErr, IfOk};
+ghost use Rattle.cfdp_console.specs.Asking.{IsEntitled, IsGet, IsPost, May};
+ghost use Rattle.cfdp_console.specs.Denying.{IsDenied};
 
 use crate::deed::command_line;
 use crate::denial::Denial;
@@ -27,7 +27,8 @@ pub enum Ask {
 /// The `Denial`, by which nothing is asked. `Foreign` goes before all others, and `NoToken` before
 /// those of a command.
 pub fn judge(alloc: Global, guard: &Guard, request: &Request<Bytes>) -> Result<Ask, Denial>
-    ensures { IfOk result (λ ask. May guard.now request.now ask) }
+    ensures may { IfOk result (λ ask. May guard.now request.now ask) }
+    ensures denied { IfErr result (IsDenied guard.now request.now) }
 {
     if !is_allowed(guard, request) {
         return Err(Denial::Foreign);
@@ -44,20 +45,25 @@ pub fn judge(alloc: Global, guard: &Guard, request: &Request<Bytes>) -> Result<A
 
 /// What a request asks that changes something.
 fn command(alloc: Global, guard: &Guard, request: &Request<Bytes>) -> Result<Ask, Denial>
-    requires { (head_of request.now).method ≡ codes "POST" }
-    ensures { IfOk result (IsEntitled guard.now request.now) }
+    requires { IsPost request.now }
+    ensures ok { IfOk result (IsEntitled guard.now request.now) }
+    ensures err { IfErr result (IsDenied guard.now request.now) }
 {
     if !guard.knows(request) {
         return Err(Denial::NoToken);
     }
     let path = request.uri().path().as_bytes();
-    let line = command_line(alloc, path, request.body().as_slice())?;
-    Ok(Ask::Command(line))
+    match command_line(alloc, path, request.body().as_slice()) {
+        Ok(line) => Ok(Ask::Command(line)),
+        Err(why) => Err(why),
+    }
 }
 
 /// What a request asks to be shown.
 fn look(alloc: Global, guard: &Guard, request: &Request<Bytes>) -> Result<Ask, Denial>
-    ensures { IfOk result (IsEntitled guard.now request.now) }
+    requires { IsGet request.now }
+    ensures ok { IfOk result (IsEntitled guard.now request.now) }
+    ensures err { IfErr result (IsDenied guard.now request.now) }
 {
     let uri = request.uri();
     let Some(look) = look_at(alloc, uri.path().as_bytes(), uri.query())? else {

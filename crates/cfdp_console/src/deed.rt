@@ -1,9 +1,11 @@
 //! What can be done with a station through its console, and the lines that say so.
-ghost use Rattle.std.specs.Prelude.{◌≡◌, ◌++◌, ◌↔◌, IfOk, IfSome, IsTrue, option_map};
+ghost use Rattle.std.specs.Prelude.{◌≡◌, ◌++◌, ◌↔◌, IfErr, IfOk, IsTrue, MatchOption};
+ghost use Rattle.std.specs.Prelude.{option_map};
 ghost use Rattle.serde_json.specs.View.{view};
 ghost use Rattle.cfdp_console.specs.Asking as asking;
 ghost use Rattle.cfdp_console.specs.Asking.{Commands, IsIdOf, IsOfWord, IsWord, MayBePut, PutOf};
 ghost use Rattle.cfdp_console.specs.Asking.{Puts, behind_of, front_of, name_at_peer, path_of};
+ghost use Rattle.cfdp_console.specs.Denying.{IsNoCommand, IsNoPut, IsNotOf, SaysNoPut};
 ghost use Rattle.cfdp_console.specs.Asking.{put_words, words_of};
 
 use crate::denial::Denial;
@@ -23,16 +25,6 @@ pub enum Deed {
 }
 
 impl Deed {
-    /// All of them.
-    const ALL: [Deed; 6] = [
-        Deed::Put,
-        Deed::Cancel,
-        Deed::Suspend,
-        Deed::Resume,
-        Deed::Freeze,
-        Deed::Thaw,
-    ];
-
     /// What its path has before the id.
     fn front(self) -> &'static [u8]
         ensures { result.now ≡ front_of self }
@@ -83,7 +75,8 @@ impl Deed {
 
     /// The id in a path of this deed; `None` if it is none.
     fn id_in(self, path: &[u8]) -> Option<&[u8]>
-        ensures { IfSome result (λ id. (path.now ≡ path_of self id.now) × IsIdOf self id.now) }
+        ensures { MatchOption result (IsNotOf self path.now)
+            (λ id. (path.now ≡ path_of self id.now) × IsIdOf self id.now) }
     {
         let id = in_front_of(behind(path, self.front())?, self.behind())?;
         if self.takes(id) { Some(id) } else { None }
@@ -97,7 +90,8 @@ impl Deed {
 /// `NotFound` if the path is that of no deed, `BadBody` if a put doesn't say what it must
 /// say, and `NoMemory`.
 pub fn command_line(alloc: Global, path: &[u8], body: &[u8]) -> Result<Vec<u8>, Denial>
-    ensures { IfOk result (λ line. Commands path.now body.now line.items) }
+    ensures ok { IfOk result (λ line. Commands path.now body.now line.items) }
+    ensures err { IfErr result (IsNoCommand path.now body.now) }
 {
     match deed_of(path) {
         Some((Deed::Put, _)) => put_line(alloc, body),
@@ -108,15 +102,24 @@ pub fn command_line(alloc: Global, path: &[u8], body: &[u8]) -> Result<Vec<u8>, 
 
 /// What a path asks to be done, and the id in it.
 fn deed_of(path: &[u8]) -> Option<(Deed, &[u8])>
-    ensures { IfSome result (λ found. (path.now ≡ path_of found.0 found.1.now)
-        × IsIdOf found.0 found.1.now) }
+    ensures { MatchOption result ((deed : Deed) → IsNotOf deed path.now)
+        (λ found. (path.now ≡ path_of found.0 found.1.now) × IsIdOf found.0 found.1.now) }
 {
-    for deed in Deed::ALL {
-        if let Some(id) = deed.id_in(path) {
-            return Some((deed, id));
-        }
+    if let Some(id) = Deed::Put.id_in(path) {
+        Some((Deed::Put, id))
+    } else if let Some(id) = Deed::Cancel.id_in(path) {
+        Some((Deed::Cancel, id))
+    } else if let Some(id) = Deed::Suspend.id_in(path) {
+        Some((Deed::Suspend, id))
+    } else if let Some(id) = Deed::Resume.id_in(path) {
+        Some((Deed::Resume, id))
+    } else if let Some(id) = Deed::Freeze.id_in(path) {
+        Some((Deed::Freeze, id))
+    } else if let Some(id) = Deed::Thaw.id_in(path) {
+        Some((Deed::Thaw, id))
+    } else {
+        None
     }
-    None
 }
 
 /// Two, one after the other.
@@ -130,7 +133,8 @@ fn joined(alloc: Global, front: &[u8], behind: &[u8]) -> Result<Vec<u8>, AllocEr
 
 /// The line of a put.
 fn put_line(alloc: Global, body: &[u8]) -> Result<Vec<u8>, Denial>
-    ensures { IfOk result (λ line. Puts body.now line.items) }
+    ensures ok { IfOk result (λ line. Puts body.now line.items) }
+    ensures err { IfErr result (IsNoPut body.now) }
 {
     let wanted = Value::from_slice(alloc, body)?;
     line_of(alloc, &wanted)
@@ -138,7 +142,8 @@ fn put_line(alloc: Global, body: &[u8]) -> Result<Vec<u8>, Denial>
 
 /// The line of a put that is wanted so.
 fn line_of(alloc: Global, wanted: &Value) -> Result<Vec<u8>, Denial>
-    ensures { IfOk result (λ line. PutOf (view wanted.now) line.items) }
+    ensures ok { IfOk result (λ line. PutOf (view wanted.now) line.items) }
+    ensures err { IfErr result (SaysNoPut (view wanted.now)) }
 {
     let Some(source) = text_in(wanted, "source") else {
         return Err(Denial::BadBody);
@@ -191,7 +196,7 @@ fn named<'a>(source: &'a str, said: Option<&'a str>) -> &'a str
 
 /// Whether these names can stand in a line.
 fn may_be_put(source: &[u8], destination: &[u8]) -> bool
-    ensures { IsTrue result → MayBePut source.now destination.now }
+    ensures { IsTrue result ↔ MayBePut source.now destination.now }
 {
     is_word(source) && source != b"--first".as_slice() && is_word(destination)
 }

@@ -52,12 +52,24 @@ impl Denial {
 }
 
 impl From<AllocError> for Denial {
+    ghost use Rattle.std.specs.Prelude.{◌≡◌};
+    ghost use Rattle.cfdp_console.specs.declared.denial.Denial.TheVariants.{NoMemory};
+
+    ghost from_gives = { λ _ denial. denial ≡ NoMemory };
+
     fn from(_error: AllocError) -> Denial {
         Denial::NoMemory
     }
 }
 
 impl From<Error> for Denial {
+    ghost use Rattle.std.specs.Prelude.{◌≡◌, ◌⊎◌};
+    ghost use Rattle.serde_json.specs.Errors.{IsMemory};
+    ghost use Rattle.cfdp_console.specs.declared.denial.Denial.TheVariants.{BadBody, NoMemory};
+
+    ghost from_gives = { λ error denial.
+        (denial ≡ NoMemory) ⊎ ((denial ≡ BadBody) × ¬ (IsMemory error)) };
+
     fn from(error: Error) -> Denial {
         if error.is_memory() {
             Denial::NoMemory

@@ -2,7 +2,7 @@
 ghost use Rattle.std.specs.Prelude.{◌↔◌, IsTrue, option_copied};
 ghost use Rattle.std.specs.Prelude.{◌≡◌};
 ghost use Rattle.cfdp_console.specs.Guard.{IsAllowed, IsByProxy, IsOfAddress, IsOwn, IsOwnHost};
-ghost use Rattle.cfdp_console.specs.Guard.{OriginFits, ProxyOriginFits, ShowsToken};
+ghost use Rattle.cfdp_console.specs.Guard.{IsProxyHost, OriginFits, ProxyOriginFits, ShowsToken};
 
 use crate::octets::is_joined;
 use bytes::Bytes;
@@ -23,7 +23,7 @@ pub struct Guard {
 impl Guard {
     /// Returns `true` if a request shows the token, as `Authorization: Bearer TOKEN`.
     pub fn knows(&self, request: &Request<Bytes>) -> bool
-        ensures { IsTrue result → ShowsToken self.now request.now }
+        ensures { IsTrue result ↔ ShowsToken self.now request.now }
     {
         match request.headers().get(header::AUTHORIZATION) {
             Some(shown) => is_joined(shown.as_bytes(), b"Bearer ", self.token.as_slice()),
@@ -35,14 +35,14 @@ impl Guard {
 /// Returns `true` if a request may be answered: it is for this console by its own address, or a
 /// proxy asks by its name.
 pub fn is_allowed(guard: &Guard, request: &Request<Bytes>) -> bool
-    ensures { IsTrue result → IsAllowed guard.now request.now }
+    ensures { IsTrue result ↔ IsAllowed guard.now request.now }
 {
     is_own(request) || is_by_proxy(guard, request)
 }
 
 /// Returns `true` if a proxy asks by its name, and a page of that name sends the request, or none.
 fn is_by_proxy(guard: &Guard, request: &Request<Bytes>) -> bool
-    ensures { IsTrue result → IsByProxy guard.now request.now }
+    ensures { IsTrue result ↔ IsByProxy guard.now request.now }
 {
     let headers = request.headers();
     let Some(host) = headers.get(header::HOST) else {
@@ -57,14 +57,14 @@ fn is_by_proxy(guard: &Guard, request: &Request<Bytes>) -> bool
 
 /// Whether this is the name of the host by which a proxy asks.
 fn is_proxy_host(guard: &Guard, host: &[u8]) -> bool
-    ensures { IsTrue result → host.now ≡ guard.now.proxy_host.items }
+    ensures { IsTrue result ↔ IsProxyHost guard.now host.now }
 {
     !guard.proxy_host.is_empty() && host == guard.proxy_host.as_slice()
 }
 
 /// Whether a page of this host sends it, over TLS or not, or none.
 fn fits_proxy_origin(origin: Option<&HeaderValue>, host: &[u8]) -> bool
-    ensures { IsTrue result → ProxyOriginFits (option_copied origin.entry) host.now }
+    ensures { IsTrue result ↔ ProxyOriginFits (option_copied origin.entry) host.now }
 {
     match origin {
         Some(origin) => {
@@ -79,7 +79,7 @@ fn fits_proxy_origin(origin: Option<&HeaderValue>, host: &[u8]) -> bool
 /// another site: `Host` has no foreign name (which a name server could make lead here), and
 /// `Origin`, if it stands, is the same address.
 pub fn is_own(request: &Request<Bytes>) -> bool
-    ensures { IsTrue result → IsOwn request.now }
+    ensures { IsTrue result ↔ IsOwn request.now }
 {
     let headers = request.headers();
     let Some(host) = headers.get(header::HOST) else {
@@ -94,7 +94,7 @@ pub fn is_own(request: &Request<Bytes>) -> bool
 
 /// Whether a page of the same address sends it, or none.
 fn fits_origin(origin: Option<&HeaderValue>, host: &[u8]) -> bool
-    ensures { IsTrue result → OriginFits (option_copied origin.entry) host.now }
+    ensures { IsTrue result ↔ OriginFits (option_copied origin.entry) host.now }
 {
     match origin {
         Some(origin) => is_joined(origin.as_bytes(), b"http://", host),
@@ -104,7 +104,7 @@ fn fits_origin(origin: Option<&HeaderValue>, host: &[u8]) -> bool
 
 /// Whether this is the name of this machine or an address in digits, with a port or without.
 fn is_own_host(host: &[u8]) -> bool
-    ensures { IsTrue result → IsOwnHost host.now }
+    ensures { IsTrue result ↔ IsOwnHost host.now }
 {
     host == b"localhost".as_slice()
         || host.starts_with(b"localhost:")

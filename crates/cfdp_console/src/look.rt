@@ -1,4 +1,8 @@
 //! What of a station can be looked at.
+ghost use Rattle.std.specs.Prelude.{◌≡◌, IfNone, IfOk, IfSome, IsSome, option_copied};
+ghost use Rattle.cfdp_console.specs.Asking.{plain_at};
+ghost use Rattle.cfdp_console.specs.Denying.{IsNothingAt};
+
 use std::alloc::{AllocError, Global};
 
 /// What of a station can be looked at.
@@ -33,11 +37,12 @@ pub enum Look {
 /// # Errors
 ///
 /// `AllocError` if there is no memory for an id.
-pub fn look_at(
-    alloc: Global,
-    path: &[u8],
-    query: Option<&str>,
-) -> Result<Option<Look>, AllocError> {
+pub fn look_at(alloc: Global, path: &[u8], query: Option<&str>) -> Result<Option<Look>, AllocError>
+    ensures plain { IfOk result (λ found. IfSome (plain_at path.now)
+        (λ there. IfSome found (λ it. it ≡ there))) }
+    ensures nothing { IfOk result (λ found.
+        IfNone found (IsNothingAt path.now (option_copied query.entry))) }
+{
     if let Some(look) = plain(path) {
         return Ok(Some(look));
     }
@@ -62,7 +67,9 @@ fn transaction_at(alloc: Global, rest: &[u8]) -> Result<Look, AllocError> {
 }
 
 /// What is looked at by a path alone.
-fn plain(path: &[u8]) -> Option<Look> {
+fn plain(path: &[u8]) -> Option<Look>
+    ensures { result ≡ plain_at path.now }
+{
     if path == b"/".as_slice() {
         Some(Look::Page)
     } else if path == b"/token".as_slice() {
@@ -81,7 +88,9 @@ fn plain(path: &[u8]) -> Option<Look> {
 }
 
 /// The number in `after=N`, which is 0 if there is no query; `None` if it is none.
-fn after(query: Option<&str>) -> Option<u64> {
+fn after(query: Option<&str>) -> Option<u64>
+    ensures { IfNone result (IsSome (option_copied query.entry)) }
+{
     match query {
         None => Some(0),
         Some(query) => query.strip_prefix("after=")?.parse().ok(),

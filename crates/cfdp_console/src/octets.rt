@@ -1,36 +1,28 @@
 //! Texts that begin or end with certain octets.
-ghost use Rattle.std.specs.Prelude.{◌≡◌, ◌++◌, IfSome, IsTrue};
+ghost use Rattle.std.specs.Prelude.{◌≡◌, ◌≢◌, ◌++◌, ◌↔◌, ℕ, List, IsTrue, MatchOption};
 
-/// Returns what stands in a text after `front`, if the text begins with it.
+/// Returns what stands in a text after `front`; `None` if the text doesn't begin with it.
 pub fn behind<'a>(text: &'a [u8], front: &[u8]) -> Option<&'a [u8]>
-    ensures { IfSome result (λ rest. text.now ≡ front.now ++ rest.now) }
+    ensures { MatchOption result ((rest : List ℕ) → text.now ≢ front.now ++ rest)
+        (λ rest. text.now ≡ front.now ++ rest.now) }
 {
-    if !text.starts_with(front) {
-        return None;
-    }
-    let (begun, rest) = text.split_at(front.len());
-    if begun == front { Some(rest) } else { None }
+    text.strip_prefix(front)
 }
 
-/// Returns what stands in a text before `end`, if the text ends with it.
+/// Returns what stands in a text before `end`; `None` if the text doesn't end with it.
 pub fn in_front_of<'a>(text: &'a [u8], end: &[u8]) -> Option<&'a [u8]>
-    ensures { IfSome result (λ rest. text.now ≡ rest.now ++ end.now) }
+    ensures { MatchOption result ((rest : List ℕ) → text.now ≢ rest ++ end.now)
+        (λ rest. text.now ≡ rest.now ++ end.now) }
 {
-    if text.len() < end.len() {
-        return None;
-    }
-    let (rest, ended) = text.split_at(text.len() - end.len());
-    if ended == end { Some(rest) } else { None }
+    text.strip_suffix(end)
 }
 
 /// Returns `true` if a text is these two, one after the other.
 pub fn is_joined(text: &[u8], front: &[u8], end: &[u8]) -> bool
-    ensures { IsTrue result → text.now ≡ front.now ++ end.now }
+    ensures { IsTrue result ↔ (text.now ≡ front.now ++ end.now) }
 {
-    if let Some(rest) = behind(text, front)
-        && rest == end
-    {
-        return true;
+    match behind(text, front) {
+        Some(rest) => rest == end,
+        None => false,
     }
-    false
 }
