@@ -1,3 +1,5 @@
+pub mod HeardFrom
 mod Denials
 mod HearingLemmas
 mod Summing
+mod Takes

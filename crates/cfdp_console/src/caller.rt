@@ -1,10 +1,15 @@
 //! A connection of the console, as steps over octets: it makes no call of the system but through
 //! the reader and the writer that it borrows.
-ghost use Rattle.std.specs.Prelude.{◌≡◌, ℕ, List, IfSome, Ok};
+ghost use Rattle.std.specs.Prelude.{◌≡◌, ◌++◌, ◌↔◌, ℕ, List, [], IfOk, IfSome, IsFalse};
+ghost use Rattle.std.specs.Prelude.{IsTrue, OnOk};
+ghost use Rattle.std.specs.Result.{result_ok};
 ghost use Rattle.http.specs.declared.request.Request.{Request};
-ghost use Rattle.http_server.specs.Exchange.{Call, Chain};
+ghost use Rattle.http_server.specs.Connection.{history};
+ghost use Rattle.http_server.specs.Exchange.{Calls};
+ghost use Rattle.http_server.specs.History.{IsQuiet};
 ghost use Rattle.cfdp_console.specs.Asking.{May};
-ghost use Rattle.cfdp_console.specs.Hearing.{HearsRequest};
+ghost use Rattle.cfdp_console.specs.Hearing.{Heard, HearsNothing, HearsRequest, IsGone, Listens};
+ghost use Rattle.cfdp_console.specs.Hearing.{Reads, Waits, octets_of, requests_of};
 
 use crate::answer::{Answer, Answering};
 use crate::asking::{Ask, judge};
@@ -93,7 +98,10 @@ impl Service for Hearing<'_> {
 impl Caller {
     /// Returns a caller that came at this time, in milliseconds. The names of its fields are kept
     /// under secret keys, since it chooses them.
-    pub fn new(alloc: Global, keys: RandomState, now: u64) -> Caller {
+    pub fn new(alloc: Global, keys: RandomState, now: u64) -> Caller
+        ensures octets { octets_of result ≡ [] }
+        ensures requests { requests_of result ≡ [] }
+    {
         Caller {
             alloc,
             keys,
@@ -108,7 +116,9 @@ impl Caller {
     }
 
     /// Returns `true` if octets of it are taken.
-    pub fn wants_octets(&self) -> bool {
+    pub fn wants_octets(&self) -> bool
+        ensures { IsTrue result → Listens self.now }
+    {
         self.stage == Stage::Hearing && self.hearing.wants_read()
     }
 
@@ -122,14 +132,19 @@ impl Caller {
     }
 
     /// Returns `true` if it is over: all is sent, or it was too slow.
-    pub fn is_gone(&self) -> bool {
+    pub fn is_gone(&self) -> bool
+        ensures { IsTrue result ↔ IsGone self.now }
+    {
         self.stage == Stage::Gone
     }
 
     /// Takes octets that came; none of them means that no more come. What it asks, once its request
     /// is whole and it may ask that: it must be answered. One that may not is answered here.
     pub fn hears(&mut self, octets: &[u8], guard: &Guard, now: u64) -> Option<Ask>
-        ensures { IfSome result (λ ask. (request : Request (List ℕ)) × May guard.now request ask) }
+        ensures may { IfSome result (λ ask.
+            (request : Request (List ℕ)) × May guard.now request ask) }
+        ensures heard { Heard guard.now self.old self.new result }
+        ensures read { Listens self.old → Reads self.old self.new octets.now }
     {
         if self.stage != Stage::Hearing {
             return None;
@@ -148,7 +163,10 @@ impl Caller {
 
     /// Returns what it asks by a request that came while its last answer went, as `hears`.
     pub fn goes_on(&mut self, guard: &Guard, now: u64) -> Option<Ask>
-        ensures { IfSome result (λ ask. (request : Request (List ℕ)) × May guard.now request ask) }
+        ensures may { IfSome result (λ ask.
+            (request : Request (List ℕ)) × May guard.now request ask) }
+        ensures heard { Heard guard.now self.old self.new result }
+        ensures read { octets_of self.new ≡ octets_of self.old }
     {
         self.is_anew = false;
         if self.stage != Stage::Hearing {
@@ -159,7 +177,8 @@ impl Caller {
 
     /// What it asks, if its request is whole.
     fn judges(&mut self, guard: &Guard, now: u64) -> Option<Ask>
-        ensures { IfSome result (λ ask. (request : Request (List ℕ)) × May guard.now request ask) }
+        ensures heard { Heard guard.now self.old self.new result }
+        ensures read { octets_of self.new ≡ octets_of self.old }
     {
         let mut service = Hearing {
             alloc: self.alloc,
@@ -185,7 +204,9 @@ impl Caller {
 
     /// Its request is whole.
     fn judged(&mut self, asked: Result<Ask, Denial>, now: u64) -> Option<Ask>
-        ensures { IfSome result (λ ask. asked ≡ Ok ask) }
+        ensures given { result ≡ result_ok asked }
+        ensures waits { IfOk asked (λ _. Waits self.new) }
+        ensures same { self.new.hearing ≡ self.old.hearing }
     {
         self.stage = Stage::Awaiting;
         self.since = now;
@@ -199,7 +220,10 @@ impl Caller {
     }
 
     /// Answers what it asks. If there is no memory for the answer, it is left without one.
-    pub fn answers(&mut self, answer: Result<Answer, AllocError>, now: u64) {
+    pub fn answers(&mut self, answer: Result<Answer, AllocError>, now: u64)
+        ensures same { self.new.hearing ≡ self.old.hearing }
+        ensures kept { HearsNothing self.old self.new }
+    {
         if self.stage != Stage::Awaiting {
             return;
         }
@@ -229,7 +253,9 @@ impl Caller {
     /// # Errors
     ///
     /// That of the writer.
-    pub fn sends<W: Write>(&mut self, out: &mut W, now: u64) -> io::Result<usize> {
+    pub fn sends<W: Write>(&mut self, out: &mut W, now: u64) -> io::Result<usize>
+        ensures { HearsNothing self.old self.new }
+    {
         match self.stage {
             Stage::Hearing => {
                 let sent = self.hearing.write_to(out)?;
@@ -251,7 +277,10 @@ impl Caller {
 
     /// Goes on to its next request, if one may follow. What `hearing` would answer was sent by
     /// `reply`, and is discarded.
-    fn begins_anew(&mut self, now: u64) {
+    fn begins_anew(&mut self, now: u64)
+        ensures octets { octets_of self.new ≡ octets_of self.old }
+        ensures requests { requests_of self.new ≡ requests_of self.old }
+    {
         let _ = self.hearing.write_to(&mut io::sink());
         self.is_anew = self.keeps && !self.hearing.wants_write();
         self.since = now;
@@ -263,14 +292,18 @@ impl Caller {
     }
 
     /// Leaves it if it was too slow.
-    pub fn looks_at_clock(&mut self, now: u64) {
+    pub fn looks_at_clock(&mut self, now: u64)
+        ensures { HearsNothing self.old self.new }
+    {
         if now.saturating_sub(self.since) >= PATIENCE {
             self.stage = Stage::Gone;
         }
     }
 
     /// Leaves it at once, with nothing more said.
-    pub fn breaks_off(&mut self) {
+    pub fn breaks_off(&mut self)
+        ensures { HearsNothing self.old self.new }
+    {
         self.stage = Stage::Gone;
     }
 }
@@ -287,7 +320,9 @@ fn config(max_pending: usize) -> Config {
 
 /// Lets a connection answer what it has read.
 fn answer_all<S: Service>(connection: &mut Connection, service: &mut S)
-    ensures { (calls : List Call) × Chain S.answers service.old calls service.new }
+    ensures calls { Calls S.answers service.old service.new (history connection.old).calls
+        (history connection.new).calls }
+    ensures quiet { IsQuiet (history connection.old) (history connection.new) }
 {
     connection.advance(service);
 }
@@ -297,7 +332,12 @@ fn answer_all<S: Service>(connection: &mut Connection, service: &mut S)
 /// # Errors
 ///
 /// `OutOfMemory`.
-fn take(connection: &mut Connection, octets: &[u8]) -> io::Result<()> {
+fn take(connection: &mut Connection, octets: &[u8]) -> io::Result<()>
+    ensures calls { (history connection.new).calls ≡ (history connection.old).calls }
+    ensures ok { OnOk result (IsFalse (history connection.old).ended
+        → (history connection.new).received
+        ≡ (history connection.old).received ++ octets.now) }
+{
     let mut left = octets;
     let _ = connection.read_from(&mut left)?;
     for _part in 0..octets.len() {
