@@ -3,9 +3,9 @@
 //! *Facts* are what must be on disk before a PDU leaves or the user hears of it. *Progress* is how
 //! much of a file was sent, or is held: it may be behind.
 use crate::noted::{Noted, NotedReceiver, NotedSender};
+use crate::ranges::new_ranges;
 use cfdp_directives::{Octets, Outcome};
 use cfdp_entity::Record;
-use cfdp_extents::Extents;
 use cfdp_header::TransactionId;
 use cfdp_receiver::{FileInfo, Receiver, ReceiverPhase};
 use cfdp_sender::{Sender, SenderPhase, Transfer};
@@ -184,51 +184,4 @@ pub fn note_progress(
         }
         (Record::Sends(_), _) | (Record::Receives(_), _) => Ok(()),
     }
-}
-
-/// Returns `true` if offsets are held that aren't noted.
-pub fn lacks_some(held: &Extents, noted: &Extents) -> bool {
-    for (start, end) in held.ranges() {
-        if start < end && !noted.covers(start, end) {
-            return true;
-        }
-    }
-    false
-}
-
-/// Returns the ranges that are held and weren't noted, and notes them.
-fn new_ranges(
-    alloc: Global,
-    held: &Extents,
-    noted: &mut Extents,
-) -> Result<Vec<(u64, u64)>, AllocError> {
-    let mut ranges = Vec::new(alloc);
-    for (start, end) in held.ranges() {
-        push_missing(&mut ranges, noted, start, end)?;
-    }
-    note_all(noted, ranges.as_slice())?;
-    Ok(ranges)
-}
-
-/// Appends the parts of a range that aren't noted.
-fn push_missing(
-    ranges: &mut Vec<(u64, u64)>,
-    noted: &Extents,
-    start: u64,
-    end: u64,
-) -> Result<(), AllocError> {
-    for missing in noted.missing_in(start, end) {
-        ranges.push(missing)?;
-    }
-    Ok(())
-}
-
-/// Notes ranges.
-fn note_all(noted: &mut Extents, ranges: &[(u64, u64)]) -> Result<(), AllocError> {
-    for (start, end) in ranges {
-        if start < end {
-            noted.insert(*start, *end)?;
-        }
-    }
-    Ok(())
 }

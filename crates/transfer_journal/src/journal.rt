@@ -1,7 +1,8 @@
 //! The journal of a station that runs.
-use crate::facts::{lacks_some, note_facts, note_progress};
+use crate::facts::{note_facts, note_progress};
 use crate::file::{JournalFile, remove_at};
 use crate::noted::Noted;
+use crate::ranges::lacks_some;
 use cfdp_directives::{Indication, Octets, Outcome};
 use cfdp_entity::Record;
 use cfdp_files::LockError;

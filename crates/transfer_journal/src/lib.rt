@@ -20,6 +20,7 @@ mod journal;
 mod kept;
 mod noted;
 mod publishing;
+mod ranges;
 mod reading;
 mod restoring;
 mod survey;
