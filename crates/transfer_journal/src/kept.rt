@@ -1,9 +1,20 @@
 //! What a journal says of a transaction, once all of its records are put together.
+ghost use Rattle.std.specs.Prelude.{◌≡◌, OnOk, Some};
+ghost use Rattle.std.specs.FinSet as set;
+ghost use Rattle.std.specs.Option.{option_map};
+ghost use Rattle.cfdp_extents.specs.Offsets.{union_of};
+ghost use Rattle.transfer_journal.specs.Kept.{end_after, end_closed, kept_opened, kept_put};
+ghost use Rattle.transfer_journal.specs.Kept.{pending_after, publication_of, receiver_after};
+ghost use Rattle.transfer_journal.specs.Kept.{receiver_committed, receiver_ended, sender_after};
+ghost use Rattle.transfer_journal.specs.Kept.{sender_committed, transfer_after};
+
+use crate::ranges::add_all;
 use cfdp_directives::{Addressing, Condition, Octets, Outcome};
 use cfdp_extents::Extents;
 use cfdp_header::TransactionId;
 use cfdp_receiver::{CommittedReceiver, Ending, FileInfo, ReceiverPhase};
 use cfdp_sender::{CommittedSender, SenderPhase, Transfer};
+use journal_records::JournalRecord;
 use std::alloc::{AllocError, Global};
 
 /// An end that the user may not have heard of.
@@ -36,7 +47,9 @@ pub struct KeptSender {
 
 impl KeptSender {
     /// Returns what is kept of a put that was just accepted.
-    pub fn put(transfer: Transfer) -> KeptSender {
+    pub fn put(transfer: Transfer) -> KeptSender
+        ensures { result ≡ kept_put transfer }
+    {
         KeptSender {
             transfer,
             sent: 0,
@@ -63,8 +76,24 @@ impl KeptSender {
             && self.transfer.destination.as_slice() == destination
     }
 
+    /// Notes what a record says of it.
+    pub(crate) fn takes(&mut self, record: &JournalRecord)
+        ensures { self.new ≡ sender_after «record».now self.old }
+    {
+        match record {
+            JournalRecord::Sent(_, sent) => self.sent = *sent,
+            JournalRecord::EofTaken(_) => self.eof_taken = true,
+            JournalRecord::Cancelling(_, condition) => self.cancelled_for = Some(*condition),
+            JournalRecord::Suspended(_, is_suspended) => self.is_suspended = *is_suspended,
+            JournalRecord::Finishing(..) | JournalRecord::Closed(..) => self.is_closed = true,
+            _ => {}
+        }
+    }
+
     /// Returns what a station restores of it.
-    pub fn committed(self) -> CommittedSender {
+    pub fn committed(self) -> CommittedSender
+        ensures { result ≡ sender_committed self }
+    {
         let phase = if self.is_closed {
             SenderPhase::Closed
         } else if self.cancelled_for.is_some() {
@@ -117,7 +146,9 @@ pub struct KeptReceiver {
 
 impl KeptReceiver {
     /// Returns what is kept of a receiver that was just opened.
-    pub fn opened(alloc: Global, addressing: Addressing, large: bool) -> KeptReceiver {
+    pub fn opened(alloc: Global, addressing: Addressing, large: bool) -> KeptReceiver
+        ensures { result ≡ kept_opened addressing large }
+    {
         KeptReceiver {
             addressing,
             large,
@@ -132,7 +163,9 @@ impl KeptReceiver {
     }
 
     /// Notes how it ended.
-    pub fn ends(&mut self, phase: ReceiverPhase, outcome: Option<Outcome>) {
+    pub fn ends(&mut self, phase: ReceiverPhase, outcome: Option<Outcome>)
+        ensures { self.new ≡ receiver_ended phase outcome self.old }
+    {
         self.phase = phase;
         self.outcome = outcome;
         self.publishing = None;
@@ -143,18 +176,46 @@ impl KeptReceiver {
     /// # Errors
     ///
     /// `AllocError` if there is no memory for them.
-    pub fn holds(&mut self, large: bool, ranges: &[(u64, u64)]) -> Result<(), AllocError> {
+    pub fn holds(&mut self, large: bool, ranges: &[(u64, u64)]) -> Result<(), AllocError>
+        ensures { OnOk result (self.new ≡ record self.old {
+          large = large;
+          held = set.union self.old.held (union_of ranges.now);
+        }) }
+    {
         self.large = large;
-        for (start, end) in ranges {
-            if start < end {
-                self.held.insert(*start, *end)?;
+        add_all(&mut self.held, ranges)
+    }
+
+    /// Notes what a record says of it.
+    ///
+    /// # Errors
+    ///
+    /// `AllocError` if there is no memory for that.
+    pub(crate) fn takes(&mut self, record: JournalRecord) -> Result<(), AllocError>
+        ensures { OnOk result (self.new ≡ receiver_after «record» self.old) }
+    {
+        match record {
+            JournalRecord::HeardMetadata(_, info) => self.metadata = Some(info),
+            JournalRecord::HeardEof(_, ending) => self.ending = Some(ending),
+            JournalRecord::Held(_, large, ranges) => self.holds(large, ranges.as_slice())?,
+            JournalRecord::Publishing(_, name, size) => {
+                self.publishing = Some(Publication { name, size });
             }
+            JournalRecord::Finishing(_, outcome) => {
+                self.ends(ReceiverPhase::Finishing, Some(outcome));
+            }
+            JournalRecord::Closed(_, outcome) => self.ends(ReceiverPhase::Closed, outcome),
+            JournalRecord::Suspended(_, is_suspended) => self.is_suspended = is_suspended,
+            other => drop(other),
         }
         Ok(())
     }
 
     /// Returns what a station restores of it, and what it held.
-    pub fn committed(self) -> (CommittedReceiver, Extents) {
+    pub fn committed(self) -> (CommittedReceiver, Extents)
+        ensures committed { result.0 ≡ receiver_committed self }
+        ensures held { result.1 ≡ self.held }
+    {
         let committed = CommittedReceiver {
             addressing: self.addressing,
             large: self.large,
@@ -179,10 +240,26 @@ pub enum KeptEnd {
 
 impl KeptEnd {
     /// Notes how far the transaction has come at its end: a sender is over then.
-    pub fn ends(&mut self, phase: ReceiverPhase, outcome: Option<Outcome>) {
+    pub fn ends(&mut self, phase: ReceiverPhase, outcome: Option<Outcome>)
+        ensures { self.new ≡ end_closed phase outcome self.old }
+    {
         match self {
             KeptEnd::Sends(sender) => sender.is_closed = true,
             KeptEnd::Receives(receiver) => receiver.ends(phase, outcome),
+        }
+    }
+
+    // Notes what a record says of it.
+    fn takes(&mut self, record: JournalRecord) -> Result<(), AllocError>
+        ensures { OnOk result (self.new ≡ end_after «record» self.old) }
+    {
+        match self {
+            KeptEnd::Sends(sender) => {
+                sender.takes(&record);
+                drop(record);
+                Ok(())
+            }
+            KeptEnd::Receives(receiver) => receiver.takes(record),
         }
     }
 }
@@ -200,7 +277,9 @@ pub struct KeptTransfer {
 
 impl KeptTransfer {
     /// Returns the file that was about to be published, if one was.
-    pub fn publication(&self) -> Option<&Publication> {
+    pub fn publication(&self) -> Option<&Publication>
+        ensures { option_map (λ file. file.now) result ≡ publication_of self.now.end }
+    {
         match &self.end {
             KeptEnd::Sends(_) => None,
             KeptEnd::Receives(receiver) => receiver.publishing.as_ref(),
@@ -208,8 +287,36 @@ impl KeptTransfer {
     }
 
     /// Notes that it finished so, and that the user may not have heard of it.
-    pub fn finishes(&mut self, outcome: &Outcome) {
+    pub fn finishes(&mut self, outcome: &Outcome)
+        ensures { self.new ≡ record self.old {
+          pending = Some (PendingEnd.Finished outcome.now);
+          end = end_closed ReceiverPhase.Finishing (Some outcome.now) self.old.end;
+        } }
+    {
         self.pending = Some(PendingEnd::Finished(*outcome));
         self.end.ends(ReceiverPhase::Finishing, Some(*outcome));
+    }
+
+    /// Notes what a record says of it.
+    ///
+    /// # Errors
+    ///
+    /// `AllocError` if there is no memory for that.
+    pub(crate) fn takes(&mut self, record: JournalRecord) -> Result<(), AllocError>
+        ensures { OnOk result (self.new ≡ transfer_after «record» self.old) }
+    {
+        self.pending = pending_after(&record, self.pending);
+        self.end.takes(record)
+    }
+}
+
+// Returns the end that the user may not have heard of, after a record.
+fn pending_after(record: &JournalRecord, pending: Option<PendingEnd>) -> Option<PendingEnd>
+    ensures { result ≡ pending_after «record».now pending }
+{
+    match record {
+        JournalRecord::PendingFinished(_, outcome) => Some(PendingEnd::Finished(*outcome)),
+        JournalRecord::PendingAbandoned(_, condition) => Some(PendingEnd::Abandoned(*condition)),
+        _ => pending,
     }
 }

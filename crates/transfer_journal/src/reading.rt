@@ -60,9 +60,7 @@ fn survey_of(rt: &HostRuntime, octets: &[u8], addressing: Addressing) -> Result<
     if journal.end < octets.len() && has_batch_behind(&octets[journal.end..]) {
         return Err(ReadError::Fault(journal_records::Fault::Trailing));
     }
-    let mut survey = Survey::new(rt.alloc(), addressing);
-    survey.takes_all(journal.records)?;
-    Ok(survey)
+    Ok(Survey::of(rt.alloc(), addressing, journal.records)?)
 }
 
 /// Keeps a journal aside that can't be read.
