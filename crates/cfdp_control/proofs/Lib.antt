@@ -1,2 +1,3 @@
 mod AskingRows
 mod NamesRead
+mod Visiting
