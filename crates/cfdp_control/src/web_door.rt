@@ -1,10 +1,10 @@
 //! The console's address: connections of browsers, served in the station's own turn.
 ghost use Rattle.std.specs.Prelude.{◌≡◌, IfSome};
-ghost use Rattle.cfdp_web.specs.Serving.{MayBeAsked};
+ghost use Rattle.cfdp_web.specs.Serving.{IsAskedBy};
 
 use crate::cause::address_cause;
 use crate::line_sources::is_passing;
-use cfdp_console::{Answer, Ask, Caller, Guard};
+use cfdp_console::{Answer, Ask, Guard};
 use cfdp_exchange::Watched;
 use cfdp_web::{Visitors, WebStream, reply};
 use libc::net::{POLLIN, POLLOUT};
@@ -158,7 +158,8 @@ impl<'a> WebDoor<'a> {
     /// something it is `None` for two milliseconds, so that whoever asks does something else
     /// between.
     pub fn next_ask(&mut self, now: u64) -> Option<(u64, Ask)>
-        ensures { IfSome result (λ asked. MayBeAsked self.old.guard asked.1) }
+        ensures { IfSome result (λ asked.
+            IsAskedBy self.old.guard self.new.visitors asked.0 asked.1) }
     {
         if now < self.rests_until || !self.is_stirred(now) {
             return None;
@@ -235,9 +236,8 @@ impl<'a> WebDoor<'a> {
         };
         if stream.set_nonblocking(true).is_ok() {
             let _ = stream.set_nodelay(true);
-            let caller = Caller::new(self.rt.alloc(), keys, now);
             self.visitors.makes_room();
-            self.visitors.takes_in(WebSocket(stream), caller);
+            self.visitors.takes_in(WebSocket(stream), keys, now);
         }
     }
 }

@@ -1,0 +1,66 @@
+-- Visitors that are attended to in turn.
+use Rattle.std.specs.Prelude.{◌≡◌, ◌+◌, ◌≤◌, ℕ, List, [], ◌∷◌, Option, Some, None, length, slice_get, slice_set}
+use Rattle.std.proofs.Common.{add-one, arith, inl, inr, refl, subst}
+use Rattle.cfdp_console.specs.declared.asking.Ask.{Ask}
+use Rattle.cfdp_console.specs.declared.guard.Guard.{Guard}
+use Rattle.cfdp_web.specs.Serving.{Attends, AttendsInTurn}
+use Rattle.cfdp_web.specs.declared.visitor.Visitor.{Visitor}
+
+module _ {S : Type 0} (guard : Guard) where
+  -- So many visitors were attended to, and asked nothing. Those after them are as they were.
+  abbrev pub Reached : ℕ → List (Visitor S) → List (Visitor S) → Type 0
+  Reached zero olds news = news ≡ olds
+  Reached (suc n) [] news = ⊥
+  Reached (suc n) (old ∷ olds) [] = ⊥
+  Reached (suc n) (old ∷ olds) (new ∷ news) = Attends guard old new None × Reached n olds news
+
+  first_is : (v old : Visitor S) → Some v ≡ Some old → v ≡ old
+  first_is v old same = cc
+
+  head_is : (v o : Visitor S) (news olds : List (Visitor S)) → v ∷ news ≡ o ∷ olds → v ≡ o
+  head_is v o news olds same = cc
+
+  tail_is : (v o : Visitor S) (news olds : List (Visitor S)) → v ∷ news ≡ o ∷ olds → news ≡ olds
+  tail_is v o news olds same = cc
+
+  -- whoever is at the first index was there before
+  first_was : (v o old : Visitor S) (news olds : List (Visitor S)) → v ∷ news ≡ o ∷ olds
+      → Some v ≡ Some old → old ≡ o
+  first_was v o old news olds same at = cc
+
+  pub one_more : (n : ℕ) (olds news : List (Visitor S)) (old new : Visitor S) → Reached n olds news
+      → slice_get news n ≡ Some old → Attends guard old new None
+      → Reached (suc n) olds (slice_set news n new)
+  one_more zero [] [] old new reached at attends = absurd cc
+  one_more zero (o ∷ olds) [] old new reached at attends = absurd cc
+  one_more zero [] (v ∷ news) old new reached at attends = absurd cc
+  one_more zero (o ∷ olds) (v ∷ news) old new reached at attends =
+      (subst (λ (x : Visitor S). Attends guard x new None) (first_was v o old news olds reached at) attends, tail_is v o news olds reached)
+  one_more (suc n) [] news old new reached at attends = absurd reached
+  one_more (suc n) (o ∷ olds) [] old new reached at attends = absurd reached
+  one_more (suc n) (o ∷ olds) (v ∷ news) old new reached at attends =
+      (reached.0, one_more n olds news old new reached.1 at attends)
+
+  pub asks_at : (n : ℕ) (olds news : List (Visitor S)) (old new : Visitor S) (it : Ask)
+      → Reached n olds news → slice_get news n ≡ Some old → Attends guard old new (Some it)
+      → AttendsInTurn guard olds (slice_set news n new) (Some (old.number, it))
+  asks_at zero [] [] old new it reached at attends = absurd cc
+  asks_at zero (o ∷ olds) [] old new it reached at attends = absurd cc
+  asks_at zero [] (v ∷ news) old new it reached at attends = absurd cc
+  asks_at zero (o ∷ olds) (v ∷ news) old new it reached at attends =
+      let was = first_was v o old news olds reached at in
+      inr (it, subst (λ (x : Visitor S). Attends guard x new (Some it)) was attends, tail_is v o news olds reached, ap (λ (x : Visitor S). Some (x.number, it)) was)
+  asks_at (suc n) [] news old new it reached at attends = absurd reached
+  asks_at (suc n) (o ∷ olds) [] old new it reached at attends = absurd reached
+  asks_at (suc n) (o ∷ olds) (v ∷ news) old new it reached at attends =
+      inl (reached.0, asks_at n olds news old new it reached.1 at attends)
+
+  pub nobody_asks : (n : ℕ) (olds news : List (Visitor S)) → Reached n olds news
+      → length news ≤ n → AttendsInTurn guard olds news None
+  nobody_asks zero [] [] reached all = refl
+  nobody_asks zero (o ∷ olds) [] reached all = absurd cc
+  nobody_asks zero olds (v ∷ news) reached all = absurd (omega arith)
+  nobody_asks (suc n) [] news reached all = absurd reached
+  nobody_asks (suc n) (o ∷ olds) [] reached all = absurd reached
+  nobody_asks (suc n) (o ∷ olds) (v ∷ news) reached all =
+      inl (reached.0, nobody_asks n olds news reached.1 (omega arith))
