@@ -1,4 +1,7 @@
 //! A connection over which lines come and are answered.
+ghost use Rattle.std.specs.Prelude.{◌≡◌};
+ghost use Rattle.cfdp_control.specs.Lines.{Gives};
+
 use crate::line::{LineFault, text_of};
 use crate::line_buffer::LineBuffer;
 use crate::stream::Stream;
@@ -71,7 +74,9 @@ impl Connection {
     }
 
     /// Returns the number by which it is known.
-    pub fn number(&self) -> u64 {
+    pub fn number(&self) -> u64
+        ensures { result ≡ self.now.number }
+    {
         self.number
     }
 
@@ -119,7 +124,10 @@ impl Connection {
     }
 
     /// Takes the next line. After one that is too long, or no line of an operator, no more are.
-    pub fn next_line(&mut self) -> Option<Result<String, LineFault>> {
+    pub fn next_line(&mut self) -> Option<Result<String, LineFault>>
+        ensures given { Gives self.old.lines.octets.items result self.new.lines.octets.items }
+        ensures number { self.new.number ≡ self.old.number }
+    {
         if !self.has_line() {
             return None;
         }

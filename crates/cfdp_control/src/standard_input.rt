@@ -1,4 +1,6 @@
 //! Lines of standard input.
+ghost use Rattle.cfdp_control.specs.Lines.{Gives};
+
 use crate::line::{LineFault, text_of};
 use crate::line_buffer::LineBuffer;
 use libc::net::{POLLIN, POLLNVAL};
@@ -78,7 +80,9 @@ impl StandardInput {
     }
 
     /// Takes the next line, if one is whole.
-    pub fn next_line(&mut self) -> Option<Result<String, LineFault>> {
+    pub fn next_line(&mut self) -> Option<Result<String, LineFault>>
+        ensures { Gives self.old.lines.octets.items result self.new.lines.octets.items }
+    {
         match self.lines.take() {
             Ok(taken) => Some(text_of(taken?)),
             Err(_) => {
