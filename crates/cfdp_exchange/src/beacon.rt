@@ -3,6 +3,7 @@
 //! It stands in a frame of the virtual channel 63, whose octets mean nothing to a link (CCSDS
 //! 732.0-B-4, 4.1.2.3): other software drops it as it drops each idle frame.
 ghost use Rattle.std.specs.Prelude.{◌+◌, ◌≤◌, length};
+ghost use Rattle.cfdp_exchange.specs.Beacon.{IsIdle};
 
 use cfdp_station::{FrameFields, LinkConfig, StationConfig};
 
@@ -12,6 +13,12 @@ pub const BEACON_LEN: usize = 44;
 /// The octets after the header of a beacon's frame, by which it is known: the first header pointer
 /// that says that there is idle data only, and a word.
 const MARK: [u8; 8] = [0x07, 0xfe, b'C', b'F', b'D', b'P', b'b', 1];
+
+/// What the first octet of a frame has of its version, and the second one of the virtual channel of
+/// idle frames.
+const VERSION: u8 = 64;
+/// See [`VERSION`].
+const IDLE: u8 = 63;
 
 /// Bits of the octet that says which fields of two there are.
 const CONTROL: u8 = 2;
@@ -129,10 +136,10 @@ impl Beacon {
 
     /// Returns the octets of its frame: the header, of version 1 and channel 63, the mark, and the
     /// numbers.
-    pub fn octets(&self) -> [u8; BEACON_LEN] {
+    pub fn octets(&self) -> [u8; BEACON_LEN]
+        ensures { IsIdle result }
+    {
         let mut octets = [0u8; BEACON_LEN];
-        octets[0] = 0x40 | self.sends.spacecraft >> 2;
-        octets[1] = (self.sends.spacecraft & 3) << 6 | 63;
         octets[6..14].copy_from_slice(&MARK);
         octets[14..22].copy_from_slice(&self.id.to_be_bytes());
         octets[22..30].copy_from_slice(&self.peer.to_be_bytes());
@@ -145,6 +152,8 @@ impl Beacon {
         octets[38..40].copy_from_slice(&self.receives.apid.to_be_bytes());
         octets[40..42].copy_from_slice(&field_octets(self.sends.fields));
         octets[42..44].copy_from_slice(&field_octets(self.receives.fields));
+        octets[0] = VERSION + self.sends.spacecraft / 4;
+        octets[1] = self.sends.spacecraft % 4 * 64 + IDLE;
         octets
     }
 
