@@ -1,2 +1,5 @@
 mod AskingRows
+mod Coming
+mod Giving
 mod NamesRead
+mod Visiting

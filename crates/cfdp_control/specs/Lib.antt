@@ -1,3 +1,5 @@
 pub mod Asking
+pub mod Door
 pub mod Lines
 pub mod Shown
+pub mod Sources

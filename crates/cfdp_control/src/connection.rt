@@ -1,8 +1,8 @@
 //! A connection over which lines come and are answered.
-ghost use Rattle.std.specs.Prelude.{◌≡◌};
-ghost use Rattle.cfdp_control.specs.Lines.{Gives};
+ghost use Rattle.std.specs.Prelude.{◌≡◌, ◌≢◌, ◌⊎◌, ◌<◌, [], vec_len, IfNone, IsFalse, IsTrue};
+ghost use Rattle.cfdp_control.specs.Lines.{Gives, Grows, HasNoEnd};
 
-use crate::line::{LineFault, text_of};
+use crate::line::LineFault;
 use crate::line_buffer::LineBuffer;
 use crate::stream::Stream;
 use libc::net::{POLLIN, POLLOUT};
@@ -60,7 +60,9 @@ pub struct Connection {
 
 impl Connection {
     /// Returns a connection of this number that came at this time. The stream doesn't wait.
-    pub fn new(alloc: Global, number: u64, stream: Stream, now: u64) -> Connection {
+    pub fn new(alloc: Global, number: u64, stream: Stream, now: u64) -> Connection
+        ensures { result.number ≡ number }
+    {
         Connection {
             number,
             stream,
@@ -117,7 +119,11 @@ impl Connection {
     }
 
     /// Returns `true` if a line may be taken: one lies here, and its answers aren't left to wait.
-    pub fn has_line(&self) -> bool {
+    pub fn has_line(&self) -> bool
+        ensures some { IsTrue result → self.now.lines.octets.items ≢ [] }
+        ensures none { IsFalse result → HasNoEnd self.now.lines.octets.items
+            ⊎ (65536 < vec_len self.now.answers) }
+    {
         let is_whole = self.lines.has_line()
             || self.stage == Stage::Ending && !self.lines.is_empty();
         is_whole && self.answers.len() <= ENOUGH_ANSWERS
@@ -126,35 +132,50 @@ impl Connection {
     /// Takes the next line. After one that is too long, or no line of an operator, no more are.
     pub fn next_line(&mut self) -> Option<Result<String, LineFault>>
         ensures given { Gives self.old.lines.octets.items result self.new.lines.octets.items }
+        // A whole line waits only while many octets of answers do.
+        ensures none { IfNone result (HasNoEnd self.old.lines.octets.items
+            ⊎ (65536 < vec_len self.old.answers)) }
+        ensures same { IfNone result (self.new ≡ self.old) }
         ensures number { self.new.number ≡ self.old.number }
     {
         if !self.has_line() {
             return None;
         }
         self.owed = self.owed.saturating_add(1);
-        let line = match self.lines.take() {
-            Ok(Some(taken)) => text_of(taken),
-            Ok(None) => Err(LineFault::NoEnd),
-            Err(_) => Err(LineFault::NoMemory),
-        };
-        if let Err(fault) = line
-            && fault != LineFault::NotText
-        {
-            self.lines.clear();
-            self.stage = Stage::Ending;
+        match self.lines.next_text() {
+            Some(Ok(text)) => Some(Ok(text)),
+            Some(Err(LineFault::NotText)) => Some(Err(LineFault::NotText)),
+            Some(Err(fault)) => Some(Err(self.ends_lines(fault))),
+            None => Some(Err(self.ends_lines(LineFault::NoEnd))),
         }
-        Some(line)
+    }
+
+    /// Takes no more lines after one that has this fault, and drops what lies here.
+    fn ends_lines(&mut self, fault: LineFault) -> LineFault
+        ensures same { result ≡ fault }
+        ensures none { self.new.lines.octets.items ≡ [] }
+        ensures number { self.new.number ≡ self.old.number }
+    {
+        self.lines.clear();
+        self.stage = Stage::Ending;
+        fault
     }
 
     /// Takes no more lines: it is left once this is sent.
-    pub fn refuse(&mut self, answer: &str, now: u64) {
+    pub fn refuse(&mut self, answer: &str, now: u64)
+        ensures lines { self.new.lines ≡ self.old.lines }
+        ensures number { self.new.number ≡ self.old.number }
+    {
         self.stage = Stage::Ending;
         self.owed = 1;
         self.answer(answer, now);
     }
 
     /// Answers a line that was taken: sends these octets, or has them wait.
-    pub fn answer(&mut self, answer: &str, now: u64) {
+    pub fn answer(&mut self, answer: &str, now: u64)
+        ensures lines { self.new.lines ≡ self.old.lines }
+        ensures number { self.new.number ≡ self.old.number }
+    {
         self.owed = self.owed.saturating_sub(1);
         self.waits_from = now;
         if self.answers.is_empty() {
@@ -168,7 +189,10 @@ impl Connection {
     }
 
     /// Ends at once after this line, if there is room for it.
-    pub fn gives_way(&mut self, why: &str) {
+    pub fn gives_way(&mut self, why: &str)
+        ensures lines { self.new.lines ≡ self.old.lines }
+        ensures number { self.new.number ≡ self.old.number }
+    {
         if self.answers.is_empty() {
             let _ = self.stream.write(why.as_bytes());
         }
@@ -177,13 +201,19 @@ impl Connection {
     }
 
     /// Ends at once, with nothing more said.
-    pub fn breaks_off(&mut self) {
+    pub fn breaks_off(&mut self)
+        ensures lines { self.new.lines ≡ self.old.lines }
+        ensures number { self.new.number ≡ self.old.number }
+    {
         self.stage = Stage::Gone;
     }
 
     /// Does what can be done now: sends and reads, if something is there, and ends if it
     /// is over.
-    pub fn attend(&mut self, now: u64, is_stirred: bool) {
+    pub fn attend(&mut self, now: u64, is_stirred: bool)
+        ensures lines { Grows self.old.lines.octets.items self.new.lines.octets.items }
+        ensures number { self.new.number ≡ self.old.number }
+    {
         if is_stirred {
             self.sends(now);
             match self.stage {
@@ -196,7 +226,10 @@ impl Connection {
     }
 
     /// Sends what the system has room for.
-    fn sends(&mut self, now: u64) {
+    fn sends(&mut self, now: u64)
+        ensures lines { self.new.lines ≡ self.old.lines }
+        ensures number { self.new.number ≡ self.old.number }
+    {
         if self.answers.is_empty() {
             return;
         }
@@ -213,7 +246,10 @@ impl Connection {
     }
 
     /// Reads what came, if no line waits.
-    fn reads(&mut self, now: u64) {
+    fn reads(&mut self, now: u64)
+        ensures lines { Grows self.old.lines.octets.items self.new.lines.octets.items }
+        ensures number { self.new.number ≡ self.old.number }
+    {
         if self.lines.has_line() {
             return;
         }
@@ -232,7 +268,10 @@ impl Connection {
     }
 
     /// Discards what came, until its other end is closed.
-    fn throws_away(&mut self) {
+    fn throws_away(&mut self)
+        ensures lines { self.new.lines ≡ self.old.lines }
+        ensures number { self.new.number ≡ self.old.number }
+    {
         let mut buffer = [0u8; MOST_READ];
         match self.stream.read(&mut buffer) {
             Ok(0) => self.stage = Stage::Gone,
@@ -242,14 +281,20 @@ impl Connection {
     }
 
     /// The system sent or read nothing, for this cause.
-    fn fails(&mut self, kind: ErrorKind) {
+    fn fails(&mut self, kind: ErrorKind)
+        ensures lines { self.new.lines ≡ self.old.lines }
+        ensures number { self.new.number ≡ self.old.number }
+    {
         if kind != ErrorKind::WouldBlock && kind != ErrorKind::Interrupted {
             self.stage = Stage::Gone;
         }
     }
 
     /// Goes on to the next stage, if it is time for that.
-    fn ends(&mut self, now: u64) {
+    fn ends(&mut self, now: u64)
+        ensures lines { self.new.lines ≡ self.old.lines }
+        ensures number { self.new.number ≡ self.old.number }
+    {
         let rests = now.saturating_sub(self.moved_at);
         let is_answered = self.answers.is_empty() && self.owed == 0;
         match self.stage {
@@ -264,7 +309,10 @@ impl Connection {
     }
 
     /// Notifies its other end that nothing more comes.
-    fn leaves(&mut self, now: u64) {
+    fn leaves(&mut self, now: u64)
+        ensures lines { self.new.lines ≡ self.old.lines }
+        ensures number { self.new.number ≡ self.old.number }
+    {
         self.moved_at = now;
         self.stage = match self.stream.shuts() {
             Ok(()) => Stage::Leaving,

@@ -58,7 +58,9 @@ pub(crate) fn text_of(taken: Taken) -> Result<String, LineFault>
         Taken::Line(octets) => octets,
         Taken::TooLong => return Err(LineFault::TooLong),
     };
-    let text = String::from_utf8(octets).map_err(|_error| LineFault::NotText)?;
+    let Ok(text) = String::from_utf8(octets) else {
+        return Err(LineFault::NotText);
+    };
     if text.as_str().contains(WEB) {
         return Err(LineFault::OfWeb);
     }

@@ -1,8 +1,9 @@
 //! Lines, as their octets come.
-ghost use Rattle.std.specs.Prelude.{◌≡◌, ◌==◌, ◌+◌, ◌≤◌, ◌++◌, length, vec_len, IfOk, OnErr, OnOk};
-ghost use Rattle.std.specs.Prelude.{false};
-ghost use Rattle.cfdp_control.specs.Lines.{Takes};
+ghost use Rattle.std.specs.Prelude.{◌≡◌, ◌≢◌, ◌==◌, ◌+◌, ◌≤◌, ◌++◌, [], length, vec_len};
+ghost use Rattle.std.specs.Prelude.{false, IfNone, IfOk, IsFalse, IsTrue, OnErr, OnOk};
+ghost use Rattle.cfdp_control.specs.Lines.{Gives, Grows, HasNoEnd, Takes};
 
+use crate::line::{LineFault, text_of};
 use cfdp_report::cut_at_first;
 use std::alloc::{AllocError, Global};
 
@@ -57,7 +58,10 @@ impl LineBuffer {
     }
 
     /// Returns `true` if something may be taken: a whole line, or one that is too long.
-    pub fn has_line(&self) -> bool {
+    pub fn has_line(&self) -> bool
+        ensures some { IsTrue result → self.now.octets.items ≢ [] }
+        ensures none { IsFalse result → HasNoEnd self.now.octets.items }
+    {
         self.octets.len() > MOST_LINE || self.octets.as_slice().contains(&b'\n')
     }
 
@@ -70,6 +74,7 @@ impl LineBuffer {
         requires { vec_len self.old.octets + length octets.now ≤ 4097 }
         ensures kept { OnOk result (self.old.is_skipping ≡ false →
             self.new.octets.items ≡ self.old.octets.items ++ octets.now) }
+        ensures grows { Grows self.old.octets.items self.new.octets.items }
         ensures err { OnErr result (self.new.octets.items ≡ self.old.octets.items) }
     {
         if !self.is_skipping {
@@ -106,9 +111,24 @@ impl LineBuffer {
         Ok(Some(Taken::TooLong))
     }
 
+    /// Takes the text of the next line; `None` if none is whole. If there is no memory for it, all
+    /// that lies here is dropped.
+    pub fn next_text(&mut self) -> Option<Result<String, LineFault>>
+        ensures given { Gives self.old.octets.items result self.new.octets.items }
+        ensures none { IfNone result (HasNoEnd self.old.octets.items) }
+    {
+        match self.take() {
+            Ok(taken) => Some(text_of(taken?)),
+            Err(AllocError) => {
+                self.clear();
+                Some(Err(LineFault::NoMemory))
+            }
+        }
+    }
+
     /// Drops what lies here.
     pub fn clear(&mut self)
-        ensures { vec_len self.new.octets ≡ 0 }
+        ensures { self.new.octets.items ≡ [] }
     {
         self.octets.clear();
     }

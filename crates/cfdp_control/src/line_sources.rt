@@ -1,4 +1,7 @@
 //! Where commands come from: lines, and the console.
+ghost use Rattle.std.specs.Prelude.{◌≡◌, ◌<◌, vec_len};
+ghost use Rattle.cfdp_control.specs.Sources.{Comes, GivesLine, IsAskOf, IsUntouched};
+
 use crate::cause::{address_cause, is_malformed};
 use crate::connection::Connection;
 use crate::line::{LineFault, Speaker};
@@ -152,7 +155,9 @@ impl<'a> LineSources<'a> {
 
     /// Takes what the console is asked next, and by whom: it must be answered. After one it is
     /// `None` for two milliseconds, so that whoever asks does something else between.
-    pub fn next_ask(&mut self) -> Option<(Speaker, Ask)> {
+    pub fn next_ask(&mut self) -> Option<(Speaker, Ask)>
+        ensures { IsAskOf self.old self.new result }
+    {
         let now = self.now();
         let (number, ask) = self.door.as_mut()?.next_ask(now)?;
         Some((Speaker::Web(number), ask))
@@ -171,20 +176,45 @@ impl<'a> LineSources<'a> {
     /// Takes the next line, without its line feed, and who sent it: it must be answered, also if it
     /// is none. Lines are taken in turn from all that send some. After 16 lines in a row, and if
     /// none is there, it is `None`: whoever takes lines until then does something else between.
-    pub fn next_line(&mut self) -> Option<(Speaker, Result<String, LineFault>)> {
+    pub fn next_line(&mut self) -> Option<(Speaker, Result<String, LineFault>)>
+        ensures { (before : LineSources) × Comes self.old before
+            × GivesLine before self.new result }
+    {
+        self.attends_first();
+        let next = self.takes_next();
+        self.counts(next.is_some());
+        next
+    }
+
+    /// Attends to all sources before the first of some lines in a row.
+    fn attends_first(&mut self)
+        ensures { Comes self.old self.new }
+    {
         if self.taken == 0 {
             self.attend();
         }
-        let next = if self.taken < MOST_LINES {
+    }
+
+    /// Takes a line, unless enough were taken in a row.
+    fn takes_next(&mut self) -> Option<(Speaker, Result<String, LineFault>)>
+        ensures { GivesLine self.old self.new result }
+    {
+        if self.taken < MOST_LINES {
             self.takes_one()
         } else {
             None
+        }
+    }
+
+    /// Counts the lines that are taken in a row.
+    fn counts(&mut self, is_taken: bool)
+        ensures { IsUntouched self.old self.new }
+    {
+        self.taken = if is_taken {
+            self.taken.saturating_add(1)
+        } else {
+            0
         };
-        self.taken = match next {
-            Some(_) => self.taken.saturating_add(1),
-            None => 0,
-        };
-        next
     }
 
     /// Answers a line that was taken: with these lines, and `ok` after them. For standard input it
@@ -293,31 +323,71 @@ impl<'a> LineSources<'a> {
     }
 
     /// Reads, sends and takes connections, as far as that can be done without waiting.
-    fn attend(&mut self) {
+    fn attend(&mut self)
+        ensures { Comes self.old self.new }
+    {
         let watched = self.watched_lines();
         if watched.is_empty() && self.connections.is_empty() {
             return;
         }
         let now = self.now();
         let mut places = watched.alone();
-        let stirred = libc::net::poll(&mut places, 0);
+        let stirred = libc::net::poll(&mut places, 0) > 0;
+        self.reads_standard(stirred && StandardInput::is_ready(&places));
+        self.accepts_if(stirred, now);
+        self.attends_all(stirred, now);
+        self.removes_gone();
+    }
+
+    /// Reads standard input, if something is there.
+    fn reads_standard(&mut self, is_ready: bool)
+        ensures { Comes self.old self.new }
+    {
         if let Some(standard) = &mut self.standard
-            && stirred > 0
-            && StandardInput::is_ready(&places)
+            && is_ready
         {
             standard.reads(self.rt);
         }
-        if stirred > 0 {
-            self.accepts(now);
+    }
+
+    /// Attends to each connection.
+    fn attends_all(&mut self, is_stirred: bool, now: u64)
+        ensures { Comes self.old self.new }
+    {
+        for place in 0..self.connections.len() {
+            self.attends_at(place, is_stirred, now);
         }
-        for connection in self.connections.iter_mut() {
-            connection.attend(now, stirred > 0);
-        }
+    }
+
+    /// Attends to the connection at this index.
+    fn attends_at(&mut self, place: usize, is_stirred: bool, now: u64)
+        requires { place < vec_len self.old.connections }
+        ensures comes { Comes self.old self.new }
+        ensures len { vec_len self.new.connections ≡ vec_len self.old.connections }
+    {
+        self.connections[place].attend(now, is_stirred);
+    }
+
+    /// Removes the connections that are over.
+    fn removes_gone(&mut self)
+        ensures { Comes self.old self.new }
+    {
         self.connections.retain(|connection| !connection.is_gone());
     }
 
+    /// Takes a connection, if something came.
+    fn accepts_if(&mut self, is_stirred: bool, now: u64)
+        ensures { Comes self.old self.new }
+    {
+        if is_stirred {
+            self.accepts(now);
+        }
+    }
+
     /// Takes a connection, if one waits for that.
-    fn accepts(&mut self, now: u64) {
+    fn accepts(&mut self, now: u64)
+        ensures { Comes self.old self.new }
+    {
         let Some(listener) = &self.listener else {
             return;
         };
@@ -336,16 +406,29 @@ impl<'a> LineSources<'a> {
 
     /// Has one more connection. If eight may send lines already, the one of them that is idle the
     /// longest is closed, with a line that says so; if none is idle for a second, the new one is.
-    fn takes_in(&mut self, stream: Stream, now: u64) {
+    fn takes_in(&mut self, stream: Stream, now: u64)
+        ensures { Comes self.old self.new }
+    {
+        let Some(number) = self.numbered.checked_add(1) else {
+            return;
+        };
         if stream.never_waits().is_err() {
             return;
         }
-        self.numbered = self.numbered.saturating_add(1);
-        let mut connection = Connection::new(self.rt.alloc(), self.numbered, stream, now);
-        if self.open_count() >= MOST_OPEN && !self.closes_idle(now) {
+        let mut connection = Connection::new(self.rt.alloc(), number, stream, now);
+        if !self.makes_room(now) {
             connection.refuse(TOO_MANY, now);
         }
+        self.numbered = number;
         let _ = self.connections.push(connection);
+    }
+
+    /// Closes a connection that is idle, if eight may send lines. Returns `false` if none is idle.
+    fn makes_room(&mut self, now: u64) -> bool
+        ensures comes { Comes self.old self.new }
+        ensures numbered { self.new.numbered ≡ self.old.numbered }
+    {
+        self.open_count() < MOST_OPEN || self.closes_idle(now)
     }
 
     /// How many connections may send lines.
@@ -354,7 +437,10 @@ impl<'a> LineSources<'a> {
     }
 
     /// Closes the connection that is idle the longest, if one is for a second.
-    fn closes_idle(&mut self, now: u64) -> bool {
+    fn closes_idle(&mut self, now: u64) -> bool
+        ensures comes { Comes self.old self.new }
+        ensures numbered { self.new.numbered ≡ self.old.numbered }
+    {
         let mut idle = [None; MOST_CONNECTIONS];
         for (place, connection) in self.connections.iter().take(MOST_CONNECTIONS).enumerate() {
             idle[place] = connection.idle_since();
@@ -362,36 +448,60 @@ impl<'a> LineSources<'a> {
         let Some(place) = longest_idle(&idle, now.saturating_sub(IDLE)) else {
             return false;
         };
-        match self.connections.get_mut(place) {
-            Some(connection) => {
-                connection.gives_way(GIVES_WAY);
-                true
-            }
-            None => false,
+        if place >= self.connections.len() {
+            return false;
         }
+        self.connections[place].gives_way(GIVES_WAY);
+        true
     }
 
     /// Takes a line of the source whose turn it is, or of the next one that has some.
-    fn takes_one(&mut self) -> Option<(Speaker, Result<String, LineFault>)> {
+    fn takes_one(&mut self) -> Option<(Speaker, Result<String, LineFault>)>
+        ensures { GivesLine self.old self.new result }
+    {
         let sources = self.connections.len().saturating_add(1);
         for step in 0..sources {
             let place = (self.turn % sources).saturating_add(step) % sources;
-            let line = self.takes_from(place);
-            if line.is_some() {
-                self.turn = place.saturating_add(1);
-                return line;
+            if let Some(line) = self.takes_from(place) {
+                self.turns_to(place.saturating_add(1));
+                return Some(line);
             }
         }
         None
     }
 
+    /// Notes whose turn is next.
+    fn turns_to(&mut self, place: usize)
+        ensures { IsUntouched self.old self.new }
+    {
+        self.turn = place;
+    }
+
     /// Takes a line of one source: standard input is the first of them.
-    fn takes_from(&mut self, place: usize) -> Option<(Speaker, Result<String, LineFault>)> {
-        if place == 0 {
-            let line = self.standard.as_mut()?.next_line()?;
-            return Some((Speaker::Standard, line));
+    fn takes_from(&mut self, place: usize) -> Option<(Speaker, Result<String, LineFault>)>
+        ensures { GivesLine self.old self.new result }
+    {
+        match place.checked_sub(1) {
+            None => self.takes_standard(),
+            Some(place) if place < self.connections.len() => self.takes_at(place),
+            Some(_) => None,
         }
-        let connection = self.connections.get_mut(place.saturating_sub(1))?;
+    }
+
+    /// Takes a line of standard input.
+    fn takes_standard(&mut self) -> Option<(Speaker, Result<String, LineFault>)>
+        ensures { GivesLine self.old self.new result }
+    {
+        let line = self.standard.as_mut()?.next_line()?;
+        Some((Speaker::Standard, line))
+    }
+
+    /// Takes a line of the connection at this index.
+    fn takes_at(&mut self, place: usize) -> Option<(Speaker, Result<String, LineFault>)>
+        requires { place < vec_len self.old.connections }
+        ensures { GivesLine self.old self.new result }
+    {
+        let connection = &mut self.connections[place];
         let line = connection.next_line()?;
         Some((Speaker::Connection(connection.number()), line))
     }

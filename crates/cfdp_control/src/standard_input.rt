@@ -1,7 +1,8 @@
 //! Lines of standard input.
-ghost use Rattle.cfdp_control.specs.Lines.{Gives};
+ghost use Rattle.std.specs.Prelude.{IfNone};
+ghost use Rattle.cfdp_control.specs.Lines.{Gives, Grows, HasNoEnd};
 
-use crate::line::{LineFault, text_of};
+use crate::line::LineFault;
 use crate::line_buffer::LineBuffer;
 use libc::net::{POLLIN, POLLNVAL};
 use libc::types::pollfd;
@@ -66,7 +67,9 @@ impl StandardInput {
     }
 
     /// Reads what is there, if `poll` said that something is.
-    pub fn reads(&mut self, rt: &HostRuntime) {
+    pub fn reads(&mut self, rt: &HostRuntime)
+        ensures { Grows self.old.lines.octets.items self.new.lines.octets.items }
+    {
         let mut buffer = [0u8; MOST_READ];
         let room = self.lines.room().min(MOST_READ);
         if self.is_ended || room == 0 {
@@ -81,15 +84,10 @@ impl StandardInput {
 
     /// Takes the next line, if one is whole.
     pub fn next_line(&mut self) -> Option<Result<String, LineFault>>
-        ensures { Gives self.old.lines.octets.items result self.new.lines.octets.items }
+        ensures given { Gives self.old.lines.octets.items result self.new.lines.octets.items }
+        ensures none { IfNone result (HasNoEnd self.old.lines.octets.items) }
     {
-        match self.lines.take() {
-            Ok(taken) => Some(text_of(taken?)),
-            Err(_) => {
-                self.lines.clear();
-                Some(Err(LineFault::NoMemory))
-            }
-        }
+        self.lines.next_text()
     }
 }
 

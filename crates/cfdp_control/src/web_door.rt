@@ -1,6 +1,7 @@
 //! The console's address: connections of browsers, served in the station's own turn.
-ghost use Rattle.std.specs.Prelude.{◌≡◌, IfSome};
-ghost use Rattle.cfdp_web.specs.Serving.{IsAskedBy};
+ghost use Rattle.std.specs.Prelude.{◌≡◌};
+ghost use Rattle.cfdp_web.specs.Serving.{AreKnownOrNew};
+ghost use Rattle.cfdp_control.specs.Door.{AsksAtDoor};
 
 use crate::cause::address_cause;
 use crate::line_sources::is_passing;
@@ -158,8 +159,7 @@ impl<'a> WebDoor<'a> {
     /// something it is `None` for two milliseconds, so that whoever asks does something else
     /// between.
     pub fn next_ask(&mut self, now: u64) -> Option<(u64, Ask)>
-        ensures { IfSome result (λ asked.
-            IsAskedBy self.old.guard self.new.visitors asked.0 asked.1) }
+        ensures { AsksAtDoor self.old self.new result }
     {
         if now < self.rests_until || !self.is_stirred(now) {
             return None;
@@ -212,7 +212,8 @@ impl<'a> WebDoor<'a> {
     /// Takes a connection, if one waits for that. If there is no room for it, the one that was
     /// answered least recently is closed.
     fn accepts(&mut self, now: u64)
-        ensures { self.new.guard ≡ self.old.guard }
+        ensures guard { self.new.guard ≡ self.old.guard }
+        ensures visitors { AreKnownOrNew self.old.visitors.all.items self.new.visitors.all.items }
     {
         if now < self.deaf_until {
             return;
@@ -229,7 +230,8 @@ impl<'a> WebDoor<'a> {
 
     /// Has one more connection.
     fn takes_in(&mut self, stream: TcpStream, now: u64)
-        ensures { self.new.guard ≡ self.old.guard }
+        ensures guard { self.new.guard ≡ self.old.guard }
+        ensures visitors { AreKnownOrNew self.old.visitors.all.items self.new.visitors.all.items }
     {
         let Ok(keys) = RandomState::new(self.rt) else {
             return;

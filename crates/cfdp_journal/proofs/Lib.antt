@@ -1,1 +1,2 @@
+mod Draining
 pub mod JournalLines

@@ -1,4 +1,7 @@
 //! A log over standard output that loses lines if standard output takes none.
+ghost use Rattle.std.specs.Prelude.{◌≡◌, ◌≤◌, [], IsTrue, length};
+ghost use Rattle.cfdp_journal.specs.Lossy.{Begins, Drains, EndsLine, TakesFirst};
+
 use crate::journal::json::{begin_object, end_object};
 use crate::journal::line::{LINE_ROOM, add_time};
 use crate::journal::style::{Log, Style};
@@ -89,7 +92,11 @@ impl<'a> LossyLog<'a> {
 
     /// Writes what waits, for the last time: a reader that reads nothing is waited for, two seconds
     /// at most. Returns `true` if all of the last lines were written.
-    pub fn finish(&mut self) -> bool {
+    pub fn finish(&mut self) -> bool
+        ensures drains { Drains self.old.queue self.new.queue }
+        // All was written, and no line was lost of which nothing says so.
+        ensures all { IsTrue result → (self.old.queue.lost ≡ 0) × (self.new.queue.waits ≡ []) }
+    {
         let is_kept = self.queue.lost() == 0;
         self.failed_at = None;
         for _piece in 0..MOST_PIECES {
@@ -100,8 +107,26 @@ impl<'a> LossyLog<'a> {
         is_kept && self.queue.is_empty()
     }
 
+    /// Takes octets up to the end of the first line among them, and returns how many these are.
+    pub fn takes(&mut self, octets: &[u8]) -> usize
+        ensures bound { result ≤ length octets.now }
+        ensures takes { TakesFirst octets.now self.old result self.new }
+    {
+        let (line, rest) = cut_at_first(octets, b'\n');
+        if rest.is_none() {
+            self.begins(octets);
+            return octets.len();
+        }
+        let len = line.len() + 1;
+        self.begins(&octets[..len]);
+        self.ends_line();
+        len
+    }
+
     /// Adds to the line that is begun.
-    fn begins(&mut self, octets: &[u8]) {
+    fn begins(&mut self, octets: &[u8])
+        ensures { Begins octets.now self.old self.new }
+    {
         let len = self.begun.len().saturating_add(octets.len());
         if len > MOST_LINE || self.begun.extend_from_slice(octets).is_err() {
             self.is_whole = false;
@@ -109,7 +134,9 @@ impl<'a> LossyLog<'a> {
     }
 
     /// Has the line wait that is begun, and is at its end.
-    fn ends_line(&mut self) {
+    fn ends_line(&mut self)
+        ensures { EndsLine self.old self.new }
+    {
         if self.is_whole {
             self.makes_room();
             self.queue.add(self.begun.as_slice());
@@ -121,7 +148,11 @@ impl<'a> LossyLog<'a> {
     }
 
     /// Has room for the line that is begun, if standard output takes enough of what waits in time.
-    fn makes_room(&mut self) {
+    fn makes_room(&mut self)
+        ensures drains { Drains self.old.queue self.new.queue }
+        ensures begun { self.new.begun ≡ self.old.begun }
+        ensures whole { self.new.is_whole ≡ self.old.is_whole }
+    {
         let len = self.begun.len();
         if self.queue.len().saturating_add(len) <= MANY {
             return;
@@ -135,7 +166,11 @@ impl<'a> LossyLog<'a> {
     }
 
     /// Writes what standard output takes without a wait.
-    fn writes_out(&mut self) {
+    fn writes_out(&mut self)
+        ensures drains { Drains self.old.queue self.new.queue }
+        ensures begun { self.new.begun ≡ self.old.begun }
+        ensures whole { self.new.is_whole ≡ self.old.is_whole }
+    {
         for _piece in 0..MOST_PIECES {
             if !self.writes_piece(0) {
                 break;
@@ -145,7 +180,11 @@ impl<'a> LossyLog<'a> {
 
     /// Waits for standard output, as long as there is patience left, and writes a piece. Returns
     /// `false` if none was written.
-    fn waits(&mut self) -> bool {
+    fn waits(&mut self) -> bool
+        ensures drains { Drains self.old.queue self.new.queue }
+        ensures begun { self.new.begun ≡ self.old.begun }
+        ensures whole { self.new.is_whole ≡ self.old.is_whole }
+    {
         let began = Instant::now(self.log.rt).ok();
         let is_written = self.writes_piece(i32::try_from(self.patience).unwrap_or(0));
         let waited = milliseconds_since(self.log, began).unwrap_or(u128::MAX);
@@ -156,7 +195,11 @@ impl<'a> LossyLog<'a> {
 
     /// Writes a piece of what waits, once standard output takes it, for which it waits so many
     /// milliseconds at most. Returns `false` if none was written.
-    fn writes_piece(&mut self, milliseconds: i32) -> bool {
+    fn writes_piece(&mut self, milliseconds: i32) -> bool
+        ensures drains { Drains self.old.queue self.new.queue }
+        ensures begun { self.new.begun ≡ self.old.begun }
+        ensures whole { self.new.is_whole ≡ self.old.is_whole }
+    {
         if self.queue.is_empty() {
             self.patience = PATIENCE;
             self.tells_lost();
@@ -175,15 +218,12 @@ impl<'a> LossyLog<'a> {
     }
 
     /// Writes a piece of what waits. Returns `false` if none was written.
-    fn writes(&mut self) -> bool {
-        let written = match &mut self.terminal {
-            Some(terminal) => self.queue.write_first(terminal, MOST_PIECE),
-            None => {
-                let mut out = io::writer(self.log.rt);
-                self.queue.write_first(&mut out, MOST_PIECE)
-            }
-        };
-        match written {
+    fn writes(&mut self) -> bool
+        ensures drains { Drains self.old.queue self.new.queue }
+        ensures begun { self.new.begun ≡ self.old.begun }
+        ensures whole { self.new.is_whole ≡ self.old.is_whole }
+    {
+        match self.writes_first() {
             Ok(0) => {
                 self.fails();
                 false
@@ -201,8 +241,27 @@ impl<'a> LossyLog<'a> {
         }
     }
 
+    /// Writes a piece of what waits to the terminal, or else to standard output.
+    fn writes_first(&mut self) -> io::Result<usize>
+        ensures drains { Drains self.old.queue self.new.queue }
+        ensures begun { self.new.begun ≡ self.old.begun }
+        ensures whole { self.new.is_whole ≡ self.old.is_whole }
+    {
+        match &mut self.terminal {
+            Some(terminal) => self.queue.write_first(terminal, MOST_PIECE),
+            None => {
+                let mut out = io::writer(self.log.rt);
+                self.queue.write_first(&mut out, MOST_PIECE)
+            }
+        }
+    }
+
     /// Notes that a write failed.
-    fn fails(&mut self) {
+    fn fails(&mut self)
+        ensures drains { Drains self.old.queue self.new.queue }
+        ensures begun { self.new.begun ≡ self.old.begun }
+        ensures whole { self.new.is_whole ≡ self.old.is_whole }
+    {
         self.failed_at = Instant::now(self.log.rt).ok();
     }
 
@@ -216,7 +275,11 @@ impl<'a> LossyLog<'a> {
 
     /// Has a line wait that says how many lines were lost, if some were and there is memory for
     /// it.
-    fn tells_lost(&mut self) {
+    fn tells_lost(&mut self)
+        ensures drains { Drains self.old.queue self.new.queue }
+        ensures begun { self.new.begun ≡ self.old.begun }
+        ensures whole { self.new.is_whole ≡ self.old.is_whole }
+    {
         let lost = self.queue.lost();
         if lost == 0 || !self.queue.is_empty() {
             return;
@@ -232,15 +295,7 @@ impl Write for LossyLog<'_> {
     /// Takes octets up to the end of the first line among them. It never fails: what there is no
     /// room for is lost.
     fn write(&mut self, octets: &[u8]) -> io::Result<usize> {
-        let (line, rest) = cut_at_first(octets, b'\n');
-        if rest.is_none() {
-            self.begins(octets);
-            return Ok(octets.len());
-        }
-        let len = line.len() + 1;
-        self.begins(&octets[..len]);
-        self.ends_line();
-        Ok(len)
+        Ok(self.takes(octets))
     }
 
     /// Writes what standard output takes without a wait. It never fails.

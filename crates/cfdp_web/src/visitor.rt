@@ -1,7 +1,7 @@
 //! A connection of the console: how far it is, and the stream that carries its octets.
 ghost use Rattle.std.specs.Prelude.{◌≡◌, ◌≤◌, ◌++◌, IfOk, OnErr, length, take};
 ghost use Rattle.cfdp_console.specs.Hearing.{Heard, HearsNothing, Listens, Reads};
-ghost use Rattle.cfdp_web.specs.Serving.{Attends, HasHeard, IsNew, most_octets};
+ghost use Rattle.cfdp_web.specs.Came.{HasHeard, most_octets};
 
 use crate::piece::Piece;
 use crate::stream::WebStream;
@@ -50,6 +50,8 @@ pub struct Visitor<S: WebStream> {
 }
 
 impl<S: WebStream> Visitor<S> {
+    ghost use Rattle.cfdp_web.specs.Serving.{Attends, IsNew};
+
     /// Returns the connection of this number that came at this time. The names of the fields of its
     /// requests are kept under secret keys.
     pub(crate) fn new(
@@ -109,12 +111,15 @@ impl<S: WebStream> Visitor<S> {
     pub fn attend(&mut self, guard: &Guard, now: u64) -> Option<Ask>
         ensures { Attends guard.now self.old self.new result }
     {
-        if self.left_at.is_none() {
-            self.caller.looks_at_clock(now);
-        }
-        if self.caller.has_output() {
-            self.sends(now);
-        }
+        self.looks_at_clock(now);
+        self.sends(now);
+        self.goes_on(guard, now)
+    }
+
+    /// Takes a piece, or leaves it. Returns what it asks.
+    fn goes_on(&mut self, guard: &Guard, now: u64) -> Option<Ask>
+        ensures { Attends guard.now self.old self.new result }
+    {
         if self.caller.is_gone() {
             self.leaves(now);
             None
@@ -133,13 +138,26 @@ impl<S: WebStream> Visitor<S> {
         self.caller.answers(answer, now);
     }
 
-    /// Sends a piece of what waits.
+    /// Leaves it if it was too slow.
+    fn looks_at_clock(&mut self, now: u64)
+        ensures kept { HearsNothing self.old.caller self.new.caller }
+        ensures number { self.new.number ≡ self.old.number }
+    {
+        if self.left_at.is_some() {
+            return;
+        }
+        self.caller.looks_at_clock(now);
+    }
+
+    /// Sends a piece of what waits, if something does.
     fn sends(&mut self, now: u64)
         ensures kept { HearsNothing self.old.caller self.new.caller }
         ensures number { self.new.number ≡ self.old.number }
     {
-        let mut piece = Piece(&mut self.stream);
-        if let Err(error) = self.caller.sends(&mut piece, now) {
+        if !self.caller.has_output() {
+            return;
+        }
+        if let Err(error) = send_piece(&mut self.caller, &mut self.stream, now) {
             self.fails(error.kind());
         }
     }
@@ -147,8 +165,7 @@ impl<S: WebStream> Visitor<S> {
     /// Takes a piece of its request. One that is too long is left.
     fn hears(&mut self, guard: &Guard, now: u64) -> Option<Ask>
         requires { Listens self.old.caller }
-        ensures heard { Heard guard.now self.old.caller self.new.caller result }
-        ensures number { self.new.number ≡ self.old.number }
+        ensures { Attends guard.now self.old self.new result }
     {
         let room = MOST_OCTETS - self.heard;
         if room == 0 {
@@ -209,6 +226,14 @@ impl<S: WebStream> Visitor<S> {
     }
 }
 
+/// Sends a piece of what waits to be sent to a caller.
+fn send_piece<S: WebStream>(caller: &mut Caller, stream: &mut S, now: u64) -> io::Result<usize>
+    ensures { HearsNothing caller.old caller.new }
+{
+    let mut piece = Piece(stream);
+    caller.sends(&mut piece, now)
+}
+
 /// Reads once over a stream, and notes what came.
 fn read_noted<S: WebStream>(
     stream: &mut S,
@@ -230,9 +255,20 @@ fn hear(caller: &mut Caller, octets: &[u8], guard: &Guard, now: u64) -> Option<A
     ensures heard { Heard guard.now caller.old caller.new result }
     ensures read { Reads caller.old caller.new octets.now }
 {
-    let asked = caller.hears(octets, guard, now);
-    if asked.is_none() && octets.is_empty() && !caller.has_output() {
+    match caller.hears(octets, guard, now) {
+        Some(ask) => Some(ask),
+        None => {
+            leave_at_end(caller, octets.is_empty());
+            None
+        }
+    }
+}
+
+/// Leaves a caller that sends no more octets, unless it is answered.
+fn leave_at_end(caller: &mut Caller, is_end: bool)
+    ensures { HearsNothing caller.old caller.new }
+{
+    if is_end && !caller.has_output() {
         caller.breaks_off();
     }
-    asked
 }
