@@ -8,6 +8,16 @@ use Rattle.std.specs.declared.io.traits.Read.{Ghosts as Read}
 use Rattle.std.specs.declared.io.traits.Write.{Ghosts as Write}
 use Rattle.cfdp_web.specs.declared.visitor.Visitor.{Visitor}
 
+nothing_asked : (number : ℕ) (asked : Option Ask) → None ≡ asked_by number asked
+    → asked ≡ None
+nothing_asked number None same = refl
+nothing_asked number (Some it) same = absurd cc
+
+pub asks_some : (m o : ℕ) (it : Ask) (asked : Option Ask) → m ≡ o → asked ≡ Some it
+    → asked_by m (Some it) ≡ asked_by o asked
+asks_some m o it asked same was = ap (λ (k : ℕ). asked_by k (Some it)) same
+    ∙ ap (λ (a : Option Ask). asked_by o a) (sym was)
+
 module _ {S : Type 0} {R : Read S} {W : Write S} (guard : Guard) where
   -- So many visitors were attended to, and asked nothing. Those after them are as they were.
   abbrev pub Reached : ℕ → List (Visitor S R W) → List (Visitor S R W) → Type 0
@@ -66,11 +76,6 @@ module _ {S : Type 0} {R : Read S} {W : Write S} (guard : Guard) where
   nobody_asks (suc n) (o ∷ olds) [] reached all = absurd reached
   nobody_asks (suc n) (o ∷ olds) (v ∷ news) reached all =
       inl (reached.0, nobody_asks n olds news reached.1 (omega arith))
-
-  nothing_asked : (number : ℕ) (asked : Option Ask) → None ≡ asked_by number asked
-      → asked ≡ None
-  nothing_asked number None same = refl
-  nothing_asked number (Some it) same = absurd cc
 
   -- the visitor at the next index asks nothing
   pub reached_more : (n : ℕ) (olds news newer : List (Visitor S R W)) → Reached n olds news

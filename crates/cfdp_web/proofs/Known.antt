@@ -1,7 +1,7 @@
 -- Visitors come and go.
-use Rattle.std.specs.Prelude.{◌≡◌, ◌<◌, ◌⊎◌, ◌++◌, ℕ, List, [], ◌∷◌, length, slice_index_or, suc, zero}
+use Rattle.std.specs.Prelude.{◌≡◌, ◌<◌, ◌⊎◌, ◌++◌, ℕ, Bool, true, false, cond, List, [], ◌∷◌, length, slice_index_or, suc, zero}
 use Rattle.std.specs.List.{Contains, remove}
-use Rattle.std.proofs.Common.{arith, inl, inr, subst}
+use Rattle.std.proofs.Common.{arith, inl, inr, subst, sym}
 use Rattle.std.proofs.lemmas.List.Elements.{Contains-append_cases, Contains-append_right}
 use Rattle.cfdp_web.specs.Serving.{AreKnownOrNew, IsNew}
 use Rattle.std.specs.declared.io.traits.Read.{Ghosts as Read}
@@ -31,3 +31,10 @@ module _ {S : Type 0} {R : Read S} {W : Write S} where
   -- one comes
   pub known_push : (xs : List (Visitor S R W)) (x : Visitor S R W) → IsNew x → AreKnownOrNew xs (xs ++ x ∷ [])
   known_push xs x new = λ v there. new_only xs x v new (Contains-append_cases xs (x ∷ []) v there)
+
+  pub known_pushed : (xs ys : List (Visitor S R W)) (x : Visitor S R W) (b : Bool) → IsNew x
+      → ys ≡ cond b (xs ++ x ∷ []) xs → AreKnownOrNew xs ys
+  known_pushed xs ys x true new is =
+      subst (λ (zs : List (Visitor S R W)). AreKnownOrNew xs zs) (sym is) (known_push xs x new)
+  known_pushed xs ys x false new is =
+      subst (λ (zs : List (Visitor S R W)). AreKnownOrNew xs zs) (sym is) (known_all xs)

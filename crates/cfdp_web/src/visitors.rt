@@ -41,7 +41,6 @@ impl<S: WebStream> Visitors<S> {
     }
 
     /// Closes the connection that came or was answered least recently, if there are 16.
-    #[tactic(none)]
     pub fn makes_room(&mut self)
         ensures room { vec_len self.new.all < most_visitors }
         ensures known { AreKnownOrNew self.old.all.items self.new.all.items }
@@ -58,7 +57,6 @@ impl<S: WebStream> Visitors<S> {
 
     /// Adds a connection that came at this time; if there are 16, or there is no memory, it is
     /// closed. The names of the fields of its requests are kept under secret keys.
-    #[tactic(none)]
     pub fn takes_in(&mut self, stream: S, keys: RandomState, now: u64)
         ensures { AreKnownOrNew self.old.all.items self.new.all.items }
     {
@@ -74,7 +72,6 @@ impl<S: WebStream> Visitors<S> {
     /// Attends to each connection once, up to the first one that asks something. Returns its
     /// number, and what it asks, which one of its requests may ask by the guard. That must be
     /// answered.
-    #[tactic(none)]
     pub fn next_ask(&mut self, guard: &Guard, now: u64) -> Option<(u64, Ask)>
         ensures { AttendsInTurn guard.now (staying self.old.all.items) self.new.all.items result }
     {
@@ -88,10 +85,10 @@ impl<S: WebStream> Visitors<S> {
     }
 
     /// Attends to the connection at this index. Returns its number, and what it asks.
-    #[tactic(none)]
     fn next_at(&mut self, place: usize, guard: &Guard, now: u64) -> Option<(u64, Ask)>
         requires { place < vec_len self.old.all }
-        ensures { AttendsAt guard.now self.old.all.items self.new.all.items place result }
+        ensures attends { AttendsAt guard.now self.old.all.items self.new.all.items place result }
+        ensures len { vec_len self.new.all ≡ vec_len self.old.all }
     {
         let visitor = &mut self.all[place];
         let ask = visitor.attend(guard, now)?;

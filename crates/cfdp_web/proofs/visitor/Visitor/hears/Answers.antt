@@ -13,10 +13,12 @@ invariant_of-self-in-Ok-clause-all_heard g c = heard_read c.args.self.now.caller
     c.in-Ok.len c.args.self.now.all_heard c.requires c.hear.ensures.read c.in-Ok.ensures.bound
     c.in-Ok.ensures.noted
 
-pub invariant_of-self-in-Err-1-clause-all_heard : goal.invariant_of-self-in-Err-1-clause-all_heard
-invariant_of-self-in-Err-1-clause-all_heard g c =
-    subst (λ (came : List ℕ). HasHeard c.args.self.now.caller came)
-    (sym c.in-Err.ensures.err) c.args.self.now.all_heard
+pub invariant_of-self-in-Err-1 : goal.invariant_of-self-in-Err-1
+invariant_of-self-in-Err-1 g c = record {
+  within = c.args.self.now.within;
+  all_heard = subst (λ (came : List ℕ). HasHeard c.args.self.now.caller came)
+      (sym c.in-Err.ensures.err) c.args.self.now.all_heard;
+}
 
 pub returns-then-room-eq0 : goal.returns-then-room-eq0
 returns-then-room-eq0 g c = record {
