@@ -159,7 +159,8 @@ impl<'a> WebDoor<'a> {
     /// something it is `None` for two milliseconds, so that whoever asks does something else
     /// between.
     pub fn next_ask(&mut self, now: u64) -> Option<(u64, Ask)>
-        ensures { AsksAtDoor self.old self.new result }
+        ensures { AsksAtDoor self.old.guard self.old.visitors.all.items
+            self.new.visitors.all.items result }
     {
         if now < self.rests_until || !self.is_stirred(now) {
             return None;
@@ -236,11 +237,12 @@ impl<'a> WebDoor<'a> {
         let Ok(keys) = RandomState::new(self.rt) else {
             return;
         };
-        if stream.set_nonblocking(true).is_ok() {
-            let _ = stream.set_nodelay(true);
-            self.visitors.makes_room();
-            self.visitors.takes_in(WebSocket(stream), keys, now);
+        if stream.set_nonblocking(true).is_err() {
+            return;
         }
+        let _ = stream.set_nodelay(true);
+        self.visitors.makes_room();
+        self.visitors.takes_in(WebSocket(stream), keys, now);
     }
 }
 

@@ -1,4 +1,4 @@
-use Rattle.std.proofs.Common.{List, subst, sym}
+use Rattle.std.proofs.Common.{subst, sym}
 use Rattle.cfdp_web.specs.Serving.{AreKnownOrNew}
 use Rattle.cfdp_web.proofs.Known.{known_all, known_rest}
 use Rattle.cfdp_web.proofs.visitors.Visitors.makes_room.Goals as goal
