@@ -10,7 +10,7 @@ from kills import Disk
 from lib.choices import chance_of
 from lib.control import asked, controlled
 from lib.links import Link, Relay
-from lib.pdus import METADATA
+from lib.pdus import METADATA, large_eof, piece
 from lib.processes import files_at
 from lib.spools import Spool, drop, names_in, octets_of
 from lib.waiting import TRIALS, Timed, in_one_of, waits_for
@@ -30,6 +30,9 @@ TIMES = {"eof_time": AGAIN, "nak_time": AGAIN, "finished_time": AGAIN, "inactivi
 LIMITS = {"eof_limit": 255, "nak_limit": 255, "finished_limit": 255}
 STEADY = {**TIMES, **LIMITS, "segment": SEGMENT}
 WORDS = ["--unit", "ms", "--journal", "journal", "--state", "state", "--inbox", "to"]
+
+# Kinds of records in a journal.
+OPENED, HEARD_EOF = 5, 7
 
 # Lengths of files, some of which need no file data, one PDU or two.
 SIZES = (0, 1, SEGMENT - 1, SEGMENT, SEGMENT + 1, 3_000, 20_000, 60_000)
@@ -594,6 +597,27 @@ def cancel_mistakes(program):
     yield "it was killed before each cancellation"
 
 
+def flag_mistakes(program):
+    """What is wrong where a receiver is killed after the EOF of a file of more than 2^32 octets,
+    and the PDU that opened it had no large file flag: the transaction goes on."""
+    with Link(program, Relay()) as link:
+        pair, path = Pair(link, every=3_600_000, carrier="pdus"), f"{link.folder}/2/journal"
+        notes = lambda kind: bytes([kind]) + struct.pack(">QQ", 1, 7) in (octets_of(path) or b"")
+        pair.starts(2)
+        link.relay.give(2, piece(7))
+        if not waits_for(lambda: notes(OPENED)):
+            yield "it noted no receiver"
+        link.relay.give(2, large_eof(7, (1 << 32) + 1))
+        if not waits_for(lambda: notes(HEARD_EOF)):
+            yield "it noted no EOF"
+        pair.kills(2)
+        it = pair.starts(2)
+        if it.comes_to("note: resumed 1:7 ") is None:
+            yield f"it noted {it.text('stderr')!r}"
+        pair.kills(2)
+        yield from pair.mistakes()
+
+
 def stale_mistakes(program):
     """What is wrong where a start can write no journal: the one of the run before is removed, since
     it says what isn't so any more, and what went on goes on."""
@@ -669,6 +693,7 @@ def all_mistakes(program):
     yield "journals that can't grow", full_mistakes(program)
     yield "a journal that can't grow and can't be removed", stuck_mistakes(program)
     yield "a journal that a start can't write", stale_mistakes(program)
+    yield "a journal, and a large file flag that comes late", flag_mistakes(program)
     yield "a cancellation that the journal doesn't have yet", cancel_mistakes(program)
     left = "after=rename:1:.leaving/a"
     yield "a journal, and a file that changes before it goes on", changed_mistakes(program, "")

@@ -29,6 +29,12 @@ def eof(number):
     return struct.pack(">BHBHIHBBII", 0x20, 10, 0x13, 1, number, 2, 4, 0, 7, 4)
 
 
+def large_eof(number, size):
+    """The EOF of a transaction of station 1, with a file of so many octets, by the large file
+    flag."""
+    return struct.pack(">BHBHIHBBIQ", 0x21, 14, 0x13, 1, number, 2, EOF, 0, 7, size)
+
+
 def piece(number):
     """An octet of that file."""
     return struct.pack(">BHBHIHIB", 0x30, 5, 0x13, 1, number, 2, 0, 65)

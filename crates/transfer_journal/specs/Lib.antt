@@ -1,3 +1,7 @@
 pub mod Kept
 pub mod Says
 pub mod Survey
+pub mod Noted
+pub mod Facts
+pub mod Notes
+pub mod Pending

@@ -1,5 +1,10 @@
 //! The journal of a station that runs.
-use crate::facts::{note_facts, note_progress};
+ghost use Rattle.std.specs.Prelude.{◌≡◌, ◌++◌, OnOk};
+ghost use Rattle.std.specs.List.{flat_map};
+ghost use Rattle.std.specs.Option.{option_to_list};
+ghost use Rattle.transfer_journal.specs.Pending.{pending_by};
+
+use crate::facts::{note_facts, note_progress, push_some};
 use crate::file::{JournalFile, remove_at};
 use crate::noted::Noted;
 use crate::ranges::lacks_some;
@@ -438,29 +443,39 @@ fn ranges_of(alloc: Global, numbers: &Numbers) -> Result<Vec<(u64, u64)>, AllocE
 }
 
 /// Appends the ends among indications.
-fn note_pending(out: &mut Vec<JournalRecord>, news: &[Indication]) -> Result<(), AllocError> {
-    for indication in news {
-        match indication {
-            Indication::Finished {
-                id,
-                condition,
-                delivery,
-                status,
-            } => {
-                let outcome = Outcome {
-                    condition: *condition,
-                    delivery: *delivery,
-                    status: *status,
-                };
-                out.push(JournalRecord::PendingFinished(*id, outcome))?;
-            }
-            Indication::Abandoned(id, condition) => {
-                out.push(JournalRecord::PendingAbandoned(*id, *condition))?;
-            }
-            _ => {}
-        }
+fn note_pending(out: &mut Vec<JournalRecord>, news: &[Indication]) -> Result<(), AllocError>
+    ensures { OnOk result (out.new.items ≡ out.old.items
+        ++ flat_map (λ told. option_to_list (pending_by told)) news.now) }
+{
+    for told in news {
+        push_some(out, pending_by(told))?;
     }
     Ok(())
+}
+
+/// Returns a record of an end that was indicated, if one was.
+fn pending_by(told: &Indication) -> Option<JournalRecord>
+    ensures { result ≡ pending_by told.now }
+{
+    match told {
+        Indication::Finished {
+            id,
+            condition,
+            delivery,
+            status,
+        } => {
+            let outcome = Outcome {
+                condition: *condition,
+                delivery: *delivery,
+                status: *status,
+            };
+            Some(JournalRecord::PendingFinished(*id, outcome))
+        }
+        Indication::Abandoned(id, condition) => {
+            Some(JournalRecord::PendingAbandoned(*id, *condition))
+        }
+        _ => None,
+    }
 }
 
 /// Returns `true` if so many seconds have gone since then, or nothing was then.

@@ -1,7 +1,8 @@
 //! What a journal says of a transaction, once all of its records are put together.
-ghost use Rattle.std.specs.Prelude.{◌≡◌, OnOk, Some};
+ghost use Rattle.std.specs.Prelude.{◌≡◌, true, OnOk, Some};
 ghost use Rattle.std.specs.FinSet as set;
-ghost use Rattle.std.specs.Option.{option_map};
+ghost use Rattle.std.specs.Option.{option_map, option_or};
+ghost use Rattle.cfdp_directives.specs.Pdu.Codes.{filestore_rejection};
 ghost use Rattle.cfdp_extents.specs.Offsets.{union_of};
 ghost use Rattle.transfer_journal.specs.Kept.{end_after, end_closed, kept_opened, kept_put};
 ghost use Rattle.transfer_journal.specs.Kept.{pending_after, publication_of, receiver_after};
@@ -62,7 +63,12 @@ impl KeptSender {
     }
 
     /// Notes that another file may have the name by now: the put is cancelled, unless it is over.
-    pub fn changes(&mut self) {
+    pub fn changes(&mut self)
+        ensures { self.new ≡ record self.old {
+          is_changed = true;
+          cancelled_for = option_or self.old.cancelled_for (Some filestore_rejection);
+        } }
+    {
         self.is_changed = true;
         if self.cancelled_for.is_none() {
             self.cancelled_for = Some(Condition::FILESTORE_REJECTION);

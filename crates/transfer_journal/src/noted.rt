@@ -1,4 +1,7 @@
 //! What the journal has of a transaction already.
+ghost use Rattle.std.specs.Prelude.{◌≡◌};
+ghost use Rattle.transfer_journal.specs.Noted.{opened_noted};
+
 use cfdp_extents::Extents;
 use cfdp_receiver::ReceiverPhase;
 use std::alloc::Global;
@@ -40,18 +43,23 @@ pub struct NotedReceiver {
     pub phase: ReceiverPhase,
     /// Whether it is suspended.
     pub is_suspended: bool,
+    /// Whether a PDU with the large file flag was received.
+    pub is_large: bool,
     /// Which offsets of the file are held.
     pub held: Extents,
 }
 
 impl NotedReceiver {
     /// Returns what is noted of a receiver that was just opened.
-    pub fn opened(alloc: Global) -> NotedReceiver {
+    pub fn opened(alloc: Global, is_large: bool) -> NotedReceiver
+        ensures { result ≡ opened_noted is_large }
+    {
         NotedReceiver {
             has_metadata: false,
             has_ending: false,
             phase: ReceiverPhase::Receiving,
             is_suspended: false,
+            is_large,
             held: Extents::new(alloc),
         }
     }

@@ -1,4 +1,9 @@
 //! A station on which the transactions of a journal are restored.
+ghost use Rattle.std.specs.Prelude.{◌≡◌, ◌++◌, false, IfOk, OnOk};
+ghost use Rattle.std.specs.List.{flat_map};
+ghost use Rattle.cfdp_directives.specs.Pdu.Codes.{filestore_rejection};
+ghost use Rattle.transfer_journal.specs.Pending.{indication_of, pending_in, pending_of};
+
 use crate::kept::{KeptEnd, KeptReceiver, KeptSender, KeptTransfer, PendingEnd};
 use crate::survey::{ForgottenRange, Survey};
 use cfdp_directives::{Condition, Indication, Octets};
@@ -52,7 +57,11 @@ pub fn restore<O: SeekingOutbox, I: ResumingInbox, W: PeerWire>(
     alloc: Global,
     port: &mut Port<O, I, W>,
     survey: Survey,
-) -> Result<Restored, AllocError> {
+) -> Result<Restored, AllocError>
+    // All that the user may not have heard is there, in order of opening.
+    ensures { IfOk result (λ restored. restored.pending.items
+        ≡ flat_map pending_in survey.transfers.items) }
+{
     let mut restored = Restored {
         alloc,
         resumed: Vec::new(alloc),
@@ -69,8 +78,8 @@ pub fn restore<O: SeekingOutbox, I: ResumingInbox, W: PeerWire>(
             restored.lost.push((id, RestoreError::NotOurs))?;
         }
     }
-    for transfer in survey.into_transfers() {
-        if let Some(transfer) = transfer {
+    for slot in survey.into_transfers() {
+        if let Some(transfer) = slot {
             restored.restores(port, transfer)?;
         }
     }
@@ -83,7 +92,10 @@ impl Restored {
         &mut self,
         port: &mut Port<O, I, W>,
         transfer: KeptTransfer,
-    ) -> Result<(), AllocError> {
+    ) -> Result<(), AllocError>
+        ensures { OnOk result (self.new.pending.items
+            ≡ self.old.pending.items ++ pending_of transfer) }
+    {
         let KeptTransfer { id, end, pending } = transfer;
         let (resumed, answer) = match end {
             KeptEnd::Sends(sender) => self.sender(port, sender, pending.is_some())?,
@@ -174,7 +186,16 @@ fn octets_in(held: &Extents) -> u64 {
 }
 
 /// Returns a sender that is cancelled since its file isn't there any more.
-fn cancelled(transfer: Transfer, eof_taken: bool) -> CommittedSender {
+fn cancelled(transfer: Transfer, eof_taken: bool) -> CommittedSender
+    ensures { result ≡ record {
+      transfer = transfer;
+      phase = SenderPhase.Cancelling;
+      suspended = false;
+      eof_taken = eof_taken;
+      acknowledged = false;
+      condition = filestore_rejection;
+    } }
+{
     CommittedSender {
         transfer,
         phase: SenderPhase::Cancelling,
@@ -186,7 +207,9 @@ fn cancelled(transfer: Transfer, eof_taken: bool) -> CommittedSender {
 }
 
 /// Returns a copy of what is sent.
-fn copied(alloc: Global, transfer: &Transfer) -> Result<Transfer, AllocError> {
+fn copied(alloc: Global, transfer: &Transfer) -> Result<Transfer, AllocError>
+    ensures { IfOk result (λ copy. copy ≡ transfer.now) }
+{
     Ok(Transfer {
         addressing: transfer.addressing,
         checksum_kind: transfer.checksum_kind,
@@ -198,10 +221,9 @@ fn copied(alloc: Global, transfer: &Transfer) -> Result<Transfer, AllocError> {
 }
 
 /// Returns a copy of what is kept of a receiver.
-fn copied_receiver(
-    alloc: Global,
-    kept: &CommittedReceiver,
-) -> Result<CommittedReceiver, AllocError> {
+fn copied_receiver(alloc: Global, kept: &CommittedReceiver) -> Result<CommittedReceiver, AllocError>
+    ensures { IfOk result (λ copy. copy ≡ kept.now) }
+{
     let metadata = match &kept.metadata {
         Some(info) => Some(FileInfo {
             checksum_kind: info.checksum_kind,
@@ -221,7 +243,9 @@ fn copied_receiver(
 }
 
 /// Returns what the user hears of an end.
-fn indication_of(id: TransactionId, end: PendingEnd) -> Indication {
+fn indication_of(id: TransactionId, end: PendingEnd) -> Indication
+    ensures { result ≡ indication_of id end }
+{
     match end {
         PendingEnd::Finished(outcome) => Indication::Finished {
             id,

@@ -81,17 +81,23 @@ impl Survey {
     }
 
     /// Returns whose journal it is, if it says so.
-    pub fn owner(&self) -> Option<Owner> {
+    pub fn owner(&self) -> Option<Owner>
+        ensures { result ≡ self.now.owner }
+    {
         self.owner
     }
 
     /// Returns the transactions that are forgotten.
-    pub fn forgotten(&self) -> &[ForgottenRange] {
+    pub fn forgotten(&self) -> &[ForgottenRange]
+        ensures { result.now ≡ self.now.forgotten.items }
+    {
         self.forgotten.as_slice()
     }
 
     /// Returns the transactions, in order of opening; `None` in place of each that is forgotten.
-    pub fn into_transfers(self) -> Vec<Option<KeptTransfer>> {
+    pub fn into_transfers(self) -> Vec<Option<KeptTransfer>>
+        ensures { result ≡ self.transfers }
+    {
         self.transfers
     }
 
