@@ -166,7 +166,7 @@ step-added held new ranges i d l is =
     ∙ union-more held (get_or ranges i d) (drop (i + 1) ranges)
     ∙ ap (λ rs. set.union held (union_of rs)) (sym first)
 
-drop-past : (n : ℕ) (rs : List (ℕ × ℕ)) → length rs ≤ n → drop n rs ≡ []
+pub drop-past : {A : Type 0} (n : ℕ) (rs : List A) → length rs ≤ n → drop n rs ≡ []
 drop-past zero [] l = refl
 drop-past zero (r ∷ rs) l = absurd (omega (arith, l))
 drop-past (suc n) [] l = refl

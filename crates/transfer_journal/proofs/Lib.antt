@@ -5,3 +5,4 @@ pub mod Said
 pub mod Senders
 pub mod Receivers
 pub mod Noting
+pub mod Each

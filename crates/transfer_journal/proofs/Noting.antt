@@ -7,6 +7,7 @@ use Rattle.cfdp_extents.specs.Offsets.{Offsets, union_of}
 use Rattle.cfdp_sender.specs.State.{SenderState, transfer_of}
 use Rattle.cfdp_sender.specs.declared.phase.SenderPhase.TheVariants.{Sending}
 use Rattle.cfdp_sender.specs.declared.transfer.Transfer.{Transfer}
+use Rattle.cfdp_receiver.specs.Back.{committed_of}
 use Rattle.cfdp_receiver.specs.State.{ReceiverState}
 use Rattle.cfdp_entity.specs.declared.record.Record.{Record}
 use Rattle.cfdp_entity.specs.declared.record.Record.TheVariants as held
@@ -21,7 +22,7 @@ use Rattle.transfer_journal.specs.declared.noted.Noted.{Noted}
 use Rattle.transfer_journal.specs.declared.noted.Noted.TheVariants as noted
 use Rattle.transfer_journal.specs.declared.noted.NotedReceiver.{NotedReceiver}
 use Rattle.transfer_journal.specs.declared.noted.NotedSender.{NotedSender}
-use Rattle.transfer_journal.specs.Kept.{kept_opened, kept_put}
+use Rattle.transfer_journal.specs.Kept.{kept_opened, kept_put, receiver_committed}
 use Rattle.transfer_journal.specs.Says.{Known, all_say, id_of, said_of, says}
 use Rattle.transfer_journal.specs.Facts.{receiver_facts, receiver_noted, sender_facts, sender_noted}
 use Rattle.transfer_journal.specs.Noted.{KeepsReceiver, KeepsSender, opened_noted, put_noted}
@@ -55,6 +56,9 @@ keeps-close n r known end e k = subst (Keeps n r) (sym e.known) (subst (KeepsEnd
 
 restores-close : (r : Record) (known : Known) (end : KeptEnd) → IsEnd known end → RestoresEnd r end → Restores r known
 restores-close r known end e k = subst (Restores r) (sym e.known) (subst (RestoresEnd r) (sym e.end) k)
+
+restores-open : (r : Record) (known : Known) (end : KeptEnd) → IsEnd known end → Restores r known → RestoresEnd r end
+restores-open r known end e h = subst (RestoresEnd r) e.end (subst (Restores r) e.known h)
 
 -- ---- facts of a sender
 pub sender-again : (id : TransactionId) (x : SenderState) (n : NotedSender) (old new : List JournalRecord) → new ≡ old ++ sender_facts id x n → NotesFacts id (held.Sends x) (Some (noted.Sends n)) old new (noted.Sends (sender_noted x n.sent))
@@ -151,6 +155,10 @@ sent-on id x n old new e = record {
       let kept = o.2 in
       keeps-close (noted.Sends (record n { sent = x.sent })) (held.Sends x) _ _ e
       (record { transfer = kept.transfer; sent = refl; eof_taken = kept.eof_taken; suspended = kept.suspended; phase = kept.phase; cause = kept.cause });
+  restores = λ a known k h.
+      let o = sender-open n x known k in
+      let e = sender_said a id (Sent id x.sent ∷ []) known o.0 (refl, tt) o.1 in
+      restores-close (held.Sends x) _ _ e (restores-open (held.Sends x) known (Sends o.0) o.1 h);
   progress = refl;
 }
 
@@ -160,8 +168,13 @@ sent-still id x n old new e same = record {
   appended = e ∙ sym (append-nil old);
   about = tt;
   says = λ a known k. k;
+  restores = λ a known k h. h;
   progress = same;
 }
+
+-- what is held doesn't change what else is restored
+with-flag : (x : ReceiverState) (r : KeptReceiver) (ranges : List (ℕ × ℕ)) → receiver_committed r ≡ committed_of x → receiver_committed (record r { large = x.large; held = set.union r.held (union_of ranges) }) ≡ committed_of x
+with-flag x r ranges h = λ i. record (h i) { large = x.large }
 
 pub held-on : (id : TransactionId) (x : ReceiverState) (n : NotedReceiver) (ranges : List (ℕ × ℕ)) (now : Offsets) (old new : List JournalRecord) → new ≡ old ++ Held id x.large ranges ∷ [] → union_of ranges ≡ set.difference x.held n.held → now ≡ set.union n.held x.held → NotesProgress id (held.Receives x) (noted.Receives n) old new (noted.Receives (record n { is_large = x.large; held = now }))
 held-on id x n ranges now old new e are is = record {
@@ -174,22 +187,21 @@ held-on id x n ranges now old new e are is = record {
       let kept = o.2 in
       keeps-close (noted.Receives (record n { is_large = x.large; held = now })) (held.Receives x) _ _ e
       (record {
-        addressing = kept.addressing;
-        large = refl;
-        metadata = kept.metadata;
-        ending = kept.ending;
-        suspended = kept.suspended;
-        phase = kept.phase;
-        outcome = kept.outcome;
+        addressing = kept.addressing; large = refl; metadata = kept.metadata; ending = kept.ending;
+        suspended = kept.suspended; phase = kept.phase; outcome = kept.outcome;
         held = (λ i. set.union (kept.held i) (are i)) ∙ union-difference x.held n.held ∙ sym is;
       });
+  restores = λ a known k h.
+      let o = receiver-open n x known k in
+      let e = receiver_said a id (Held id x.large ranges ∷ []) known o.0 (refl, tt) o.1 in
+      restores-close (held.Receives x) _ _ e (with-flag x o.0 ranges (restores-open (held.Receives x) known (Receives o.0) o.1 h));
   progress = is;
 }
 
 pub held-still : (id : TransactionId) (x : ReceiverState) (n : NotedReceiver) (ranges : List (ℕ × ℕ)) (now : Offsets) (old new : List JournalRecord) → new ≡ old → ranges ≡ [] → union_of ranges ≡ set.difference x.held n.held → now ≡ set.union n.held x.held → NotesProgress id (held.Receives x) (noted.Receives n) old new (noted.Receives (record n { held = now }))
 held-still id x n ranges now old new e none are is =
     let stays : n.held ≡ now =
-    union-none n.held ∙ ap (λ rs. set.union n.held (union_of rs)) (sym none) ∙ ap (set.union n.held) are ∙ union-difference x.held n.held ∙ sym is in
+        union-none n.held ∙ ap (λ rs. set.union n.held (union_of rs)) (sym none) ∙ ap (set.union n.held) are ∙ union-difference x.held n.held ∙ sym is in
     record {
       more = [];
       appended = e ∙ sym (append-nil old);
@@ -199,15 +211,11 @@ held-still id x n ranges now old new e none are is =
           let kept = o.2 in
           keeps-close (noted.Receives (record n { held = now })) (held.Receives x) _ _ o.1
           (record {
-            addressing = kept.addressing;
-            large = kept.large;
-            metadata = kept.metadata;
-            ending = kept.ending;
-            suspended = kept.suspended;
-            phase = kept.phase;
-            outcome = kept.outcome;
+            addressing = kept.addressing; large = kept.large; metadata = kept.metadata; ending = kept.ending;
+            suspended = kept.suspended; phase = kept.phase; outcome = kept.outcome;
             held = kept.held ∙ stays;
           });
+      restores = λ a known k h. h;
       progress = is;
     }
 
@@ -217,6 +225,7 @@ other-progress id r n old new e same = record {
   appended = e ∙ sym (append-nil old);
   about = tt;
   says = λ a known k. k;
+  restores = λ a known k h. h;
   progress = same;
 }
 

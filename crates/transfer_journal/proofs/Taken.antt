@@ -27,7 +27,7 @@ use Rattle.transfer_journal.specs.Survey.{Adds, Forgets, Hears, IsAligned, Takes
 use Rattle.transfer_journal.proofs.Slots.{slot_more, slot_of-absent, slot_of-at, slot_of-push, slot_of-set, slot_of-with_none, with_none-more}
 
 -- ---- a record about a transaction says nothing else
-only-about : (r : JournalRecord) (id : TransactionId) → id_of r ≡ Some id → (owner_in r ≡ None) × (forgotten_by r ≡ None)
+pub only-about : (r : JournalRecord) (id : TransactionId) → id_of r ≡ Some id → (owner_in r ≡ None) × (forgotten_by r ≡ None)
 only-about (Station owner) id h = absurd (cc)
 only-about (Put t) id h = (refl, refl)
 only-about (Sent other sent) id h = (refl, refl)
@@ -45,7 +45,7 @@ only-about (PendingFinished other o) id h = (refl, refl)
 only-about (PendingAbandoned other c) id h = (refl, refl)
 only-about (Forgotten source ranges) id h = absurd (cc)
 
-unforgotten : (id : TransactionId) (r : JournalRecord) (known : Known) → forgotten_by r ≡ None → forgotten_said id r known ≡ known
+pub unforgotten : (id : TransactionId) (r : JournalRecord) (known : Known) → forgotten_by r ≡ None → forgotten_said id r known ≡ known
 unforgotten id r known h = ap (λ those. cond (is_among id those) (option_map (λ slot. None) known) known) h
 
 pub heard-taken : (id : TransactionId) (r : JournalRecord) (old new : Survey) → id_of r ≡ Some id → Hears id r old new → Takes r old new
@@ -107,7 +107,7 @@ heard-at id r a ks slots new slot e l at is other =
     ap (slot_of other ks) is
     ∙ slot_of-set other id (change r slot) ks slots e l
     ∙ heard-here id other r a slot (slot_of other ks slots)
-    (λ same. subst (λ (y : TransactionId). slot_of y ks slots ≡ Some slot) (sym (same_id-is other id same)) (slot_of-at id ks slots e l ∙ at))
+      (λ same. subst (λ (y : TransactionId). slot_of y ks slots ≡ Some slot) (sym (same_id-is other id same)) (slot_of-at id ks slots e l ∙ at))
 
 -- ---- a record about a transaction that isn't known
 or-none : (known : Known) → option_or known None ≡ known

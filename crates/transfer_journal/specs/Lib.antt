@@ -5,3 +5,4 @@ pub mod Noted
 pub mod Facts
 pub mod Notes
 pub mod Pending
+pub mod Table

@@ -95,4 +95,6 @@ pub record NotesProgress (id : TransactionId) (x : Record) (before : Noted)
   pub about : AllByRecursion (λ r. id_of r ≡ Some id) more
   pub says : (a : Addressing) (known : Known) → Keeps before x known
       → Keeps now x (all_say a id more known)
+  pub restores : (a : Addressing) (known : Known) → Keeps before x known
+      → Restores x known → Restores x (all_say a id more known)
   pub progress : HasProgress before now x

@@ -1,7 +1,10 @@
 //! The file of a journal.
+ghost use Rattle.std.specs.Prelude.{◌≡◌, ◌++◌, IfOk, OnErr, OnOk};
+
 use batches::{HEAD_LEN, first_batch};
 use cfdp_files::{LockError, Use, folder_of, lock, open_plain};
 use journal_records::{JournalRecord, batch_of};
+use past::Past;
 use std::alloc::{AllocError, Global};
 use std::fs::File;
 use std::io::{ErrorKind, Read, Write};
@@ -16,6 +19,8 @@ pub struct JournalFile {
     path: String,
     file: File,
     len: u64,
+    /// The records that are in the file, on the device.
+    written: Past<JournalRecord>,
 }
 
 /// Returns what the file of a journal has; `None` if there is none.
@@ -62,7 +67,9 @@ impl JournalFile {
         rt: &HostRuntime,
         path: &str,
         records: &[JournalRecord],
-    ) -> Result<JournalFile, LockError> {
+    ) -> Result<JournalFile, LockError>
+        ensures { IfOk result (λ journal. journal.written ≡ records.now) }
+    {
         let part = format!(in rt.alloc(); "{path}.new").map_err(out_of_memory)?;
         let path = String::from_str(rt.alloc(), path).map_err(out_of_memory)?;
         let batch = batch_of(rt.alloc(), records).map_err(out_of_memory)?;
@@ -74,7 +81,8 @@ impl JournalFile {
         fs::rename(rt, part.as_str(), path.as_str())?;
         sync_folder_of(rt, path.as_str())?;
         let len = batch.len() as u64;
-        Ok(JournalFile { path, file, len })
+        let written = Past::of(records);
+        Ok(JournalFile { path, file, len, written })
     }
 
     /// Returns how many octets it has.
@@ -87,11 +95,15 @@ impl JournalFile {
     /// # Errors
     ///
     /// What the system says. The batch may be there in part: nothing must be appended after it.
-    pub fn append(&mut self, alloc: Global, records: &[JournalRecord]) -> io::Result<()> {
+    pub fn append(&mut self, alloc: Global, records: &[JournalRecord]) -> io::Result<()>
+        ensures ok { OnOk result (self.new.written ≡ self.old.written ++ records.now) }
+        ensures err { OnErr result (self.new.written ≡ self.old.written) }
+    {
         let batch = batch_of(alloc, records)?;
         self.file.write_all(batch.as_slice())?;
         self.file.sync_data()?;
         self.len = self.len.saturating_add(batch.len() as u64);
+        self.written.put_all(records);
         Ok(())
     }
 

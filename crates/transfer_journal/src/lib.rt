@@ -24,6 +24,7 @@ mod ranges;
 mod reading;
 mod restoring;
 mod survey;
+mod table;
 
 pub use journal::{JournalSetup, TransferJournal};
 pub use journal_records::Owner;
