@@ -29,6 +29,7 @@ pub mod PutNumbers
 pub mod Routes
 pub mod Sparing
 pub mod Spelled
+mod Found
 pub mod Turns
 mod Walked
 pub mod CallerLemmas

@@ -4,7 +4,7 @@ use Rattle.cfdp_header.specs.Files.{FileMap}
 use Rattle.cfdp_directives.specs.declared.pdu.addressing.Addressing.{Addressing}
 use Rattle.cfdp_directives.specs.Pdu.Codes.{is_large}
 use Rattle.cfdp_directives.specs.Pdu.Content.{Content}
-use Rattle.cfdp_store.specs.declared.stored.Stored.TheVariants.{Done}
+use Rattle.cfdp_store.specs.declared.stored.Stored.TheVariants.{Done, Refused}
 use Rattle.cfdp_store.specs.Files.{octets_in}
 use Rattle.cfdp_sender.specs.State.{SenderState}
 use Rattle.cfdp_sender.specs.Due.{sender_due}
@@ -15,9 +15,9 @@ use Rattle.cfdp_receiver.specs.declared.due.Due.{Due}
 use Rattle.cfdp_entity.specs.Entity.{EntityState, own_id}
 use Rattle.cfdp_entity.specs.declared.polled.Rooms.{Rooms}
 use Rattle.cfdp_entity.specs.declared.record.Gave.{Gave}
-use Rattle.cfdp_entity.specs.declared.record.Gave.TheVariants.{Octets}
+use Rattle.cfdp_entity.specs.declared.record.Gave.TheVariants.{Octets, Failed}
 use Rattle.cfdp_entity.specs.Gives.{Gives, Writes, stored_by_gave}
-use Rattle.cfdp_entity.specs.Polling.{turn, turn_by, turn_data, turn_len, turn_octets, turn_room, room_in, served, Turn, Place, MovesPdu}
+use Rattle.cfdp_entity.specs.Polling.{turn, turn_by, turn_data, turn_len, turn_octets, turn_room, room_in, served, Turn, Place, MovesPdu, LosesPdu}
 use Rattle.cfdp_entity.specs.Seen.{Seen, Sends, Receives, is_due, due_len, sender_content, receiver_content, len_of}
 use Rattle.cfdp_entity.specs.Sound.{SpellsTurn}
 use Rattle.cfdp_entity.specs.Spelled.{EntryIsSpelled}
@@ -93,3 +93,13 @@ module _ (rooms : Rooms) (place : ℕ) (old new : EntityState) (no_stray : old.s
   moves-gave gave n is_data out out_now is type fits state gives =
       let given : Gives (due_at place old.table) (len_at place old.table) (Octets n) out out_now = subst (λ g. Gives (due_at place old.table) (len_at place old.table) g out out_now) is gives in
       moves-place n is_data out out_now type fits given.0 given.1 (state ∙ ap (λ g. served (stored_by_gave g) (Place place) old) is)
+
+  pub loses-gave : (gave : Gave) → gave ≡ Failed → len_at place old.table ≤ room_in rooms (data_at place old.table) → new ≡ served (stored_by_gave gave) (Place place) old →
+      (gave ≡ Failed → data_at place old.table ≡ true) → LosesPdu (turn_room rooms old) old new
+  loses-gave gave is fits state carries = record {
+    place = place;
+    is_next = turn-is;
+    carries = carries is;
+    fits = fits-room fits;
+    served = state ∙ ap (λ g. served (stored_by_gave g) (Place place) old) is ∙ sym (ap (λ t. served Refused t old) turn-is);
+  }

@@ -18,6 +18,7 @@ pub mod Gives
 pub mod Does
 pub mod Strays
 pub mod Sent
+pub mod Found
 pub mod Entity
 pub mod Exchanging
 pub mod Requests

@@ -22,15 +22,18 @@ ghost use Rattle.cfdp_entity.specs.declared.record.Record.TheVariants as records
 ghost use Rattle.cfdp_entity.specs.Desk.{desk_lent, on_desk, spare};
 ghost use Rattle.cfdp_entity.specs.Does.{Made, Keeps, Stays, Asked, Sent, Opens, OpensNone, Widens};
 ghost use Rattle.cfdp_entity.specs.Does.{hearing, expiring, calling, seen_as};
+ghost use Rattle.cfdp_entity.specs.Found.{found_due};
 ghost use Rattle.cfdp_entity.specs.Opening as openings;
 ghost use Rattle.cfdp_entity.specs.Opening.{begins, opens, puts, AsksInOrder, CountsBoth};
 ghost use Rattle.cfdp_entity.specs.Seen.{carries_data, due_len, seen};
 ghost use Rattle.cfdp_entity.specs.Storing.{AsksCalled, AsksHeard, AsksFirst, AsksToBegin};
 ghost use Rattle.cfdp_entity.specs.Whole.{MayStep};
 
+use crate::due::RecordDue;
 use crate::opening::{Opened, closing};
 use crate::record::{
-    Gave, Record, ask_receiver, ask_sender, receiver_hears, send_of_receiver, sender_hears,
+    Gave, Record, ask_receiver, ask_sender, receiver_hears, send_of_receiver, send_of_sender,
+    sender_hears,
 };
 use crate::request::Request;
 use crate::restoring::RestoreError;
@@ -121,8 +124,10 @@ impl<O: Outbox, I: Inbox> Desk<O, I> {
     }
 
     /// Takes the PDU that is due.
-    pub(crate) fn send(&mut self, held: &mut Record, out: &mut [u8]) -> Gave
+    pub(crate) fn send(&mut self, held: &mut Record, due: &RecordDue, out: &mut [u8]) -> Gave
         requires ready { MayStep held.old (on_desk O.Outbox I.Inbox self.old) }
+        requires due { due.now
+            ≡ found_due (seen_as held.old held.old (on_desk O.Outbox I.Inbox self.old)) }
         requires fits { due_len (O.files self.old.outbox)
             (seen_as held.old held.old (on_desk O.Outbox I.Inbox self.old)) ≤ length out.old }
         // What was read is what the outbox has now.
@@ -137,14 +142,14 @@ impl<O: Outbox, I: Inbox> Desk<O, I> {
         let effects = &mut self.effects;
         match held {
             Record::Sends(sender) => {
-                match sender.take_pdu(effects, &mut self.outbox, &self.policy, out) {
+                match send_of_sender(sender, due, effects, &mut self.outbox, &self.policy, out) {
                     Taken::Nothing => Gave::Octets(0),
                     Taken::Moved(octets) => Gave::Octets(octets),
                     Taken::SourceFailed => Gave::Failed,
                 }
             }
             Record::Receives(receiver) => {
-                Gave::Octets(send_of_receiver(receiver, effects, &self.policy, out))
+                Gave::Octets(send_of_receiver(receiver, due, effects, &self.policy, out))
             }
         }
     }

@@ -11,6 +11,7 @@ mod calls;
 mod closed;
 mod config;
 mod desk;
+mod due;
 mod entity;
 mod error;
 mod exchanging;

@@ -2,6 +2,7 @@
 ghost use Rattle.std.specs.Prelude.{◌≡◌, ◌≤◌, ◌<◌, [], true, length, IfOk, OnErr, OnOk};
 ghost use Rattle.cfdp_entity.specs.declared.polled.EntityPolled.TheVariants as answers;
 ghost use Rattle.cfdp_entity.specs.Entity.{counted_lent, entity_lent};
+ghost use Rattle.cfdp_entity.specs.Found.{found_at};
 ghost use Rattle.cfdp_entity.specs.Gives.{CountsOutbox};
 ghost use Rattle.cfdp_entity.specs.Polling.{Polls, SendsAt, Shows, TakesTurn, room_in};
 ghost use Rattle.cfdp_entity.specs.Polling.{stored_by_poll, turn_room};
@@ -10,6 +11,7 @@ ghost use Rattle.cfdp_entity.specs.Spelled.{Answers, FirstIsSpelled, SpellsMoved
 ghost use Rattle.cfdp_entity.specs.Strays.{first_stray_len};
 ghost use Rattle.cfdp_entity.specs.Table.{ShowsIf, data_at, len_at};
 
+use crate::due::RecordDue;
 use crate::entity::Entity;
 use crate::record::Gave;
 use crate::sent::SentPdu;
@@ -144,18 +146,21 @@ impl<O: Outbox, I: Inbox> Entity<O, I> {
         let Some(place) = self.table.next_due(self.cursor) else {
             return Ok(EntityPolled::Nothing);
         };
-        let file_data = self.table.has_data_due(place);
-        if self.table.due_len(place) > rooms.of(file_data) {
+        let found = self.table.due_at(place);
+        let file_data = found.due.is_file_data();
+        if found.len > rooms.of(file_data) {
             return Ok(EntityPolled::Full);
         }
-        match self.send_at(place, out)? {
+        match self.send_at(place, &found.due, out)? {
             Gave::Octets(len) => Ok(EntityPolled::Moved { len, file_data }),
             Gave::Failed => Ok(EntityPolled::SourceFailed),
         }
     }
 
-    // Takes the PDU of the record at an index.
-    fn send_at(&mut self, place: usize, out: &mut [u8]) -> Result<Gave, AllocError>
+    // Takes the PDU that the record at an index has due.
+    #[tactic(auto, using(crate::proofs::Found::counts_found))]
+    fn send_at(&mut self, place: usize, due: &RecordDue, out: &mut [u8]) -> Result<Gave, AllocError>
+        requires due { due.now ≡ found_at place self.old.state.table }
         requires fits { len_at place self.old.state.table ≤ length out.old }
         requires within { place < 4096 }
         ensures sends { IfOk result (λ gave. SendsAt place gave (counted_lent self.new self.old)
@@ -164,11 +169,10 @@ impl<O: Outbox, I: Inbox> Entity<O, I> {
             self.old.state.table self.new.state.table) }
         ensures err { OnErr result ((self.new ≡ self.old) × (out.new ≡ out.old)) }
     {
-        let due = self.table.due_pdu(place);
         self.table.reserve(3)?;
-        let gave = self.table.send(place, out);
+        let gave = self.table.send(place, due, out);
         self.cursor = place + 1;
-        self.sent.count_given(gave, due);
+        self.sent.count_given(gave, due.counts_as());
         Ok(gave)
     }
 }

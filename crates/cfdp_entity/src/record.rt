@@ -1,19 +1,27 @@
 // One record of the table: the machine of its side.
-ghost use Rattle.std.specs.Prelude.{◌≡◌, ◌≤◌, Option, length, IfOk, OnOk, OnErr};
+ghost use Rattle.std.specs.Prelude.{◌≡◌, ◌≤◌, Option, length, IfOk, IfSome, OnOk, OnErr};
 ghost use Rattle.cfdp_header.specs.Files.{FileMap};
 ghost use Rattle.cfdp_header.specs.declared.value.TransactionId.{TransactionId};
+ghost use Rattle.cfdp_directives.specs.Pdu.Addressing.{written_len};
+ghost use Rattle.cfdp_directives.specs.Pdu.Codes.{is_large};
 ghost use Rattle.cfdp_directives.specs.Pdu.Content.{view};
+ghost use Rattle.cfdp_store.specs.Files.{octets_in};
+ghost use Rattle.cfdp_store.specs.Rereading.{RereadsIf};
 ghost use Rattle.cfdp_store.specs.Staged.{OctetMap};
+ghost use Rattle.cfdp_store.specs.Stores.{failures_after};
 ghost use Rattle.cfdp_timers.specs.Effects.{HasRoom};
 ghost use Rattle.cfdp_sender.specs.Does as sender_does;
+ghost use Rattle.cfdp_sender.specs.Does.{HasOwnFile};
+ghost use Rattle.cfdp_sender.specs.Due.{carries_by, sender_due, sender_says};
 ghost use Rattle.cfdp_receiver.specs.Does.{KeptAlone, MakesIn, at};
 ghost use Rattle.cfdp_receiver.specs.Due.{receiver_due};
+ghost use Rattle.cfdp_entity.specs.declared.due.RecordDue.TheVariants as dues;
+ghost use Rattle.cfdp_entity.specs.Found.{found_due};
 ghost use Rattle.cfdp_entity.specs.Refusing as refusing;
 ghost use Rattle.cfdp_entity.specs.Desk.{Staged};
 ghost use Rattle.cfdp_entity.specs.Forgetting as forgetting;
 ghost use Rattle.cfdp_entity.specs.Seen as seens;
 ghost use Rattle.cfdp_entity.specs.Seen.{seen, is_due};
-ghost use Rattle.cfdp_entity.specs.Sent.{sent_of};
 ghost use Rattle.cfdp_entity.specs.Steps.{sender_after, receiver_after, called_sender};
 ghost use Rattle.cfdp_entity.specs.Steps.{called_receiver};
 ghost use Rattle.cfdp_entity.specs.Does.{ReceiverTook, ReceiverAcks, SenderDoes, SenderKeeps};
@@ -24,13 +32,13 @@ ghost use Rattle.cfdp_entity.specs.Spelled.{SeenIsSpelled};
 ghost use Rattle.cfdp_entity.specs.Storing.{AsksCalled, AsksHeard};
 ghost use Rattle.cfdp_entity.specs.Whole.{IsReadyRecord};
 
+use crate::due::{FoundDue, RecordDue};
 use crate::error::{ForgetError, RequestError};
 use crate::request::Request;
-use crate::sent::SentPdu;
 use cfdp_directives::{Acknowledged, Outcome, Pdu, Phase, Policy};
 use cfdp_receiver::{Ending, Metadata, Receiver};
-use cfdp_sender::Sender;
-use cfdp_store::{Inbox, Stored};
+use cfdp_sender::{Sender, Taken};
+use cfdp_store::{Inbox, Outbox, Stored};
 use cfdp_timers::Effects;
 use std::alloc::AllocError;
 
@@ -63,39 +71,19 @@ impl Record {
         }
     }
 
-    /// Returns the number of octets of the PDU that is due, 0 if none is.
-    pub(crate) fn due_len(&self) -> usize
+    /// Returns what is due.
+    pub(crate) fn due(&self) -> FoundDue
+        ensures due { (staged : Option OctetMap) → result.due ≡ found_due (seen staged self.now) }
         ensures len { (staged : Staged) (sources : FileMap) (id : TransactionId) →
             IsReadyRecord staged sources id self.now
-            → result ≡ seens.due_len sources (seen (staged id) self.now) }
-        ensures short { result ≤ longest_pdu }
+            → result.len ≡ seens.due_len sources (seen (staged id) self.now) }
+        ensures short { result.len ≤ longest_pdu }
         ensures spelled { (staged : Option OctetMap) (sources : FileMap) →
             SeenIsSpelled sources (seen staged self.now) }
     {
         match self {
-            Record::Sends(sender) => sender.due().unwrap_or(0),
-            Record::Receives(receiver) => receiver.due().unwrap_or(0),
-        }
-    }
-
-    /// Returns `true` if the PDU that is due is file data.
-    pub(crate) fn has_data_due(&self) -> bool
-        ensures { (staged : Option OctetMap) →
-            result ≡ seens.carries_data (seen staged self.now) }
-    {
-        match self {
-            Record::Sends(sender) => sender.has_data_due(),
-            Record::Receives(_) => false,
-        }
-    }
-
-    /// Returns what the PDU that is due counts as, once it is sent.
-    pub(crate) fn due_pdu(&self) -> Option<SentPdu>
-        ensures { (staged : Option OctetMap) → result ≡ sent_of (seen staged self.now) }
-    {
-        match self {
-            Record::Sends(sender) => Some(SentPdu::of_sender(sender.next_due()?)),
-            Record::Receives(receiver) => Some(SentPdu::of_receiver(receiver.next_due()?)),
+            Record::Sends(sender) => due_of_sender(sender),
+            Record::Receives(receiver) => due_of_receiver(receiver),
         }
     }
 
@@ -153,6 +141,47 @@ impl Record {
             Record::Sends(sender) => refusal_at_sender(sender, request),
             Record::Receives(receiver) => refusal_at_receiver(receiver, request),
         }
+    }
+}
+
+// Returns what a sender has due.
+fn due_of_sender(sender: &Sender) -> FoundDue
+    ensures due { result.due ≡ dues.Sends (sender_due sender.now) }
+    ensures len { (sources : FileMap) → HasOwnFile sources sender.now
+        → result.len ≡ seens.due_len sources (seens.Sends sender.now) }
+    ensures short { result.len ≤ longest_pdu }
+    ensures spelled { (sources : FileMap) → SeenIsSpelled sources (seens.Sends sender.now) }
+{
+    match sender.next_due() {
+        Some(due) => FoundDue {
+            due: RecordDue::Sends(Some(due)),
+            len: sender.len_of(&due),
+        },
+        None => FoundDue {
+            due: RecordDue::Sends(None),
+            len: 0,
+        },
+    }
+}
+
+// Returns what a receiver has due.
+fn due_of_receiver(receiver: &Receiver) -> FoundDue
+    ensures due { result.due ≡ dues.Receives (receiver_due receiver.now) }
+    ensures len { (sources : FileMap) (m : OctetMap) →
+        result.len ≡ seens.due_len sources (seens.Receives receiver.now m) }
+    ensures short { result.len ≤ longest_pdu }
+    ensures spelled { (sources : FileMap) (m : OctetMap) →
+        SeenIsSpelled sources (seens.Receives receiver.now m) }
+{
+    match receiver.next_due() {
+        Some(due) => FoundDue {
+            due: RecordDue::Receives(Some(due)),
+            len: receiver.len_of(&due),
+        },
+        None => FoundDue {
+            due: RecordDue::Receives(None),
+            len: 0,
+        },
     }
 }
 
@@ -321,13 +350,45 @@ fn receiver_hears_ack(
     }
 }
 
+/// Writes the PDU that a sender has due.
+pub(crate) fn send_of_sender<O: Outbox>(
+    sender: &mut Sender,
+    due: &RecordDue,
+    effects: &mut Effects,
+    outbox: &mut O,
+    policy: &Policy,
+    out: &mut [u8],
+) -> Taken
+    requires due { due.now ≡ dues.Sends (sender_due sender.old) }
+    requires room { HasRoom sender.old.addressing.id effects.old }
+    requires file { HasOwnFile (O.files outbox.old) sender.old }
+    requires fits { let file = octets_in (O.files outbox.old) sender.old.source in
+        IfSome (sender_due sender.old)
+        (λ d. written_len sender.old.addressing (is_large sender.old.size)
+        (sender_says file sender.old d) ≤ length out.old) }
+    ensures takes { sender_does.Takes policy.now.times
+        (octets_in (O.files outbox.new) sender.old.source) (sender_due sender.old) result
+        sender.old sender.new effects.old effects.new out.old out.new }
+    ensures rereads { RereadsIf (carries_by (sender_due sender.old)) (O.stands outbox.old)
+        (O.stands outbox.new) (O.files outbox.old) (O.files outbox.new) }
+    ensures failures { O.failures outbox.new
+        ≡ failures_after (O.failures outbox.old) (sender_does.was_given result) }
+{
+    match due {
+        RecordDue::Sends(Some(due)) => sender.take_due(due, effects, outbox, policy, out),
+        RecordDue::Sends(None) | RecordDue::Receives(_) => Taken::Nothing,
+    }
+}
+
 /// Writes the PDU that a receiver has due.
 pub(crate) fn send_of_receiver(
     receiver: &mut Receiver,
+    due: &RecordDue,
     effects: &mut Effects,
     policy: &Policy,
     out: &mut [u8],
 ) -> usize
+    requires due { due.now ≡ dues.Receives (receiver_due receiver.old) }
     requires room { HasRoom receiver.old.addressing.id effects.old }
     requires fits { seens.len_of receiver.old.large receiver.old.addressing
         (seens.receiver_content receiver.old (receiver_due receiver.old)) ≤ length out.old }
@@ -335,10 +396,10 @@ pub(crate) fn send_of_receiver(
         receiver.new effects.old effects.new result out.old out.new }
     ensures kept { KeptAlone receiver.old receiver.new }
 {
-    if !receiver.is_due() {
-        return 0;
+    match due {
+        RecordDue::Receives(Some(due)) => receiver.take_due(due, effects, policy, out),
+        RecordDue::Receives(None) | RecordDue::Sends(_) => 0,
     }
-    receiver.take_pdu(effects, policy, out)
 }
 
 /// Does a request of a sender.

@@ -30,6 +30,7 @@ ghost use Rattle.cfdp_receiver.specs.Back as receiver_back;
 ghost use Rattle.cfdp_entity.specs.Exchanging.{table_told_by};
 ghost use Rattle.cfdp_entity.specs.Adding.{AddsSource, RefusesToAdd, with_source};
 ghost use Rattle.cfdp_entity.specs.Refusing as refusing;
+ghost use Rattle.cfdp_entity.specs.Found.{found_at, is_data};
 ghost use Rattle.cfdp_entity.specs.Forgetting as forgetting;
 ghost use Rattle.cfdp_entity.specs.Forgetting.{left_at, over_in, without_file};
 ghost use Rattle.cfdp_entity.specs.Looking.{IsSent, IsUnsent, Looks, LooksAnew, sends_at};
@@ -42,7 +43,6 @@ ghost use Rattle.cfdp_entity.specs.Sound.{longest_pdu};
 ghost use Rattle.cfdp_entity.specs.Spelled.{EntryIsSpelled};
 ghost use Rattle.cfdp_entity.specs.Storing.{AsksToHear, AsksToRequest, AsksToExpire, AsksByTimer};
 ghost use Rattle.cfdp_entity.specs.Storing.{AsksToFire, AsksToTick, AsksToOpen};
-ghost use Rattle.cfdp_entity.specs.Sent.{sent_at};
 ghost use Rattle.cfdp_entity.specs.Walking.{phases_of};
 ghost use Rattle.cfdp_entity.specs.Table as tables;
 ghost use Rattle.cfdp_entity.specs.Table.{next_told, without_told, heard_at, expired_at, called_at};
@@ -51,13 +51,13 @@ ghost use Rattle.cfdp_entity.specs.Table.{first_table, all_expired, at_time, Tic
 ghost use Rattle.cfdp_entity.specs.Table.{progress_in, standing, ShowsIf};
 
 use crate::desk::Desk;
+use crate::due::{FoundDue, RecordDue};
 use crate::error::{AddError, ForgetError, RemoveError, RequestError};
 use crate::opening::{MOST_TOLD, Opened};
 use crate::ready::Ready;
 use crate::record::{Gave, Record};
 use crate::request::Request;
 use crate::restoring::RestoreError;
-use crate::sent::SentPdu;
 use crate::transactions::Transactions;
 use cfdp_directives::{Addressing, ChecksumKind, Checksums, Indication, Pdu, Phase, Policy};
 use cfdp_extents::Extents;
@@ -206,36 +206,21 @@ impl<O: Outbox, I: Inbox> Table<O, I> {
         self.ready.next(from)
     }
 
-    /// Returns the number of octets of the PDU that the record at an index has due.
-    pub fn due_len(&self, place: usize) -> usize
-        ensures len { result ≡ len_at place self.now.state }
-        ensures short { result ≤ longest_pdu }
+    /// Returns what the record at an index has due.
+    pub fn due_at(&self, place: usize) -> FoundDue
+        ensures due { result.due ≡ found_at place self.now.state }
+        ensures data { is_data result.due ≡ data_at place self.now.state }
+        ensures len { result.len ≡ len_at place self.now.state }
+        ensures short { result.len ≤ longest_pdu }
         ensures spelled { (sources : FileMap) → EntryIsSpelled sources
             (slice_get self.now.state.records place) }
     {
         match self.records.get_index(place) {
-            Some((_, held)) => held.due_len(),
-            None => 0,
-        }
-    }
-
-    /// Returns `true` if the PDU that the record at an index has due is file data.
-    pub fn has_data_due(&self, place: usize) -> bool
-        ensures { result ≡ data_at place self.now.state }
-    {
-        match self.records.get_index(place) {
-            Some((_, held)) => held.has_data_due(),
-            None => false,
-        }
-    }
-
-    /// Returns what the PDU that the record at an index has due counts as, once it is sent.
-    pub fn due_pdu(&self, place: usize) -> Option<SentPdu>
-        ensures { result ≡ sent_at place self.now.state }
-    {
-        match self.records.get_index(place) {
-            Some((_, held)) => held.due_pdu(),
-            None => None,
+            Some((_, held)) => held.due(),
+            None => FoundDue {
+                due: RecordDue::Sends(None),
+                len: 0,
+            },
         }
     }
 
@@ -382,9 +367,10 @@ impl<O: Outbox, I: Inbox> Table<O, I> {
         }
     }
 
-    /// Takes the PDU of the record at an index.
-    pub fn send(&mut self, place: usize, out: &mut [u8]) -> Gave
+    /// Takes the PDU that the record at an index has due.
+    pub fn send(&mut self, place: usize, due: &RecordDue, out: &mut [u8]) -> Gave
         requires room { 3 ≤ self.old.spare }
+        requires due { due.now ≡ found_at place self.old.state }
         requires fits { len_at place self.old.state ≤ length out.old }
         ensures sends { SendsFrom place result (roomy_lent self.new self.old) self.new out.old
             out.new }
@@ -392,7 +378,7 @@ impl<O: Outbox, I: Inbox> Table<O, I> {
     {
         match self.records.get_index_mut(place) {
             Some(held) => {
-                let gave = self.desk.send(held, out);
+                let gave = self.desk.send(held, due, out);
                 self.ready.set(place, held.is_due());
                 gave
             }

@@ -19,3 +19,4 @@ pub mod Chains
 pub mod ReadOff
 pub mod Limited
 mod ReadAnew
+mod Writable

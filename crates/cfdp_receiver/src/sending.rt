@@ -59,11 +59,34 @@ impl Receiver {
         ensures told { effects.new.told ≡ effects.old.told }
         ensures kept { KeptAlone self.old self.new }
     {
-        let Some(due) = self.next_due() else {
-            return 0;
-        };
-        let len = self.send(&due, out);
-        self.set_timers(&mut effects.timers, policy, anew_once_taken(&due));
+        match self.next_due() {
+            Some(due) => self.take_due(&due, effects, policy, out),
+            None => 0,
+        }
+    }
+
+    /// Writes the PDU that is due, which [`next_due`](Self::next_due) found: what
+    /// [`take_pdu`](Self::take_pdu) does, without finding it again.
+    pub fn take_due(
+        &mut self,
+        due: &Due,
+        effects: &mut Effects,
+        policy: &Policy,
+        out: &mut [u8],
+    ) -> usize
+        requires timers { set.contains effects.old.timers.roomy self.old.addressing.id ≡ true }
+        requires due { receiver_due self.old ≡ Some due.now }
+        requires fits { said_len self.old due.now ≤ length out.old }
+        ensures writes { Writes self.old due.now result out.old out.new }
+        ensures does { DoesAlone policy.now.times (takes due.now) self.old self.new effects.old
+            effects.new }
+        ensures told { effects.new.told ≡ effects.old.told }
+        ensures kept { KeptAlone self.old self.new }
+    {
+        // For the prover: the invariant.
+        let _large = self.large;
+        let len = self.send(due, out);
+        self.set_timers(&mut effects.timers, policy, anew_once_taken(due));
         len
     }
 
@@ -114,8 +137,9 @@ impl Receiver {
         }
     }
 
-    /// Returns the number of octets of the PDU, its header and its CRC too.
-    fn len_of(&self, due: &Due) -> usize
+    /// Returns the number of octets of a PDU, its header and its CRC too: of the one that is due,
+    /// what [`due`](Self::due) answers, without finding it again.
+    pub fn len_of(&self, due: &Due) -> usize
         requires { IsWritableIn self.now due.now }
         ensures { IsLenOf self.now due.now result }
     {

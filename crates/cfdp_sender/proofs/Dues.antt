@@ -1,5 +1,5 @@
 -- Exported: what holds of a PDU that is due, and that it can be written.
-use Rattle.std.proofs.Common.{◌≡◌, ℕ, zero, suc, ◌+◌, ◌-◌, ◌^◌, ◌<◌, ◌≤◌, ◌||◌, not, min, Bool, true, false, List, [], ◌∷◌, length, take, drop, Option, Some, None, IfSome, nat_lt, if◌then◌else◌, lit<, refl, sym, ap, subst, ◌∙◌, arith, ◌==◌, add-zero, ◌⊎◌, inl, inr}
+use Rattle.std.proofs.Common.{◌≡◌, ℕ, zero, suc, ◌+◌, ◌-◌, ◌^◌, ◌<◌, ◌≤◌, ◌||◌, not, min, Bool, true, false, List, [], ◌∷◌, length, take, drop, Option, Some, None, IfSome, nat_lt, if◌then◌else◌, lit<, refl, sym, ap, subst, ◌∙◌, arith, add-zero, ◌⊎◌, inl, inr}
 use Rattle.std.specs.Cmp.{nat_cmp_total}
 use Rattle.std.specs.FinSet as set
 use Rattle.std.specs.List.{flat_map}
@@ -231,15 +231,21 @@ data-segment x d start end s is (inr e) = subst (CarriesSegment x) e (carries-se
 pub fits-short : (x : SenderState) (d : SenderDue) (bytes : List ℕ) → IsSender x → sender_due x ≡ Some d → length bytes ≤ 4096 → Fits x d bytes
 fits-short x d bytes s is le = due-fits x d bytes s (due-is x d is) le
 
+-- the length of a PDU that is due
+pub len-of-due : (x : SenderState) (d : SenderDue) (file : List ℕ) (start len r : ℕ) (v : Content) → v ≡ pdu_says [] x d → r ≡ written_len x.addressing (is_large x.size) v
+    → carried file d ≡ take len (drop start file) → length file ≡ x.size → start + len ≤ x.size → r + len ≡ written_len x.addressing (is_large x.size) (sender_says file x d)
+len-of-due x d file start len r v says written part whole within =
+    let add = says-len x d file in
+    let same : length (carried file d) ≡ len = extent-len file (carried file d) start len x.size part whole within in
+    let content : content_len (file_size_octets (is_large x.size)) v ≡ content_len (file_size_octets (is_large x.size)) (pdu_says [] x d) = ap (content_len (file_size_octets
+    (is_large x.size))) says in
+    omega (arith, add, same, content, written)
+
 -- the length that `due` answers
 pub due-len : (x : SenderState) (d : SenderDue) (file : List ℕ) (start len r : ℕ) (v : Content)
     → sender_due x ≡ Some d → v ≡ pdu_says [] x d → r ≡ written_len x.addressing (is_large x.size) v
     → carried file d ≡ take len (drop start file) → length file ≡ x.size → start + len ≤ x.size
     → Some (r + len) ≡ option_map (λ d. written_len x.addressing (is_large x.size) (sender_says file x d)) (sender_due x)
 due-len x d file start len r v is says written part whole within =
-    let add = says-len x d file in
-    let same : length (carried file d) ≡ len = extent-len file (carried file d) start len x.size part whole within in
-    let content : content_len (file_size_octets (is_large x.size)) v ≡ content_len (file_size_octets (is_large x.size)) (pdu_says [] x d) = ap (content_len (file_size_octets
-    (is_large x.size))) says in
-    let total : r + len ≡ written_len x.addressing (is_large x.size) (sender_says file x d) = omega (arith, add, same, content, written) in
-    ap Some total ∙ ap (option_map (λ d. written_len x.addressing (is_large x.size) (sender_says file x d))) (sym is)
+    ap Some (len-of-due x d file start len r v says written part whole within)
+    ∙ ap (option_map (λ d. written_len x.addressing (is_large x.size) (sender_says file x d))) (sym is)

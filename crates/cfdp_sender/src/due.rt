@@ -29,6 +29,21 @@ pub enum SenderDue {
     Eof,
 }
 
+impl SenderDue {
+    /// Returns `true` if it is file data; all others are directives.
+    pub fn is_file_data(&self) -> bool
+        ensures { result ≡ carries self.now }
+    {
+        match self {
+            SenderDue::AskedData(_, _) | SenderDue::NewData(_, _) => true,
+            SenderDue::AckOfFinished(_)
+            | SenderDue::Prompt(_)
+            | SenderDue::Metadata
+            | SenderDue::Eof => false,
+        }
+    }
+}
+
 impl Sender {
     /// Returns the number of octets of the PDU that is due, its header and its CRC too: of what
     /// `take_pdu` would write now. Returns `None` if none is due, for example if the transaction is
@@ -44,12 +59,26 @@ impl Sender {
             ≡ option_map (λ d. written_len self.now.addressing (codes.is_large self.now.size)
             (sender_says file self.now d)) (sender_due self.now) }
     {
+        let due = self.next_due()?;
+        Some(self.len_of(&due))
+    }
+
+    /// Returns the number of octets of the PDU that is due, which [`next_due`](Self::next_due)
+    /// found: what [`due`](Self::due) would answer, without finding it again.
+    pub fn len_of(&self, due: &SenderDue) -> usize
+        requires { sender_due self.now ≡ Some due.now }
+        ensures short { result ≤ 4134 }
+        ensures can_write { (file : List ℕ) → let v = sender_says file self.now due.now in
+            CanWrite (header_of self.now.addressing (codes.is_large self.now.size) v) v }
+        ensures len { (file : List ℕ) → length file ≡ self.now.size → result
+            ≡ written_len self.now.addressing (codes.is_large self.now.size)
+            (sender_says file self.now due.now) }
+    {
         // For the prover: the invariant.
         let _size = self.size;
-        let due = self.next_due()?;
-        let (_, carried) = self.extent(&due);
+        let (_, carried) = self.extent(due);
         let large = self.is_large();
-        Some(self.addressing.written_len(large, &self.says(&due)) + carried)
+        self.addressing.written_len(large, &self.says(due)) + carried
     }
 
     /// Returns `true` if a PDU is due, that is if [`due`](Self::due) answers a length, which costs
@@ -65,14 +94,8 @@ impl Sender {
         ensures { result ≡ carries_by (sender_due self.now) }
     {
         match self.next_due() {
-            Some(SenderDue::AskedData(_, _) | SenderDue::NewData(_, _)) => true,
-            Some(
-                SenderDue::AckOfFinished(_)
-                | SenderDue::Prompt(_)
-                | SenderDue::Metadata
-                | SenderDue::Eof,
-            )
-            | None => false,
+            Some(due) => due.is_file_data(),
+            None => false,
         }
     }
 

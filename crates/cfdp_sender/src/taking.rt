@@ -62,12 +62,40 @@ impl Sender {
         ensures calls { Reads O.steps self.old (sender_due self.old) (was_given result)
             outbox.old outbox.new }
     {
+        match self.next_due() {
+            Some(due) => self.take_due(&due, effects, outbox, policy, out),
+            None => Taken::Nothing,
+        }
+    }
+
+    /// Sends the PDU that is due, which [`next_due`](Self::next_due) found: what
+    /// [`take_pdu`](Self::take_pdu) does, without finding it again.
+    pub fn take_due<O: Outbox>(
+        &mut self,
+        due: &SenderDue,
+        effects: &mut Effects,
+        outbox: &mut O,
+        policy: &Policy,
+        out: &mut [u8],
+    ) -> Taken
+        requires due { sender_due self.old ≡ Some due.now }
+        requires room { HasRoom self.old.addressing.id effects.old }
+        requires file { HasOwnFile (O.files outbox.old) self.old }
+        requires fits { let file = octets_in (O.files outbox.old) self.old.source in
+            written_len self.old.addressing (codes.is_large self.old.size)
+            (sender_says file self.old due.now) ≤ length out.old }
+        ensures takes { Takes policy.now.times (octets_in (O.files outbox.new) self.old.source)
+            (sender_due self.old) result self.old self.new effects.old effects.new out.old out.new }
+        ensures rereads { RereadsIf (carries_by (sender_due self.old)) (O.stands outbox.old)
+            (O.stands outbox.new) (O.files outbox.old) (O.files outbox.new) }
+        ensures failures { O.failures outbox.new
+            ≡ failures_after (O.failures outbox.old) (was_given result) }
+        ensures calls { Reads O.steps self.old (sender_due self.old) (was_given result)
+            outbox.old outbox.new }
+    {
         // For the prover: the invariant.
         let _size = self.size;
-        let Some(due) = self.next_due() else {
-            return Taken::Nothing;
-        };
-        let len = match self.write_due(outbox, &due, out) {
+        let len = match self.write_due(outbox, due, out) {
             Ok(len) => len,
             Err(_) => {
                 self.lose_source(&mut effects.told);
@@ -75,9 +103,9 @@ impl Sender {
                 return Taken::SourceFailed;
             }
         };
-        let (_, carried) = self.extent(&due);
+        let (_, carried) = self.extent(due);
         let end = len - self.crc_len();
-        let anew = self.note_sent(&due, &out[end - carried..end], &mut effects.told);
+        let anew = self.note_sent(due, &out[end - carried..end], &mut effects.told);
         self.set_timers(anew, &mut effects.timers, &policy.times);
         Taken::Moved(len)
     }

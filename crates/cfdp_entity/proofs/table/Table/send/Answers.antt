@@ -6,6 +6,7 @@ use Rattle.cfdp_entity.specs.Desk.{desk_lent, on_desk}
 use Rattle.cfdp_entity.specs.Roomy.{Roomy}
 use Rattle.cfdp_entity.specs.Whole.{id_of}
 use Rattle.cfdp_entity.specs.Does.{taking}
+use Rattle.cfdp_entity.specs.Found.{found_at, found_in}
 use Rattle.cfdp_entity.specs.declared.record.Gave.TheVariants.{Octets}
 use Rattle.cfdp_entity.specs.Gives.{Gives, CountsOutbox, stored_by_gave}
 use Rattle.cfdp_entity.specs.Table.{taken_at, len_at, data_at, len_due, octets_due, data_due}
@@ -39,6 +40,11 @@ send-gave-requires-clause-fits g c = subst (λ n. n ≤ length c.args.out.now)
     (ap (λ (v : Roomy). len_at c.args.place v.state) (sym c.self.view_is) ∙ ap (len_due (g.O.Outbox.files c.self.inside.desk.outbox))
     (here c.self.inside.gone (on_desk g.O.Outbox g.I.Inbox c.self.inside.desk) c.self.inside.records.entries c.self.inside.ready c.args.place c.self.invariant c.in-Some.held.now (sym c.in-Some.ensures.value)))
     c.requires.fits
+
+pub send-gave-requires-clause-due : goal.send-gave-requires-clause-due
+send-gave-requires-clause-due g c = c.requires.due ∙ ap (λ (v : Roomy). found_at c.args.place v.state) (sym c.self.view_is)
+    ∙ ap found_in (here c.self.inside.gone (on_desk g.O.Outbox g.I.Inbox c.self.inside.desk) c.self.inside.records.entries c.self.inside.ready c.args.place c.self.invariant c.in-Some.held.now
+    (sym c.in-Some.ensures.value))
 
 pub returns-in-Some-clause-sends : goal.returns-in-Some-clause-sends
 returns-in-Some-clause-sends g c =
