@@ -1,17 +1,18 @@
 -- A turn with what the files to send have, in the place of what the outbox has: the same turn, in which the files stand.
-use Rattle.std.proofs.Common.{◌≡◌, ◌⊎◌, ◌<◌, ℕ, zero, suc, Bool, true, false, not, List, [], ◌∷◌, ◌++◌, Option, Some, None, Result, Ok, Err, length, slice_get, refl, sym, ap, subst, ◌∙◌, inl, inr}
+use Rattle.std.proofs.Common.{◌≡◌, ◌⊎◌, ◌<◌, ℕ, zero, suc, Bool, true, false, List, [], ◌∷◌, ◌++◌, Option, Some, None, Result, Ok, Err, length, slice_get, refl, sym, ap, subst, ◌∙◌, inl, inr}
 use Rattle.aos_frame.specs.declared.config.Lane.{Lane}
 use Rattle.aos_frame.specs.declared.config.Lane.TheVariants.{Directives, Data}
 use Rattle.aos_frame.specs.declared.config.LinkConfig.{LinkConfig}
 use Rattle.cfdp_header.specs.Files.{FileMap}
 use Rattle.cfdp_entity.specs.Entity.{Counted, EntityState}
 use Rattle.cfdp_station.specs.Station.{StationState}
-use Rattle.cfdp_station.specs.Transmitting.{FillsUp, IsMore, MovesMore, Times}
+use Rattle.cfdp_station.specs.Transmitting.{EndsPolls, FillsUp, IsMore, MovesMore, Pulls, Times}
+use Rattle.cfdp_station.specs.declared.pumping.Until.TheVariants.{Frame}
 use Rattle.cfdp_station.specs.declared.polled.Polled.{Polled}
 use Rattle.cfdp_station.specs.declared.polled.Polled.TheVariants.{Moved, Nothing, Full, SourceFailed}
 use Rattle.cfdp_port.specs.Calls.{WireCall}
 use Rattle.cfdp_port.specs.Passing.{frames_came, what_came}
-use Rattle.cfdp_port.specs.PeerTurn.{EndsPolls, Pulls, SendsNext, SendsNone, SendsSome, SendsSomeInPart}
+use Rattle.cfdp_port.specs.PeerTurn.{SendsNext, SendsNone, SendsSome, SendsSomeInPart}
 use Rattle.cfdp_port.specs.Port.{PortState, port_state, table_of}
 use Rattle.cfdp_port.specs.Turn.{Asks, AsksOn, HearsAll, SendsFrame, TakesWhat, TellsTime}
 use Rattle.cfdp_port.specs.declared.wire.WireFault.{WireFault}
@@ -53,17 +54,17 @@ module _ (files : FileMap) where
   none_read Full a b none = tt
   none_read SourceFailed a b none = tt
 
-  moved_so : (count : ℕ) (a b : StationState) (times : Times MovesMore count a b) → PollsRead files count a b times → Long a → Step (Times MovesMore count) a b
+  moved_so : (count : ℕ) (a b : StationState) (times : Times (MovesMore Frame) count a b) → PollsRead files count a b times → Long a → Step (Times (MovesMore Frame) count) a b
   moved_so zero a b same reads long = record { is = ap st same; long = subst Long (sym same) long }
   moved_so (suc count) a b (mid, before, step) reads long =
-      let first : Step (Times MovesMore count) a mid = moved_so count a mid before reads.0 long in
+      let first : Step (Times (MovesMore Frame) count) a mid = moved_so count a mid before reads.0 long in
       let one = step.1.2 in
       record {
         is = (st mid, first.is, (step.0, (step.1.0, step.1.1, poll_sending files mid b step.1.0 one first.long reads.1)));
         long = poll_long files mid b step.1.0 one first.long;
       }
 
-  ended_so : (rests : Bool) (count : ℕ) (a b : StationState) → EndsPolls rests count a b → Long a → Step (EndsPolls rests count) a b
+  ended_so : (rests : Bool) (count : ℕ) (a b : StationState) → EndsPolls Frame 16 rests count a b → Long a → Step (EndsPolls Frame 16 rests count) a b
   ended_so true count a b (few, none) long =
       let answer : Polled = none.1.0 in
       let one = none.1.2 in
@@ -73,21 +74,21 @@ module _ (files : FileMap) where
       }
   ended_so false count a b (ends, same) long = record { is = (ends, ap st same); long = subst Long (sym same) long }
 
-  filled_so : (whole : Bool) (a b : StationState) → FillsUp whole a b → Long a → Step (FillsUp whole) a b
+  filled_so : (rests : Bool) (a b : StationState) → FillsUp rests a b → Long a → Step (FillsUp rests) a b
   filled_so true a b f long = record {
-    is = record { fills = f.fills; file_data = f.file_data; packet_count = f.packet_count; keeps = (ap (counted_sending files) f.keeps.0, f.keeps.1) };
-    long = long_same a b (ap (λ (e : Counted). e.state.table.sources) f.keeps.0) long;
-  }
-  filled_so false a b f long = record {
     is = (f.0, (ap (counted_sending files) f.1.0, f.1.1));
     long = long_same a b (ap (λ (e : Counted). e.state.table.sources) f.1.0) long;
   }
+  filled_so false a b f long = record {
+    is = record { fills = f.fills; file_data = f.file_data; packet_count = f.packet_count; keeps = (ap (counted_sending files) f.keeps.0, f.keeps.1) };
+    long = long_same a b (ap (λ (e : Counted). e.state.table.sources) f.keeps.0) long;
+  }
 
-  pull_so : (a b : StationState) (p : Pulls a b) → PollsRead files p.polls.count a p.polls.last p.polls.moved → Long a → Step Pulls a b
+  pull_so : (a b : StationState) (p : Pulls 16 a b) → PollsRead files p.polls.count a p.polls.last p.polls.moved → Long a → Step (Pulls 16) a b
   pull_so a b p reads long =
-      let m : Step (Times MovesMore p.polls.count) a p.polls.last = moved_so p.polls.count a p.polls.last p.polls.moved reads long in
-      let e : Step (EndsPolls p.rests p.polls.count) p.polls.last p.polled = ended_so p.rests p.polls.count p.polls.last p.polled p.polls.ends m.long in
-      let f : Step (FillsUp (not p.rests)) p.polled b = filled_so (not p.rests) p.polled b p.fills e.long in
+      let m : Step (Times (MovesMore Frame) p.polls.count) a p.polls.last = moved_so p.polls.count a p.polls.last p.polls.moved reads long in
+      let e : Step (EndsPolls Frame 16 p.rests p.polls.count) p.polls.last p.polled = ended_so p.rests p.polls.count p.polls.last p.polled p.polls.ends m.long in
+      let f : Step (FillsUp p.rests) p.polled b = filled_so p.rests p.polled b p.fills e.long in
       record {
         is = record {
           rests = p.rests;
@@ -144,7 +145,7 @@ module _ (files : FileMap) where
     sent_so zero p q same reads long = record { is = ap pt same; long = subst (λ (x : PortState W). Long x.station) (sym same) long; same = λ life. refl }
     sent_so (suc count) p q (mid, before, step) reads long =
         let first : Sent count p mid before = sent_so count p mid before reads.0 long in
-        let pulls : Step Pulls mid.station step.pulled = pull_so mid.station step.pulled step.pulls reads.1 first.long in
+        let pulls : Step (Pulls 16) mid.station step.pulled = pull_so mid.station step.pulled step.pulls reads.1 first.long in
         let next : SendsNext Steps (pt mid) (pt q) = record {
           pulled = st step.pulled;
           ready = step.ready;
@@ -179,7 +180,7 @@ module _ (files : FileMap) where
 
         by : (ends : ((some.count < 64) × SendsNone Steps some.last q) ⊎ ((some.count ≡ 64) × (q ≡ some.last))) → LastRead Steps files some.count some.last q ends → SentSome p q some
         by (inl (few, none)) read =
-            let pulls : Step Pulls some.last.station q.station = pull_so some.last.station q.station none.pulls read sent.long in
+            let pulls : Step (Pulls 16) some.last.station q.station = pull_so some.last.station q.station none.pulls read sent.long in
             ended (inl (few, record { pulls = pulls.is; ends = none.ends })) pulls.long
         by (inr (all, same)) read = ended (inr (all, ap pt same)) (subst (λ (x : PortState W). Long x.station) (sym same) sent.long)
 
@@ -191,7 +192,7 @@ module _ (files : FileMap) where
     part_so : (p q : PortState W) (some : SendsSomeInPart Steps p q) → PartReads Steps files p q some → Long p.station → SentInPart p q some
     part_so p q some reads long =
         let sent : Sent some.count p some.last some.sent = sent_so some.count p some.last some.sent reads.frames long in
-        let moved : Step (Times MovesMore some.part.count) some.last.station q.station = moved_so some.part.count some.last.station q.station some.part.moved reads.ends sent.long in
+        let moved : Step (Times (MovesMore Frame) some.part.count) some.last.station q.station = moved_so some.part.count some.last.station q.station some.part.moved reads.ends sent.long in
         record {
           is = record {
             count = some.count;

@@ -1,5 +1,5 @@
 -- What is done in a turn is calls of a station.
-use Rattle.std.proofs.Common.{◌≡◌, ℕ, zero, suc, Bool, true, false, not, List, [], ◌∷◌, ◌++◌, Option, Some, None, IfSome, Result, Ok, Err, refl, sym, ap, ap₂, subst, ◌∙◌, inl, inr}
+use Rattle.std.proofs.Common.{◌≡◌, ℕ, zero, suc, Bool, true, false, List, [], ◌∷◌, ◌++◌, Option, Some, None, IfSome, Result, Ok, Err, refl, sym, ap, ap₂, subst, ◌∙◌, inl, inr}
 use Rattle.aos_frame.specs.declared.config.Lane.{Lane}
 use Rattle.aos_frame.specs.declared.config.Lane.TheVariants.{Directives, Data}
 use Rattle.aos_frame.specs.declared.config.LinkConfig.{LinkConfig}
@@ -14,11 +14,13 @@ use Rattle.cfdp_station.specs.declared.polled.Polled.{Polled}
 use Rattle.cfdp_station.specs.Polling.{Polls as IsPolled}
 use Rattle.cfdp_station.specs.Station.{StationState, station_lent}
 use Rattle.cfdp_station.specs.Taking.{TakesFrame}
-use Rattle.cfdp_station.specs.Transmitting.{FillsUp, MovesMore, PollsOnce, Times}
+use Rattle.cfdp_station.specs.Transmitting.{EndsPolls, FillsUp, MovesMore, PollsOnce, Pulls, Times}
+use Rattle.cfdp_station.specs.declared.pumping.Until.{Until}
+use Rattle.cfdp_station.specs.declared.pumping.Until.TheVariants.{Frame}
 use Rattle.cfdp_station.proofs.Lent.{polls-stood}
 use Rattle.cfdp_port.specs.Calls.{WireCall}
 use Rattle.cfdp_port.specs.Passing.{frames_came, what_came}
-use Rattle.cfdp_port.specs.PeerTurn.{EndsPolls, Pulls, SendsNext, SendsSome, SendsSomeInPart}
+use Rattle.cfdp_port.specs.PeerTurn.{SendsNext, SendsSome, SendsSomeInPart}
 use Rattle.cfdp_port.specs.Port.{PortState}
 use Rattle.cfdp_port.specs.Turn.{AsksOn, HearsAll, TakesWhat, TellsTime}
 use Rattle.cfdp_port.specs.declared.wire.WireFault.{WireFault}
@@ -103,49 +105,49 @@ module _ (laws : GoesOnLaws) (c : StationConfig) (theirs : EndKept) (puts : List
             (λ moved. subst (λ (s : StationState). SpellsTurn (turn s.entity.state) s.entity.state) lent (once.spells moved)) refl,
       )
 
-  pub moved : (k : EndKept) (count : ℕ) (a b : StationState) → Times MovesMore count a b → Stand b → MakesSome c (at a k) theirs (at b k) puts
-  moved k zero a b same stand = none_made (at a k) (at b k) (ap (λ (s : StationState). at s k) same)
-  moved k (suc count) a b (mid, before, step) stand =
+  pub moved : (until : Until) (k : EndKept) (count : ℕ) (a b : StationState) → Times (MovesMore until) count a b → Stand b → MakesSome c (at a k) theirs (at b k) puts
+  moved until k zero a b same stand = none_made (at a k) (at b k) (ap (λ (s : StationState). at s k) same)
+  moved until k (suc count) a b (mid, before, step) stand =
       let stood : Stand mid = (poll-gains laws step.1.0 mid b step.1.2).stood stand in
-      both_made (at a k) (at mid k) (at b k) (moved k count a mid before stood) (polled k step.1.0 mid b step.1.2 stand)
+      both_made (at a k) (at mid k) (at b k) (moved until k count a mid before stood) (polled k step.1.0 mid b step.1.2 stand)
 
-  moved_stood : (count : ℕ) (a b : StationState) → Times MovesMore count a b → Stand b → Stand a
-  moved_stood zero a b same stand = subst (λ (s : StationState). Stand s) same stand
-  moved_stood (suc count) a b (mid, before, step) stand = moved_stood count a mid before ((poll-gains laws step.1.0 mid b step.1.2).stood stand)
+  moved_stood : (until : Until) (count : ℕ) (a b : StationState) → Times (MovesMore until) count a b → Stand b → Stand a
+  moved_stood until zero a b same stand = subst (λ (s : StationState). Stand s) same stand
+  moved_stood until (suc count) a b (mid, before, step) stand = moved_stood until count a mid before ((poll-gains laws step.1.0 mid b step.1.2).stood stand)
 
-  ended : (k : EndKept) (rests : Bool) (count : ℕ) (a b : StationState) → EndsPolls rests count a b → Stand b → MakesSome c (at a k) theirs (at b k) puts
-  ended k true count a b ends stand = polled k ends.1.1.0 a b ends.1.1.2 stand
-  ended k false count a b ends stand = none_made (at a k) (at b k) (ap (λ (s : StationState). at s k) ends.1)
+  ended : (most : ℕ) (k : EndKept) (rests : Bool) (count : ℕ) (a b : StationState) → EndsPolls Frame most rests count a b → Stand b → MakesSome c (at a k) theirs (at b k) puts
+  ended most k true count a b ends stand = polled k ends.1.1.0 a b ends.1.1.2 stand
+  ended most k false count a b ends stand = none_made (at a k) (at b k) (ap (λ (s : StationState). at s k) ends.1)
 
-  ended_stood : (rests : Bool) (count : ℕ) (a b : StationState) → EndsPolls rests count a b → Stand b → Stand a
-  ended_stood true count a b ends stand = (poll-gains laws ends.1.1.0 a b ends.1.1.2).stood stand
-  ended_stood false count a b ends stand = subst (λ (s : StationState). Stand s) ends.1 stand
+  ended_stood : (most : ℕ) (rests : Bool) (count : ℕ) (a b : StationState) → EndsPolls Frame most rests count a b → Stand b → Stand a
+  ended_stood most true count a b ends stand = (poll-gains laws ends.1.1.0 a b ends.1.1.2).stood stand
+  ended_stood most false count a b ends stand = subst (λ (s : StationState). Stand s) ends.1 stand
 
-  pub filled : (k : EndKept) (whole : Bool) (a b : StationState) → FillsUp whole a b → MakesSome c (at a k) theirs (at b k) puts
-  filled k true a b f = (Fills Directives ∷ [], makes_fill Directives c (at a k) theirs (at b k) puts f.fills f.file_data f.keeps refl)
-  filled k false a b f =
+  pub filled : (k : EndKept) (rests : Bool) (a b : StationState) → FillsUp rests a b → MakesSome c (at a k) theirs (at b k) puts
+  filled k false a b f = (Fills Directives ∷ [], makes_fill Directives c (at a k) theirs (at b k) puts f.fills f.file_data f.keeps refl)
+  filled k true a b f =
       let mid : StationState = record a { down = record a.down { directives = b.down.directives } } in
       both_made (at a k) (at mid k) (at b k) (Fills Directives ∷ [], makes_fill Directives c (at a k) theirs (at mid k) puts (f.0.lanes Directives) refl (refl, refl) refl)
       (Fills Data ∷ [], makes_fill Data c (at mid k) theirs (at b k) puts (f.0.lanes Data) refl f.1 refl)
 
-  pub filled_same : (whole : Bool) (a b : StationState) → FillsUp whole a b → b.entity ≡ a.entity
-  filled_same true a b f = f.keeps.0
-  filled_same false a b f = f.1.0
+  pub filled_same : (rests : Bool) (a b : StationState) → FillsUp rests a b → b.entity ≡ a.entity
+  filled_same false a b f = f.keeps.0
+  filled_same true a b f = f.1.0
 
-  pull_stood : (a b : StationState) → Pulls a b → Stand b → Stand a
-  pull_stood a b pulls stand =
+  pub pull_stood : (most : ℕ) (a b : StationState) → Pulls most a b → Stand b → Stand a
+  pull_stood most a b pulls stand =
       let polls = pulls.polls in
-      moved_stood polls.count a polls.last polls.moved
-      (ended_stood pulls.rests polls.count polls.last pulls.polled polls.ends (same_stand pulls.polled b (filled_same (not pulls.rests) pulls.polled b pulls.fills) stand))
+      moved_stood Frame polls.count a polls.last polls.moved
+      (ended_stood most pulls.rests polls.count polls.last pulls.polled polls.ends (same_stand pulls.polled b (filled_same pulls.rests pulls.polled b pulls.fills) stand))
 
-  pulled : (k : EndKept) (a b : StationState) → Pulls a b → Stand b → MakesSome c (at a k) theirs (at b k) puts
-  pulled k a b pulls stand =
+  pub pulled : (most : ℕ) (k : EndKept) (a b : StationState) → Pulls most a b → Stand b → MakesSome c (at a k) theirs (at b k) puts
+  pulled most k a b pulls stand =
       let polls = pulls.polls in
-      let at_polled : Stand pulls.polled = same_stand pulls.polled b (filled_same (not pulls.rests) pulls.polled b pulls.fills) stand in
-      let at_last : Stand polls.last = ended_stood pulls.rests polls.count polls.last pulls.polled polls.ends at_polled in
-      both_made (at a k) (at polls.last k) (at b k) (moved k polls.count a polls.last polls.moved at_last)
-      (both_made (at polls.last k) (at pulls.polled k) (at b k) (ended k pulls.rests polls.count polls.last pulls.polled polls.ends at_polled)
-      (filled k (not pulls.rests) pulls.polled b pulls.fills))
+      let at_polled : Stand pulls.polled = same_stand pulls.polled b (filled_same pulls.rests pulls.polled b pulls.fills) stand in
+      let at_last : Stand polls.last = ended_stood most pulls.rests polls.count polls.last pulls.polled polls.ends at_polled in
+      both_made (at a k) (at polls.last k) (at b k) (moved Frame k polls.count a polls.last polls.moved at_last)
+      (both_made (at polls.last k) (at pulls.polled k) (at b k) (ended most k pulls.rests polls.count polls.last pulls.polled polls.ends at_polled)
+      (filled k pulls.rests pulls.polled b pulls.fills))
 
   module _ {W : Type 0} (Steps : W → WireCall → W → Type 0) where
     -- ---- frames that leave
@@ -153,14 +155,14 @@ module _ (laws : GoesOnLaws) (c : StationConfig) (theirs : EndKept) (puts : List
     next_pulled p q next stand = same_stand next.pulled q.station next.sends.gives.rest.0 stand
 
     next_stood : (p q : PortState W) → SendsNext Steps p q → Stand q.station → Stand p.station
-    next_stood p q next stand = pull_stood p.station next.pulled next.pulls (next_pulled p q next stand)
+    next_stood p q next stand = pull_stood 16 p.station next.pulled next.pulls (next_pulled p q next stand)
 
     left_one : (k : EndKept) (p q : PortState W) (next : SendsNext Steps p q) → Stand q.station →
         MakesSome c (at p.station k) theirs (record k { station = q.station; latest = with_frame next.sends.lane next.sends.frame k.latest }) puts
     left_one k p q next stand =
         let m : MadeFrame = record { lane = next.sends.lane; octets = next.sends.frame } in
         let after : EndKept = record k { station = q.station; latest = with_frame next.sends.lane next.sends.frame k.latest } in
-        both_made (at p.station k) (at next.pulled k) after (pulled k p.station next.pulled next.pulls (next_pulled p q next stand))
+        both_made (at p.station k) (at next.pulled k) after (pulled 16 k p.station next.pulled next.pulls (next_pulled p q next stand))
         (gives (m ∷ []), makes_gives (m ∷ []) c (at next.pulled k) theirs after puts refl (q.station, next.sends.gives, (refl, refl)))
 
     left : (k : EndKept) (count : ℕ) (p q : PortState W) (times : Times (SendsNext Steps) count p q) → Stand q.station →
@@ -218,9 +220,9 @@ module _ (laws : GoesOnLaws) (c : StationConfig) (theirs : EndKept) (puts : List
         let k_then : EndKept = record k { latest = with_sent Steps some.count p some.last some.sent k.latest } in
         elim (some.ends) [
           | inl none ↦
-              let stood : Stand some.last.station = pull_stood some.last.station q.station none.1.pulls stand in
+              let stood : Stand some.last.station = pull_stood 16 some.last.station q.station none.1.pulls stand in
               both_made (at p.station k) (at some.last.station k_then) (at q.station k_then) (left k some.count p some.last some.sent stood)
-              (pulled k_then some.last.station q.station none.1.pulls stand)
+              (pulled 16 k_then some.last.station q.station none.1.pulls stand)
           | inr all ↦
               let same : q.station ≡ some.last.station = ap (λ (x : PortState W). x.station) all.1 in
               both_made (at p.station k) (at some.last.station k_then) (at q.station k_then)
@@ -244,9 +246,9 @@ module _ (laws : GoesOnLaws) (c : StationConfig) (theirs : EndKept) (puts : List
         MakesSome c (at p.station k) theirs (record k { station = q.station; latest = with_sent Steps some.count p some.last some.sent k.latest }) puts
     sent_in_part k p q some stand =
         let k_then : EndKept = record k { latest = with_sent Steps some.count p some.last some.sent k.latest } in
-        let stood : Stand some.last.station = moved_stood some.part.count some.last.station q.station some.part.moved stand in
+        let stood : Stand some.last.station = moved_stood Frame some.part.count some.last.station q.station some.part.moved stand in
         both_made (at p.station k) (at some.last.station k_then) (at q.station k_then) (left k some.count p some.last some.sent stood)
-        (moved k_then some.part.count some.last.station q.station some.part.moved stand)
+        (moved Frame k_then some.part.count some.last.station q.station some.part.moved stand)
 
     then_sent : (mid : PortState W) (heard new : EndKept) → SendsThen Steps mid heard new → MakesSome c (at mid.station heard) theirs new puts
     then_sent mid heard new s =

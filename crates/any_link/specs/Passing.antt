@@ -9,6 +9,7 @@ use Rattle.aos_frame.specs.declared.config.LinkConfig.{LinkConfig}
 use Rattle.cfdp_header.specs.Files.{FileMap}
 use Rattle.cfdp_station.specs.Station.{StationState}
 use Rattle.cfdp_station.specs.Transmitting.{MovesMore, Times}
+use Rattle.cfdp_station.specs.declared.pumping.Until.TheVariants.{Frame}
 use Rattle.shown_sources.specs.Shown.{ReadsAs}
 use Rattle.cfdp_port.specs.Calls.{WireCall}
 use Rattle.cfdp_port.specs.Passing.{frames_came}
@@ -50,7 +51,7 @@ with_given None frame life = life
 -- ---- what is read
 -- These polls read only octets of a file that these files have there.
 abbrev pub PollsRead : FileMap → (count : ℕ) → (old new : StationState)
-    → Times MovesMore count old new → Type 0
+    → Times (MovesMore Frame) count old new → Type 0
 PollsRead files zero old new same = ⊤
 PollsRead files (suc count) old new (mid, before, step) =
     PollsRead files count old mid before

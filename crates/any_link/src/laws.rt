@@ -27,7 +27,8 @@ ghost use Rattle.cfdp_service.specs.Clerk.{ClerkState, ClerkSteps};
 ghost use Rattle.shown_sources.specs.Shown.{AreAsLong};
 ghost use Rattle.any_link.specs.Passing.{Comes, EndRead, EndsEarly, TakesTurn, with_given};
 ghost use Rattle.any_link.specs.Promise.{AreDelivered, KeepPromise};
-ghost use Rattle.any_link.specs.Serving.{Fulfils, Goes, HaveServed, IsFree, IsPrepared, Leads};
+ghost use Rattle.any_link.specs.Serving.{Fulfils, Goes, HaveServed, IsBegun, IsFree, IsPrepared};
+ghost use Rattle.any_link.specs.Serving.{Leads};
 ghost use Rattle.any_link.specs.Serving.{MayFind, Served, StartsAnew, Stations, kept_sending};
 ghost use Rattle.any_link.specs.Serving.{served_at, served_on, with_has};
 
@@ -117,6 +118,17 @@ pub fn a_new_station_starts_anew()
         → old.kept.latest.first + length (frames_in lane old.kept.latest) < first)
         → AreAsLong sources has → (new : Served) × StartsAnew first number c old new
         × (new.kept.station ≡ station) × (new.begun ≡ files) × (new.has ≡ has) }
+{}
+
+/// Any two new stations have served, with nothing done yet: whatever files they send and their
+/// inboxes say that they have, and from whatever numbers on their frames are counted.
+pub fn two_new_stations_have_served<W: PeerWire>()
+    ensures { (c : Setup) (counts : Side → ℕ) (sources files has : Side → FileMap)
+        (stations : Side → StationState)
+        → ((s : Side) → IsBegun (setup_of s c) (counts s) (sources s) (files s) (stations s))
+        → ((s : Side) → AreAsLong (sources s) (has s))
+        → (now : Stations) × HaveServed W.steps c files now
+        × ((s : Side) → (served_at s now).kept.station ≡ stations s) }
 {}
 
 /// Two stations in service keep the promise of delivery in whatever order and however often their

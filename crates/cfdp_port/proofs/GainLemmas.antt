@@ -1,5 +1,5 @@
 -- What a station indicated stays, and more comes after it, whatever a turn does.
-use Rattle.std.proofs.Common.{◌≡◌, inl, inr, not, ℕ, zero, suc, List, [], ◌∷◌, ◌++◌, Option, Some, None, Result, Ok, Err, Bool, true, false, ap, subst, sym, ◌∙◌, ⊎_elim}
+use Rattle.std.proofs.Common.{◌≡◌, inl, inr, ℕ, zero, suc, List, [], ◌∷◌, ◌++◌, Option, Some, None, Result, Ok, Err, Bool, true, false, ap, subst, sym, ◌∙◌, ⊎_elim}
 use Rattle.std.proofs.lemmas.List.{append-nil, append_assoc}
 use Rattle.cfdp_directives.specs.Pdu.Faults.{pdu_fault}
 use Rattle.cfdp_store.specs.declared.stored.Stored.{Stored}
@@ -15,11 +15,13 @@ use Rattle.cfdp_station.proofs.Lent.{polls-stood}
 use Rattle.cfdp_station.specs.Taking.{HearsAll as HearsPdus}
 use Rattle.cfdp_station.specs.declared.polled.Polled.{Polled}
 use Rattle.cfdp_station.specs.declared.polled.Polled.TheVariants.{Moved, Nothing, Full, SourceFailed}
-use Rattle.cfdp_station.specs.Transmitting.{FillsUp, MovesMore, PollsOnce, Times}
+use Rattle.cfdp_station.specs.declared.pumping.Until.{Until}
+use Rattle.cfdp_station.specs.declared.pumping.Until.TheVariants.{Frame}
+use Rattle.cfdp_station.specs.Transmitting.{EndsPolls, FillsUp, MovesMore, PollsOnce, Pulls, Times}
 use Rattle.cfdp_port.specs.Asking.{LooksAt}
 use Rattle.cfdp_port.specs.Calls.{WireCall}
 use Rattle.cfdp_port.specs.Gains.{Gains}
-use Rattle.cfdp_port.specs.PeerTurn.{EndsPolls, Pulls, SendsNext, SendsSome, SendsSomeInPart, TakesInPart, TakesOne}
+use Rattle.cfdp_port.specs.PeerTurn.{SendsNext, SendsSome, SendsSomeInPart, TakesInPart, TakesOne}
 use Rattle.cfdp_port.specs.Port.{PortState, table_of}
 use Rattle.cfdp_port.specs.Turn.{Asks, AsksOn, HearsAll, TellsTime}
 use Rattle.cfdp_port.specs.declared.wire.WireFault.{WireFault}
@@ -92,23 +94,23 @@ module _ (laws : GoesOnLaws) where
   poll-gains Nothing a b once = lent-gains Nothing a b once (same-entity (station_lent b a) b once.polls.0.1)
   poll-gains Full a b once = lent-gains Full a b once (same-entity (station_lent b a) b once.polls.0.1)
 
-  moves-gains : (count : ℕ) (a b : StationState) → Times MovesMore count a b → Gains (table_of a) (table_of b)
-  moves-gains = gains-times MovesMore table_of (λ a b more. poll-gains more.1.0 a b more.1.2)
+  moves-gains : (until : Until) (count : ℕ) (a b : StationState) → Times (MovesMore until) count a b → Gains (table_of a) (table_of b)
+  moves-gains until = gains-times (MovesMore until) table_of (λ a b more. poll-gains more.1.0 a b more.1.2)
 
-  fills-gains : (whole : Bool) (a b : StationState) → FillsUp whole a b → Gains (table_of a) (table_of b)
-  fills-gains false a b fills = same-entity a b fills.1.0
-  fills-gains true a b fills = same-entity a b fills.keeps.0
+  fills-gains : (rests : Bool) (a b : StationState) → FillsUp rests a b → Gains (table_of a) (table_of b)
+  fills-gains true a b fills = same-entity a b fills.1.0
+  fills-gains false a b fills = same-entity a b fills.keeps.0
 
-  ends-gains : (rests : Bool) (count : ℕ) (a b : StationState) → EndsPolls rests count a b → Gains (table_of a) (table_of b)
-  ends-gains true count a b ends = poll-gains ends.1.1.0 a b ends.1.1.2
-  ends-gains false count a b ends = gains-same (table_of a) (table_of b) (ap table_of ends.1)
+  ends-gains : (most : ℕ) (rests : Bool) (count : ℕ) (a b : StationState) → EndsPolls Frame most rests count a b → Gains (table_of a) (table_of b)
+  ends-gains most true count a b ends = poll-gains ends.1.1.0 a b ends.1.1.2
+  ends-gains most false count a b ends = gains-same (table_of a) (table_of b) (ap table_of ends.1)
 
-  pulls-gains : (a b : StationState) → Pulls a b → Gains (table_of a) (table_of b)
-  pulls-gains a b pulls =
+  pulls-gains : (most : ℕ) (a b : StationState) → Pulls most a b → Gains (table_of a) (table_of b)
+  pulls-gains most a b pulls =
       let polls = pulls.polls in
-      let moved = moves-gains polls.count a polls.last polls.moved in
-      let polled = gains-both (table_of a) (table_of polls.last) (table_of pulls.polled) moved (ends-gains pulls.rests polls.count polls.last pulls.polled polls.ends) in
-      gains-both (table_of a) (table_of pulls.polled) (table_of b) polled (fills-gains (not pulls.rests) pulls.polled b pulls.fills)
+      let moved = moves-gains Frame polls.count a polls.last polls.moved in
+      let polled = gains-both (table_of a) (table_of polls.last) (table_of pulls.polled) moved (ends-gains most pulls.rests polls.count polls.last pulls.polled polls.ends) in
+      gains-both (table_of a) (table_of pulls.polled) (table_of b) polled (fills-gains pulls.rests pulls.polled b pulls.fills)
 
   pdus-gains : (pdus : List (List ℕ)) (a b : Counted) → HearsPdus pdus a b → Gains a.state.table b.state.table
   pdus-gains [] a b same = gains-same a.state.table b.state.table (ap (λ (e : Counted). e.state.table) same)
@@ -120,7 +122,7 @@ module _ (laws : GoesOnLaws) where
   module _ {W : Type 0} (Steps : W → WireCall → W → Type 0) where
     next-gains : (a b : PortState W) → SendsNext Steps a b → Gains (table_of a.station) (table_of b.station)
     next-gains a b next =
-        gains-both (table_of a.station) (table_of next.pulled) (table_of b.station) (pulls-gains a.station next.pulled next.pulls) (same-entity next.pulled b.station next.sends.gives.rest.0)
+        gains-both (table_of a.station) (table_of next.pulled) (table_of b.station) (pulls-gains 16 a.station next.pulled next.pulls) (same-entity next.pulled b.station next.sends.gives.rest.0)
 
     nexts-gains : (count : ℕ) (a b : PortState W) → Times (SendsNext Steps) count a b → Gains (table_of a.station) (table_of b.station)
     nexts-gains = gains-times (SendsNext Steps) (λ (s : PortState W). table_of s.station) next-gains
@@ -128,13 +130,13 @@ module _ (laws : GoesOnLaws) where
     some-gains : (a b : PortState W) → SendsSome Steps a b → Gains (table_of a.station) (table_of b.station)
     some-gains a b some =
         gains-both (table_of a.station) (table_of some.last.station) (table_of b.station) (nexts-gains some.count a some.last some.sent)
-        (⊎_elim (λ none. pulls-gains some.last.station b.station none.1.pulls)
+        (⊎_elim (λ none. pulls-gains 16 some.last.station b.station none.1.pulls)
         (λ same. gains-same (table_of some.last.station) (table_of b.station) (ap (λ (s : PortState W). table_of s.station) same.1)) some.ends)
 
     some_part-gains : (a b : PortState W) → SendsSomeInPart Steps a b → Gains (table_of a.station) (table_of b.station)
     some_part-gains a b some =
         gains-both (table_of a.station) (table_of some.last.station) (table_of b.station) (nexts-gains some.count a some.last some.sent)
-        (moves-gains some.part.count some.last.station b.station some.part.moved)
+        (moves-gains Frame some.part.count some.last.station b.station some.part.moved)
 
     asks-gains : (came : Result (Option (List ℕ)) WireFault) (a b : PortState W) → Asks Steps came a b → Gains (table_of a.station) (table_of b.station)
     asks-gains (Ok (Some frame)) a b asks = pdus-gains asks.takes.pdus a.station.entity b.station.entity asks.takes.heard

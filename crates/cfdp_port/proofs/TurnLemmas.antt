@@ -5,7 +5,7 @@ use Rattle.aos_frame.specs.declared.config.ChannelConfig.{ChannelConfig}
 use Rattle.aos_frame.specs.declared.config.LinkConfig.{LinkConfig}
 use Rattle.aos_frame.specs.declared.config.Lane.{Lane}
 use Rattle.aos_frame.specs.declared.config.Lane.TheVariants.{Directives, Data}
-use Rattle.link_stack.specs.Downward.{DownState, LinkSenderState, first_down, frame_lane, lane_down}
+use Rattle.link_stack.specs.Downward.{DownState, KeepsLanes, LinkSenderState, first_down, frame_lane, lane_down}
 use Rattle.cfdp_station.proofs.Whole.{next-is_whole}
 use Rattle.cfdp_station.specs.Link.{FlushesBoth}
 use Rattle.cfdp_station.specs.Station.{StationState}
@@ -71,6 +71,9 @@ kept_both old mid now one two = (two.0 ∙ one.0, two.1 ∙ one.1)
 
 pub kept_same : (old now : DownState) → now ≡ old → KeepsLinks old now
 kept_same old now same = (ap (λ (d : DownState). d.directives.link) same, ap (λ (d : DownState). d.file_data.link) same)
+
+pub kept_lanes : (old now : DownState) → KeepsLanes old now → KeepsLinks old now
+kept_lanes old now kept = (kept.0, kept.2)
 
 pub kept_flushed : (old now : DownState) → FlushesBoth old now → KeepsLinks old now
 kept_flushed old now f = ((f.lanes Directives).fixed.0, (f.lanes Data).fixed.0)

@@ -7,3 +7,4 @@ pub mod Gains
 pub mod Asking
 pub mod Pair
 pub mod Passing
+pub mod Shown

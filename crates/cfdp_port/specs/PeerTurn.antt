@@ -1,54 +1,26 @@
 -- What a port does in a turn if its wire says when a frame may leave.
-use Rattle.std.specs.Prelude.{◌≡◌, ◌≢◌, ◌⊎◌, ◌<◌, ℕ, Bool, true, false, not, None}
+use Rattle.std.specs.Prelude.{◌≡◌, ◌≢◌, ◌⊎◌, ◌<◌, ℕ, true, false, None}
 use Rattle.link_stack.specs.Downward.{frame_lane}
 use Rattle.cfdp_station.specs.Station.{StationState}
-use Rattle.cfdp_station.specs.Transmitting.{FillsUp, FindsNone, MovesMore, Times}
+use Rattle.cfdp_station.specs.Transmitting.{PollsInPart, Pulls, Times}
+use Rattle.cfdp_station.specs.declared.pumping.Until.TheVariants.{Frame}
 use Rattle.cfdp_port.specs.Calls.{WireCall, Readied, Timed}
 use Rattle.cfdp_port.specs.Port.{PortState}
 use Rattle.cfdp_port.specs.Turn.{HearsAll, SendsFrame, TellsTime}
 
--- ---- polls
--- how polls end, and `true` if nothing is due or has room; otherwise a whole frame waits, or 16
--- moved a PDU
-abbrev pub EndsPolls : (rests : Bool) → (count : ℕ) → (last new : StationState) → Type 0
-EndsPolls true count last new = (count < 16) × FindsNone last new
-EndsPolls false count last new =
-    (((count < 16) × (frame_lane last.down ≢ None)) ⊎ (count ≡ 16)) × (new ≡ last)
-
--- A station was polled until a whole frame waits, or nothing is due or has room, at most 16 times.
-pub record PollsDry (rests : Bool) (old new : StationState) : Type 0 where
-  pub count : ℕ
-  pub last : StationState
-  pub moved : Times MovesMore count old last
-  pub ends : EndsPolls rests count last new
-
--- A station was polled so, and what is begun was filled up: in both lanes if nothing is due or
--- has room, otherwise in the lane of directives.
-pub record Pulls (old new : StationState) : Type 0 where
-  pub rests : Bool
-  pub polled : StationState
-  pub polls : PollsDry rests old polled
-  pub fills : FillsUp (not rests) polled new
-
--- The next of these polls found no memory, and changed nothing.
-pub record PullsInPart (old new : StationState) : Type 0 where
-  pub count : ℕ
-  pub few : count < 16
-  pub moved : Times MovesMore count old new
-
 module _ {W : Type 0} (Steps : W → WireCall → W → Type 0) where
   -- ---- frames that leave
-  -- Polls brought a frame, the wire was ready for it, and it left.
+  -- At most 16 polls brought a frame, the wire was ready for it, and it left.
   pub record SendsNext (old new : PortState W) : Type 0 where
     pub pulled : StationState
     pub ready : W
-    pub pulls : Pulls old.station pulled
+    pub pulls : Pulls 16 old.station pulled
     pub asked : Steps old.wire (Readied true) ready
     pub sends : SendsFrame Steps (record { station = pulled; wire = ready }) new
 
-  -- Polls brought no frame, or the wire isn't ready for the one that waits.
+  -- At most 16 polls brought no frame, or the wire isn't ready for the one that waits.
   pub record SendsNone (old new : PortState W) : Type 0 where
-    pub pulls : Pulls old.station new.station
+    pub pulls : Pulls 16 old.station new.station
     pub ends : ((frame_lane new.station.down ≡ None) × (new.wire ≡ old.wire))
         ⊎ ((frame_lane new.station.down ≢ None) × Steps old.wire (Readied false) new.wire)
 
@@ -65,7 +37,7 @@ module _ {W : Type 0} (Steps : W → WireCall → W → Type 0) where
     pub few : count < 64
     pub last : PortState W
     pub sent : Times SendsNext count old last
-    pub part : PullsInPart last.station new.station
+    pub part : PollsInPart Frame 16 last.station new.station
     pub wire : new.wire ≡ last.wire
 
   -- ---- the turn

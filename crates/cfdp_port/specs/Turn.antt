@@ -1,6 +1,6 @@
 -- What a port does in a turn: it is given the time, polled and flushed, frames leave it, and others
 -- come.
-use Rattle.std.specs.Prelude.{◌≡◌, ◌≢◌, ◌⊎◌, ◌<◌, ℕ, List, Option, Some, None, Result, Ok, Err}
+use Rattle.std.specs.Prelude.{◌≡◌, ◌≢◌, ◌⊎◌, ◌<◌, ℕ, Bool, List, Option, Some, None, Result, Ok, Err}
 use Rattle.cfdp_store.specs.Chains.{Raises}
 use Rattle.cfdp_entity.specs.Entity.{with_table}
 use Rattle.cfdp_entity.specs.Storing.{AsksToTick}
@@ -10,8 +10,8 @@ use Rattle.link_stack.specs.Downward.{frame_lane}
 use Rattle.cfdp_station.specs.Link.{FlushesBoth}
 use Rattle.cfdp_station.specs.Station.{StationState, KeepsLink, KeepsRest}
 use Rattle.cfdp_station.specs.Taking.{TakesFrame}
-use Rattle.cfdp_station.specs.Transmitting.{GivesFrame, IsMore, PollsOnce, Times}
-use Rattle.cfdp_station.specs.declared.polled.Polled.{Polled}
+use Rattle.cfdp_station.specs.Transmitting.{GivesFrame, PollsInPart, PollsUntil, Times}
+use Rattle.cfdp_station.specs.declared.pumping.Until.TheVariants.{Rest}
 use Rattle.cfdp_station.specs.Failures.{KeepsOutbox}
 use Rattle.cfdp_port.specs.Calls.{WireCall, Sent, Asked}
 use Rattle.cfdp_port.specs.Port.{PortState}
@@ -27,28 +27,6 @@ pub record TellsTime (now : ℕ) (old new : StationState) : Type 0 where
   pub raises : AsksToTick Raises now old.entity.state.table old.entity.inbox_failures
       new.entity.inbox_failures
   pub link : KeepsLink old new
-
--- ---- polls
--- A poll moved a PDU, or the outbox failed in it.
-abbrev pub PollMoves : (old new : StationState) → Type 0
-PollMoves old new = (answer : Polled) × IsMore answer × PollsOnce answer old new
-
--- Nothing was due, or if something was, it found no room.
-abbrev pub PollRests : (old new : StationState) → Type 0
-PollRests old new = (answer : Polled) × (IsMore answer → ⊥) × PollsOnce answer old new
-
--- A station was polled until nothing was due or nothing more had room, at most 16 times.
-pub record PollsOut (old new : StationState) : Type 0 where
-  pub count : ℕ
-  pub last : StationState
-  pub moved : Times PollMoves count old last
-  pub ends : ((count < 16) × PollRests last new) ⊎ ((count ≡ 16) × (new ≡ last))
-
--- The next of these polls found no memory, and changed nothing.
-pub record PollsInPart (old new : StationState) : Type 0 where
-  pub count : ℕ
-  pub few : count < 16
-  pub moved : Times PollMoves count old new
 
 -- ---- frames that leave
 module _ {W : Type 0} (Steps : W → WireCall → W → Type 0) where
@@ -67,13 +45,15 @@ module _ {W : Type 0} (Steps : W → WireCall → W → Type 0) where
     pub sent : Times SendsFrame count old new
     pub none_whole : frame_lane new.station.down ≡ None
 
-  -- A station was given the time, polled, and flushed, and all whole frames left.
+  -- A station was given the time, polled until nothing was due or nothing more had room, at most 16
+  -- times, and flushed, and all whole frames left.
   pub record Sends (now : ℕ) (old new : PortState W) : Type 0 where
     pub told : StationState
+    pub rests : Bool
     pub polled : StationState
     pub flushed : StationState
     pub tells : TellsTime now old.station told
-    pub polls : PollsOut told polled
+    pub polls : PollsUntil Rest 16 rests told polled
     pub flushes : FlushesBoth polled.down flushed.down × KeepsRest polled flushed
     pub sends : SendsWhole (record old { station = flushed }) new
 
@@ -105,5 +85,6 @@ module _ {W : Type 0} (Steps : W → WireCall → W → Type 0) where
 -- turn ended there. Nothing was asked of its wire.
 pub record SendsInPart (now : ℕ) {W : Type 0} (old new : PortState W) : Type 0 where
   pub ends : (new.station ≡ old.station)
-      ⊎ ((told : StationState) × TellsTime now old.station told × PollsInPart told new.station)
+      ⊎ ((told : StationState) × TellsTime now old.station told
+      × PollsInPart Rest 16 told new.station)
   pub wire : new.wire ≡ old.wire

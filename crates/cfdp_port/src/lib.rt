@@ -24,6 +24,7 @@ mod pair;
 mod passed;
 mod peer_turn;
 mod port;
+mod showing;
 mod turn;
 mod wire;
 

@@ -1,19 +1,18 @@
 //! What is done in a turn over a wire that says when a frame may leave.
-ghost use Rattle.std.specs.Prelude.{◌≡◌, ◌≢◌, ◌⊎◌, length, false, true, None, IfOk, OnErr, OnOk};
+ghost use Rattle.std.specs.Prelude.{◌≡◌, ◌≢◌, ◌⊎◌, length, false, true, None, OnErr, OnOk};
 ghost use Rattle.link_stack.specs.Downward.{frame_lane};
 ghost use Rattle.cfdp_port.specs.Calls.{Readied};
 ghost use Rattle.cfdp_port.specs.Gains.{Gains};
-ghost use Rattle.cfdp_port.specs.PeerTurn.{PollsDry, Pulls, PullsInPart, SendsSome};
-ghost use Rattle.cfdp_port.specs.PeerTurn.{SendsSomeInPart, TakesInPart, TakesOne};
-ghost use Rattle.cfdp_port.specs.Port.{FitsFrames, KeepsLinks, port_state, table_of};
+ghost use Rattle.cfdp_port.specs.PeerTurn.{SendsSome, SendsSomeInPart, TakesInPart, TakesOne};
+ghost use Rattle.cfdp_port.specs.Port.{FitsFrames, port_state, table_of};
 ghost use Rattle.cfdp_port.specs.Turn.{SendsFrame};
 
 use crate::lookout::Lookout;
-use crate::passed::Passed;
+use crate::showing::{ShownPolls, tick};
 use crate::turn::{receive, send_one};
 use crate::wire::PeerWire;
 use cfdp_entity::an_entity_goes_on;
-use cfdp_station::{Lane, Station};
+use cfdp_station::Station;
 use cfdp_store::{Inbox, Outbox};
 use station_pair::Side;
 use std::alloc::AllocError;
@@ -49,8 +48,7 @@ pub(crate) fn take_turn<O: Outbox, I: Inbox, W: PeerWire, L: Lookout>(
     an_entity_goes_on();
     receive(side, station, wire, datagram, lookout);
     let now = wire.now();
-    station.tick(now)?;
-    lookout.sees(side, Passed::Ticked(now), station);
+    tick(now, side, station, lookout)?;
     send_some(side, station, wire, frame, lookout)
 }
 
@@ -75,64 +73,13 @@ fn send_some<O: Outbox, I: Inbox, W: PeerWire, L: Lookout>(
     ensures fits { FitsFrames (length frame.new) station.new }
 {
     for _frame in 0..MOST_FRAMES {
-        pull(side, station, lookout)?;
+        let mut polls = ShownPolls { side, lookout };
+        station.pull(MOST_POLLS, &mut polls)?;
         if !send_ready(side, station, wire, frame, lookout) {
             return Ok(());
         }
     }
     Ok(())
-}
-
-/// Polls for the frame that leaves next, and fills up what is begun: directives alone if a
-/// whole frame waits, so that none waits for the file data after it, otherwise both lanes.
-///
-/// # Errors
-///
-/// `AllocError` if the station finds no memory for a poll, which changed nothing then.
-fn pull<O: Outbox, I: Inbox, L: Lookout>(
-    side: Side,
-    station: &mut Station<O, I>,
-    lookout: &mut L,
-) -> Result<(), AllocError>
-    ensures ok { OnOk result (Pulls station.old station.new) }
-    ensures err { OnErr result (PullsInPart station.old station.new) }
-    ensures links { KeepsLinks station.old.down station.new.down }
-{
-    if poll_dry(side, station, lookout)? {
-        station.flush();
-    } else {
-        station.flush_lane(Lane::Directives);
-    }
-    Ok(())
-}
-
-/// Polls until a whole frame waits, or nothing is due or has room. Returns `true` if nothing is due
-/// or has room. At most 16 polls move a PDU.
-///
-/// # Errors
-///
-/// `AllocError` if the station finds no memory for a poll, which changed nothing then.
-fn poll_dry<O: Outbox, I: Inbox, L: Lookout>(
-    side: Side,
-    station: &mut Station<O, I>,
-    lookout: &mut L,
-) -> Result<bool, AllocError>
-    ensures ok { IfOk result (λ rests. PollsDry rests station.old station.new) }
-    ensures err { OnErr result (PullsInPart station.old station.new) }
-    ensures links { KeepsLinks station.old.down station.new.down }
-{
-    for _poll in 0..MOST_POLLS {
-        match station.next_lane() {
-            Some(_) => return Ok(false),
-            None => {}
-        }
-        let answer = station.poll()?;
-        lookout.sees(side, Passed::Polled(answer), station);
-        if !answer.is_more() {
-            return Ok(true);
-        }
-    }
-    Ok(false)
 }
 
 /// Sends the frame that leaves next. Returns `false` if none waits, or the wire isn't ready for it.

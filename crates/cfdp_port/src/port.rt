@@ -1,5 +1,6 @@
 //! A station on a wire, with all that its turns need.
-ghost use Rattle.std.specs.Prelude.{◌≡◌, drop, is_some, true, IfErr, IfOk, OnErr, OnOk};
+ghost use Rattle.std.specs.Prelude.{◌≡◌, drop, is_ok, is_some, true, IfErr, IfOk, OnErr};
+ghost use Rattle.std.specs.Prelude.{OnOk};
 ghost use Rattle.std.specs.FinMap as map;
 ghost use Rattle.cfdp_store.specs.Stores.{failures_after};
 ghost use Rattle.cfdp_entity.specs.Entity.{entity_lent, phase_told};
@@ -17,6 +18,7 @@ ghost use Rattle.cfdp_port.specs.Gains.{Gains};
 ghost use Rattle.cfdp_port.specs.PeerTurn.{TakesInPart, TakesOne};
 ghost use Rattle.cfdp_port.specs.Port.{AtStation, all_closed, table_of};
 ghost use Rattle.cfdp_port.specs.Port as spec;
+ghost use Rattle.cfdp_port.specs.Shown.{ShowsAsked};
 ghost use Rattle.cfdp_port.specs.Turn.{HearsAll, Sends, SendsInPart};
 
 use crate::lookout::Lookout;
@@ -222,6 +224,7 @@ impl<O: Outbox, I: Inbox, W: Wire> Port<O, I, W> {
         lookout: &mut L,
     ) -> Result<TransactionId, PutError>
         ensures puts { AtStation (Puts source.now destination.now result) self.old self.new }
+        ensures shown { ShowsAsked L.shows (is_ok result) lookout.old lookout.new }
         ensures gains { Gains (table_of self.old.station) (table_of self.new.station) }
     {
         an_entity_goes_on();
@@ -245,6 +248,7 @@ impl<O: Outbox, I: Inbox, W: Wire> Port<O, I, W> {
         lookout: &mut L,
     ) -> Result<(), RequestError>
         ensures answers { AtStation (StationAnswers request id result) self.old self.new }
+        ensures shown { ShowsAsked L.shows (is_ok result) lookout.old lookout.new }
         ensures gains { Gains (table_of self.old.station) (table_of self.new.station) }
     {
         an_entity_goes_on();

@@ -1,14 +1,19 @@
 //! What is done with a station and its wire in a turn, part by part.
-ghost use Rattle.std.specs.Prelude.{◌≡◌, ◌<◌, ◌↔◌, None, false, true, length, OnErr, OnOk};
+ghost use Rattle.std.specs.Prelude.{◌≡◌, ◌<◌, ◌↔◌, None, Some, Result, false, true, is_ok, length};
+ghost use Rattle.std.specs.Prelude.{OnErr, OnOk};
+ghost use Rattle.aos_frame.specs.declared.config.Lane.{Lane};
 ghost use Rattle.link_stack.specs.Downward.{frame_lane};
+ghost use Rattle.cfdp_port.specs.Calls.{Sent};
+ghost use Rattle.cfdp_port.specs.declared.wire.WireFault.{WireFault};
 ghost use Rattle.cfdp_port.specs.Port.{FitsFrames, KeepsLinks, all_waiting, port_state};
-ghost use Rattle.cfdp_port.specs.Turn.{HearsAll, PollsInPart, PollsOut, Sends, SendsFrame};
-ghost use Rattle.cfdp_port.specs.Turn.{SendsInPart, SendsWhole};
+ghost use Rattle.cfdp_port.specs.Shown.{Left};
+ghost use Rattle.cfdp_port.specs.Turn.{HearsAll, Sends, SendsFrame, SendsInPart, SendsWhole};
 
 use crate::lookout::Lookout;
 use crate::passed::Passed;
+use crate::showing::{ShownPolls, take, tick};
 use crate::wire::Wire;
-use cfdp_station::Station;
+use cfdp_station::{Station, Until};
 use cfdp_store::{Inbox, Outbox};
 use station_pair::Side;
 use std::alloc::AllocError;
@@ -37,31 +42,11 @@ pub(crate) fn send<O: Outbox, I: Inbox, W: Wire, L: Lookout>(
         (port_state station.new wire.new)) }
     ensures fits { FitsFrames (length frame.new) station.new }
 {
-    station.tick(now)?;
-    lookout.sees(side, Passed::Ticked(now), station);
-    poll_out(side, station, lookout)?;
+    tick(now, side, station, lookout)?;
+    let mut polls = ShownPolls { side, lookout };
+    station.poll_until(Until::Rest, MOST_POLLS, &mut polls)?;
     station.flush();
     send_whole(side, station, wire, frame, lookout);
-    Ok(())
-}
-
-/// Polls a station until nothing is due or nothing more has room, at most 16 times.
-fn poll_out<O: Outbox, I: Inbox, L: Lookout>(
-    side: Side,
-    station: &mut Station<O, I>,
-    lookout: &mut L,
-) -> Result<(), AllocError>
-    ensures ok { OnOk result (PollsOut station.old station.new) }
-    ensures err { OnErr result (PollsInPart station.old station.new) }
-    ensures links { KeepsLinks station.old.down station.new.down }
-{
-    for _poll in 0..MOST_POLLS {
-        let answer = station.poll()?;
-        lookout.sees(side, Passed::Polled(answer), station);
-        if !answer.is_more() {
-            return Ok(());
-        }
-    }
     Ok(())
 }
 
@@ -94,6 +79,10 @@ pub(crate) fn send_one<O: Outbox, I: Inbox, W: Wire, L: Lookout>(
         (port_state station.new wire.new) }
     ensures none { result ≡ false → (frame_lane station.old.down ≡ None)
         × (station.new ≡ station.old) × (wire.new ≡ wire.old) }
+    ensures shown { result ≡ true → (lane : Lane) × (frame_lane station.old.down ≡ Some lane)
+        × ((answer : Result (Unit {0}) WireFault) × W.steps wire.old (Sent frame.new answer) wire.new
+        × L.shows lookout.old side (Left lane frame.new (is_ok answer)) lookout.new) }
+    ensures unshown { result ≡ false → lookout.new ≡ lookout.old }
     ensures whole { (result ≡ false) ↔ (frame_lane station.old.down ≡ None) }
     ensures less { result ≡ true → all_waiting station.new.down < all_waiting station.old.down }
     ensures links { KeepsLinks station.old.down station.new.down }
@@ -131,8 +120,7 @@ pub(crate) fn receive<O: Outbox, I: Inbox, W: Wire, L: Lookout>(
     for _datagram in 0..MOST_DATAGRAMS {
         match wire.receive(buffer) {
             Ok(Some(len)) => {
-                station.receive(&buffer[..len]);
-                lookout.sees(side, Passed::Took(&buffer[..len]), station);
+                take(side, station, &buffer[..len], lookout);
             }
             Ok(None) => return,
             Err(_) => {}

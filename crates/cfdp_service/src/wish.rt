@@ -1,5 +1,5 @@
 //! What a user wishes of its station, and how that is answered.
-ghost use Rattle.std.specs.Prelude.{◌≡◌, IfOk, IsTrue};
+ghost use Rattle.std.specs.Prelude.{◌≡◌, ◌↔◌, IfOk, IsTrue};
 
 use cfdp_header::TransactionId;
 use cfdp_station::{PutError, Request, RequestError};
@@ -47,7 +47,7 @@ impl PutNames {
 
     /// Returns `true` if the file keeps its name at the peer.
     pub fn are_alike(&self) -> bool
-        ensures { IsTrue result → self.now.source.items ≡ self.now.destination.items }
+        ensures { IsTrue result ↔ (self.now.source.items ≡ self.now.destination.items) }
     {
         self.source.as_slice() == self.destination.as_slice()
     }

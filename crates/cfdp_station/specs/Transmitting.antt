@@ -12,6 +12,8 @@ use Rattle.cfdp_station.specs.Polling.{Polls, Shows, stored_by_poll}
 use Rattle.cfdp_station.specs.Station.{StationState, KeepsRest, station_lent}
 use Rattle.cfdp_station.specs.declared.polled.Polled.{Polled}
 use Rattle.cfdp_station.specs.declared.polled.Polled.TheVariants.{Moved, Nothing, Full, SourceFailed}
+use Rattle.cfdp_station.specs.declared.pumping.Until.{Until}
+use Rattle.cfdp_station.specs.declared.pumping.Until.TheVariants.{Frame, Rest}
 
 -- A step so many times, one after another.
 abbrev pub Times : {S : Type 0} → (Step : S → S → Type 0) → ℕ → (old new : S) → Type 0
@@ -37,34 +39,47 @@ pub record PollsOnce (answer : Polled) (old new : StationState) : Type 0 where
       new.entity.outbox_failures
   pub inbox : new.entity.inbox_failures ≡ old.entity.inbox_failures
 
--- No whole frame waited, and a poll moved a PDU, or the outbox failed in it.
-abbrev pub MovesMore : (old new : StationState) → Type 0
-MovesMore old new = (frame_lane old.down ≡ None)
+-- Polls go on here, or stop ahead of the next one: at a whole frame that waits, if they are made
+-- until there is one.
+abbrev pub GoOn : Until → StationState → Type 0
+GoOn Frame s = frame_lane s.down ≡ None
+GoOn Rest s = ⊤
+
+abbrev pub StopAt : Until → StationState → Type 0
+StopAt Frame s = frame_lane s.down ≢ None
+StopAt Rest s = ⊥
+
+-- A poll moved a PDU, or the outbox failed in it.
+abbrev pub MovesMore : Until → (old new : StationState) → Type 0
+MovesMore until old new = GoOn until old
     × ((answer : Polled) × IsMore answer × PollsOnce answer old new)
 
--- No whole frame waited, and a poll found that nothing is due or has room.
-abbrev pub FindsNone : (old new : StationState) → Type 0
-FindsNone old new = (frame_lane old.down ≡ None)
+-- A poll found that nothing is due or has room.
+abbrev pub FindsNone : Until → (old new : StationState) → Type 0
+FindsNone until old new = GoOn until old
     × ((answer : Polled) × (IsMore answer → ⊥) × PollsOnce answer old new)
 
--- the most polls for one frame: more than there are files that can fail to be read, and PDUs that
--- fit into a frame of each lane
-abbrev pub most_polls : ℕ
-most_polls = 8192
+-- how polls end of which at most so many are made, and `true` if nothing is due or has room;
+-- otherwise they stopped, or each of them found more
+abbrev pub EndsPolls : Until → (most : ℕ) → (rests : Bool) → (count : ℕ)
+    → (last new : StationState) → Type 0
+EndsPolls until most true count last new = (count < most) × FindsNone until last new
+EndsPolls until most false count last new =
+    (((count < most) × StopAt until last) ⊎ (count ≡ most)) × (new ≡ last)
 
--- how polls end, and `true` if a whole frame waits; otherwise nothing is due or has room
-abbrev pub EndsPolls : (whole : Bool) → (count : ℕ) → (last new : StationState) → Type 0
-EndsPolls true count last new =
-    (count < most_polls) × (frame_lane last.down ≢ None) × (new ≡ last)
-EndsPolls false count last new =
-    ((count < most_polls) × FindsNone last new) ⊎ ((count ≡ most_polls) × (new ≡ last))
-
--- A station was polled until a whole frame waits, or nothing is due or has room, at most so often.
-pub record PollsDry (whole : Bool) (old new : StationState) : Type 0 where
+-- A station was polled until nothing is due or has room, or a whole frame waits, at most so often.
+pub record PollsUntil (until : Until) (most : ℕ) (rests : Bool) (old new : StationState)
+    : Type 0 where
   pub count : ℕ
   pub last : StationState
-  pub moved : Times MovesMore count old last
-  pub ends : EndsPolls whole count last new
+  pub moved : Times (MovesMore until) count old last
+  pub ends : EndsPolls until most rests count last new
+
+-- The next of these polls found no memory, and changed nothing.
+pub record PollsInPart (until : Until) (most : ℕ) (old new : StationState) : Type 0 where
+  pub count : ℕ
+  pub few : count < most
+  pub moved : Times (MovesMore until) count old new
 
 -- ---- what is begun
 -- What is begun in the lane of directives was filled up.
@@ -74,24 +89,18 @@ pub record FillsDirectives (old new : StationState) : Type 0 where
   pub packet_count : new.down.packet_count ≡ old.down.packet_count
   pub keeps : KeepsRest old new
 
--- What is begun was filled up: directives alone if a whole frame waits, so that none waits for
--- the file data after it, otherwise both lanes.
-abbrev pub FillsUp : (whole : Bool) → (old new : StationState) → Type 0
-FillsUp true old new = FillsDirectives old new
-FillsUp false old new = FlushesBoth old.down new.down × KeepsRest old new
+-- What is begun was filled up: in both lanes if nothing is due or has room; otherwise in the lane of
+-- directives, so that none waits for the file data after it.
+abbrev pub FillsUp : (rests : Bool) → (old new : StationState) → Type 0
+FillsUp true old new = FlushesBoth old.down new.down × KeepsRest old new
+FillsUp false old new = FillsDirectives old new
 
--- A station was polled so, and what is begun was filled up.
-pub record Pulls (old new : StationState) : Type 0 where
-  pub whole : Bool
+-- A station was polled for its next frame, at most so often, and what is begun was filled up.
+pub record Pulls (most : ℕ) (old new : StationState) : Type 0 where
+  pub rests : Bool
   pub polled : StationState
-  pub polls : PollsDry whole old polled
-  pub fills : FillsUp whole polled new
-
--- The next of these polls found no memory, and changed nothing.
-pub record PullsInPart (old new : StationState) : Type 0 where
-  pub count : ℕ
-  pub few : count < most_polls
-  pub moved : Times MovesMore count old new
+  pub polls : PollsUntil Frame most rests old polled
+  pub fills : FillsUp rests polled new
 
 -- ---- the frame
 -- The oldest whole frame of the lane that goes first was written, and taken off; the other lane is
@@ -108,8 +117,13 @@ abbrev pub Gives : Option Lane → (frame : List ℕ) → (old new : StationStat
 Gives (Some lane) frame old new = GivesFrame lane frame old new
 Gives None frame old new = (frame_lane old.down ≡ None) × (new ≡ old)
 
+-- the most polls for one frame that is transmitted: more than there are files that can fail to be
+-- read, and PDUs that fit into a frame of each lane
+abbrev pub most_polls : ℕ
+most_polls = 8192
+
 -- A station was polled for its next frame, and gave it, if there was one.
 pub record Transmits (answer : Option Lane) (frame : List ℕ) (old new : StationState) : Type 0 where
   pub pulled : StationState
-  pub pulls : Pulls old pulled
+  pub pulls : Pulls most_polls old pulled
   pub gives : Gives answer frame pulled new

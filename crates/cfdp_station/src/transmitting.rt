@@ -1,7 +1,8 @@
 // The next frame that leaves a station.
 ghost use Rattle.std.specs.Prelude.{◌≡◌, ◌+◌, None, length, IfOk, OnErr, OnOk};
 ghost use Rattle.aos_frame.specs.Frame.{frame_len};
-ghost use Rattle.cfdp_station.specs.Transmitting.{PollsDry, Pulls, PullsInPart, Transmits};
+ghost use Rattle.cfdp_station.specs.declared.pumping.Until.TheVariants as until;
+ghost use Rattle.cfdp_station.specs.Transmitting.{PollsInPart, Transmits, most_polls};
 
 use crate::station::Station;
 use cfdp_store::{Inbox, Outbox};
@@ -30,7 +31,7 @@ impl<O: Outbox, I: Inbox> Station<O, I> {
     /// stays, and waits for the next call.
     pub fn transmit(&mut self, frame: &mut Vec<u8>) -> Result<Option<Lane>, AllocError>
         ensures sent { IfOk result (λ lane. Transmits lane frame.new.items self.old self.new) }
-        ensures err { OnErr result (PullsInPart self.old self.new) }
+        ensures err { OnErr result (PollsInPart until.Frame most_polls self.old self.new) }
         ensures len { OnOk result (length frame.new.items
             ≡ frame_len self.old.down.directives.link) }
     {
@@ -47,12 +48,12 @@ impl<O: Outbox, I: Inbox> Station<O, I> {
     pub fn transmit_into(&mut self, frame: &mut [u8]) -> Result<Option<Lane>, AllocError>
         requires { length frame.old ≡ frame_len self.old.down.directives.link }
         ensures sent { IfOk result (λ lane. Transmits lane frame.new self.old self.new) }
-        ensures err { OnErr result (PullsInPart self.old self.new) }
+        ensures err { OnErr result (PollsInPart until.Frame most_polls self.old self.new) }
         // Except for a frame the buffer is as it was.
         ensures kept { IfOk result (λ lane. lane ≡ None → frame.new ≡ frame.old) }
         ensures unwritten { OnErr result (frame.new ≡ frame.old) }
     {
-        pull(self)?;
+        self.pull(MOST_POLLS, &mut ())?;
         Ok(self.next_frame(frame))
     }
 }
@@ -62,38 +63,4 @@ fn fit(frame: &mut Vec<u8>, len: usize) -> Result<(), AllocError>
     ensures { OnOk result (length frame.new.items ≡ len) }
 {
     frame.resize(len, 0)
-}
-
-/// Polls for the frame that leaves next, and fills up what is begun: directives alone if a
-/// whole frame waits, otherwise both lanes.
-fn pull<O: Outbox, I: Inbox>(station: &mut Station<O, I>) -> Result<(), AllocError>
-    ensures ok { OnOk result (Pulls station.old station.new) }
-    ensures err { OnErr result (PullsInPart station.old station.new) }
-    ensures same { station.new.down.directives.link ≡ station.old.down.directives.link }
-{
-    if poll_dry(station)? {
-        station.flush_lane(Lane::Directives);
-    } else {
-        station.flush();
-    }
-    Ok(())
-}
-
-/// Polls until a whole frame waits, or nothing is due or has room. Returns `true` if a frame waits.
-fn poll_dry<O: Outbox, I: Inbox>(station: &mut Station<O, I>) -> Result<bool, AllocError>
-    ensures ok { IfOk result (λ whole. PollsDry whole station.old station.new) }
-    ensures err { OnErr result (PullsInPart station.old station.new) }
-    ensures same { station.new.down.directives.link ≡ station.old.down.directives.link }
-{
-    for _poll in 0..MOST_POLLS {
-        match station.next_lane() {
-            Some(_) => return Ok(true),
-            None => {}
-        }
-        let answer = station.poll()?;
-        if !answer.is_more() {
-            return Ok(false);
-        }
-    }
-    Ok(false)
 }

@@ -1,6 +1,6 @@
 -- Two stations that take turns over wires that keep the order of each lane are those of a world: turn by turn,
 -- and in each one event after another.
-use Rattle.std.proofs.Common.{◌≡◌, ◌≢◌, ℕ, zero, suc, ◌+◌, ◌<◌, ◌≤◌, List, [], ◌∷◌, ◌++◌, length, take, get_or, Option, Some, None, Result, Ok, Err, refl, sym, ap, subst, ◌∙◌, inl, inr, arith, length-append}
+use Rattle.std.proofs.Common.{◌≡◌, ◌≢◌, Bool, true, false, ℕ, zero, suc, ◌+◌, ◌<◌, ◌≤◌, List, [], ◌∷◌, ◌++◌, length, take, get_or, Option, Some, None, Result, Ok, Err, refl, sym, ap, subst, ◌∙◌, inl, inr, arith, length-append}
 use Rattle.std.specs.Prelude.{IsTrue}
 use Rattle.std.proofs.lemmas.List.{append-nil, append_assoc, take_all, take_more}
 use Rattle.std.proofs.Math.Seq.{take-append_seam}
@@ -36,13 +36,14 @@ use Rattle.ports_in_order.proofs.Aside.{AnyEvent, AreJoined, Arrives, GoesAside,
 use Rattle.link_sim.proofs.Events.Behind.{all_sent, one_more}
 use Rattle.link_sim.proofs.Lanes.Each.{lane-seen}
 use Rattle.cfdp_station.proofs.Whole.{none-is_whole}
-use Rattle.cfdp_station.specs.Transmitting.{PollsOnce, Times}
+use Rattle.cfdp_station.specs.declared.pumping.Until.TheVariants.{Rest}
+use Rattle.cfdp_station.specs.Transmitting.{EndsPolls, MovesMore, PollsOnce, PollsUntil, Times}
 use Rattle.ports_in_order.specs.InOrder.{AreOfWorld, ComeInOrder, PassInOrder, Passage, PassesInOrder, nothing_passed, taken_to}
 use Rattle.cfdp_port.specs.Passing.{frames_came, frames_left, in_lane, what_came}
 use Rattle.cfdp_port.specs.Asking.{Puts}
 use Rattle.cfdp_port.specs.Pair.{PairState, TakesTurn, Turns}
 use Rattle.cfdp_port.specs.Port.{AtStation, PortState}
-use Rattle.cfdp_port.specs.Turn.{AsksOn, HearsAll, PollMoves, PollsOut, SendsFrame, Sends, TakesWhat}
+use Rattle.cfdp_port.specs.Turn.{AsksOn, HearsAll, SendsFrame, Sends, TakesWhat}
 use Rattle.cfdp_port.specs.Calls.{WireCall}
 use Rattle.cfdp_port.specs.declared.wire.WireFault.{WireFault}
 use Rattle.cfdp_port.proofs.GainLemmas.{GoesOnLaws, hears-gains, ticks-gains}
@@ -78,20 +79,21 @@ module _ (Of : Event → Type 0) (of : AreOfTurn Of) (s : Side) (b : StationStat
       (poll_goes s l now g.down b g.link m puts g.then_ticks sent g.is Of (of.poll s) answer (subst (λ (x : StationState). Polls answer x now) stood.1 p.polls)
       (λ moved. subst (λ (x : StationState). SpellsTurn (turn x.entity.state) x.entity.state) stood.1 (p.spells moved)) p.outbox p.inbox)
 
-  polled_more : (first : StationState) (d : DownState) (k : FrameLinksState) (ticks : ℕ) (sent : Lane → ℕ) (count : ℕ) (l now : StationState) → Times PollMoves count l now
+  polled_more : (first : StationState) (d : DownState) (k : FrameLinksState) (ticks : ℕ) (sent : Lane → ℕ) (count : ℕ) (l now : StationState) → Times (MovesMore Rest) count l now
       → GoesOn first l d k ticks sent → GoesOn first now d k ticks sent
   polled_more first d k ticks sent zero l now same g = subst (λ (x : StationState). GoesOn first x d k ticks sent) (sym same) g
-  polled_more first d k ticks sent (suc count) l now (mid, before, (answer, more, once)) g =
+  polled_more first d k ticks sent (suc count) l now (mid, before, (on, (answer, more, once))) g =
       polled_once first mid now d k ticks sent (polled_more first d k ticks sent count l mid before g) answer once
 
-  polled_out : (first l now : StationState) (d : DownState) (k : FrameLinksState) (ticks : ℕ) (sent : Lane → ℕ) → PollsOut l now → GoesOn first l d k ticks sent →
+  polled_ends : (first l now : StationState) (d : DownState) (k : FrameLinksState) (ticks : ℕ) (sent : Lane → ℕ) (rests : Bool) (count : ℕ) → EndsPolls Rest 16 rests count l now
+      → GoesOn first l d k ticks sent → GoesOn first now d k ticks sent
+  polled_ends first l now d k ticks sent true count ends g = polled_once first l now d k ticks sent g ends.1.1.0 ends.1.1.2
+  polled_ends first l now d k ticks sent false count ends g = subst (λ (x : StationState). GoesOn first x d k ticks sent) (sym ends.1) g
+
+  polled_out : (first l now : StationState) (d : DownState) (k : FrameLinksState) (ticks : ℕ) (sent : Lane → ℕ) (rests : Bool) → PollsUntil Rest 16 rests l now → GoesOn first l d k ticks sent →
       GoesOn first now d k ticks sent
-  polled_out first l now d k ticks sent p g =
-      let h : GoesOn first p.last d k ticks sent = polled_more first d k ticks sent p.count l p.last p.moved g in
-      elim p.ends [
-        | inl rests ↦ polled_once first p.last now d k ticks sent h rests.1.0 rests.1.2
-        | inr all ↦ subst (λ (x : StationState). GoesOn first x d k ticks sent) (sym all.1) h
-      ]
+  polled_out first l now d k ticks sent rests p g =
+      polled_ends first p.last now d k ticks sent rests p.count p.ends (polled_more first d k ticks sent p.count l p.last p.moved g)
 
 -- ---- frames that leave
 -- one frame more of a lane
@@ -167,19 +169,20 @@ module _ {W : Type 0} (Steps : W → WireCall → W → Type 0) where
       let same : new.station.entity ≡ h.polled.entity = left_same h.sends.count (record old { station = h.flushed }) new h.sends.sent ∙ h.flushes.1.0 in
       subst (λ (e : Counted). IsTrue e.state.table.stands) same stand
 
-  moves_stood : (count : ℕ) (a b : StationState) → Times PollMoves count a b → Stand b → Stand a
+  moves_stood : (count : ℕ) (a b : StationState) → Times (MovesMore Rest) count a b → Stand b → Stand a
   moves_stood zero a b same stand = subst Stand same stand
-  moves_stood (suc count) a b (mid, before, (answer, more, once)) stand = moves_stood count a mid before (polls-stood answer mid b once.shows stand).0
+  moves_stood (suc count) a b (mid, before, (on, (answer, more, once))) stand = moves_stood count a mid before (polls-stood answer mid b once.shows stand).0
 
-  out_stood : (a b : StationState) → PollsOut a b → Stand b → Stand a
-  out_stood a b p stand = moves_stood p.count a p.last p.moved (elim p.ends [
-    | inl rests ↦ (polls-stood rests.1.0 p.last b rests.1.2.shows stand).0
-    | inr all ↦ subst Stand all.1 stand
-  ])
+  ends_stood : (rests : Bool) (count : ℕ) (a b : StationState) → EndsPolls Rest 16 rests count a b → Stand b → Stand a
+  ends_stood true count a b ends stand = (polls-stood ends.1.1.0 a b ends.1.1.2.shows stand).0
+  ends_stood false count a b ends stand = subst Stand ends.1 stand
+
+  out_stood : (rests : Bool) (a b : StationState) → PollsUntil Rest 16 rests a b → Stand b → Stand a
+  out_stood rests a b p stand = moves_stood p.count a p.last p.moved (ends_stood rests p.count p.last b p.ends stand)
 
   sends_stood : GoesOnLaws → (now : ℕ) (old new : PortState W) → Sends Steps now old new → Stand new.station → Stand old.station
   sends_stood laws now old new h stand =
-      (ticks-gains laws now old.station h.told h.tells).stood (out_stood h.told h.polled h.polls (polled_stood now old new h stand))
+      (ticks-gains laws now old.station h.told h.tells).stood (out_stood h.rests h.told h.polled h.polls (polled_stood now old new h stand))
 
   hears_stood : GoesOnLaws → (old new : PortState W) → HearsAll Steps old new → Stand new.station → Stand old.station
   hears_stood laws old new h stand = (hears-gains laws Steps old new h).stood stand
@@ -206,7 +209,7 @@ module _ {W : Type 0} (Steps : W → WireCall → W → Type 0) where
       let tick = tick_goes s l h.told l.down b k m puts ticks sent (aside_none l b k m forth back) now h.tells.ticked h.tells.table h.tells.failures h.tells.raises h.tells.link in
       let told : GoesAside Of s h.told h.told l.down b k m puts tick.0 sent = goes_none Of s h.told l.down b k m puts tick.0 sent tick.2 in
       let polled : GoesAside Of s h.told h.polled l.down b k m puts tick.0 sent =
-      polled_out Of of s b m puts h.told h.told h.polled l.down k tick.0 sent h.polls (λ stood. told) (polled_stood now old new h stand) in
+      polled_out Of of s b m puts h.told h.told h.polled l.down k tick.0 sent h.rests h.polls (λ stood. told) (polled_stood now old new h stand) in
       let g : GoesAside Of s h.told h.flushed l.down b k m puts tick.0 sent = goes_both Of s h.told h.polled h.flushed l.down b k m puts tick.0 sent polled
       (flush_on s h.polled h.flushed polled.down b polled.link m puts polled.then_ticks sent polled.is Of (of.flush s) h.flushes.0 h.flushes.1) in
       let start : PortState W = record old { station = h.flushed } in

@@ -3,7 +3,6 @@ use Rattle.cfdp_station.specs.Station.{StationState}
 use Rattle.cfdp_port.specs.Gains.{Gains}
 use Rattle.cfdp_port.specs.PeerTurn.{SendsSome, SendsSomeInPart, TakesInPart, TakesOne}
 use Rattle.cfdp_port.specs.Port.{port_state, table_of}
-use Rattle.cfdp_port.specs.Turn.{TellsTime}
 use Rattle.cfdp_port.proofs.GainLemmas.{GoesOnLaws, part-gains, turn-gains}
 use Rattle.cfdp_port.proofs.TurnLemmas.{err-map, ok-map, on_both, on_err}
 use Rattle.cfdp_port.proofs.peer_turn.take_turn.Goals as goal
@@ -24,7 +23,7 @@ returns-in_err-tick-clause-gains g c =
     let on = c.an_entity_goes_on.ensures in
     let laws : GoesOnLaws = record { ticked = on.ticked; heard = on.heard; dropped = on.dropped; served = on.served } in
     let old = port_state c.args.station.now c.args.wire.now in
-    let new = port_state c.tick.new.self c.now-now.new.self in
+    let new = port_state c.tick.new.station c.now-now.new.self in
     let part : TakesInPart g.W.Wire.steps old new = record {
       now = c.now-now.result;
       heard = port_state c.receive.new.station c.receive.new.wire;
@@ -39,14 +38,7 @@ pub returns-clause-ok : goal.returns-clause-ok
 returns-clause-ok g c =
     let old = port_state c.args.station.now c.args.wire.now in
     let new = port_state c.send_some.new.station c.send_some.new.wire in
-    let told_now = port_state c.tick.new.self c.now-now.new.self in
-    let tells : TellsTime c.now-now.result c.receive.new.station c.tick.new.self = record {
-      ticked = c.in_ok-tick.ensures.ticked;
-      table = c.in_ok-tick.ensures.table;
-      failures = (c.in_ok-tick.ensures.outbox, c.in_ok-tick.ensures.grows);
-      raises = c.in_ok-tick.ensures.raises;
-      link = c.in_ok-tick.ensures.link;
-    } in
+    let told_now = port_state c.tick.new.station c.now-now.new.self in
     ok-map c.send_some.result (SendsSome g.W.Wire.steps told_now new) (TakesOne g.W.Wire.steps old new)
     (λ sends. record {
       now = c.now-now.result;
@@ -54,8 +46,8 @@ returns-clause-ok g c =
       timed = c.now-now.new.self;
       hears = c.receive.ensures.hears;
       times = c.now-now.ensures;
-      told = c.tick.new.self;
-      tells = tells;
+      told = c.tick.new.station;
+      tells = c.in_ok-tick.ensures.told;
       sends = sends;
     }) c.send_some.ensures.ok
 
@@ -63,14 +55,7 @@ pub returns-clause-err : goal.returns-clause-err
 returns-clause-err g c =
     let old = port_state c.args.station.now c.args.wire.now in
     let new = port_state c.send_some.new.station c.send_some.new.wire in
-    let told_now = port_state c.tick.new.self c.now-now.new.self in
-    let tells : TellsTime c.now-now.result c.receive.new.station c.tick.new.self = record {
-      ticked = c.in_ok-tick.ensures.ticked;
-      table = c.in_ok-tick.ensures.table;
-      failures = (c.in_ok-tick.ensures.outbox, c.in_ok-tick.ensures.grows);
-      raises = c.in_ok-tick.ensures.raises;
-      link = c.in_ok-tick.ensures.link;
-    } in
+    let told_now = port_state c.tick.new.station c.now-now.new.self in
     err-map c.send_some.result (SendsSomeInPart g.W.Wire.steps told_now new) (TakesInPart g.W.Wire.steps old new)
     (λ part. record {
       now = c.now-now.result;
@@ -78,7 +63,7 @@ returns-clause-err g c =
       timed = c.now-now.new.self;
       hears = c.receive.ensures.hears;
       times = c.now-now.ensures;
-      ends = inr (c.tick.new.self, tells, part);
+      ends = inr (c.tick.new.station, c.in_ok-tick.ensures.told, part);
     }) c.send_some.ensures.err
 
 pub returns-clause-gains : goal.returns-clause-gains

@@ -22,7 +22,7 @@ loop-datagram-preserved g c =
       | in-Ok-Some w ↦
           let frame = take w.in-Ok-Some.len c.receive.new.buffer in
           let asked = rw w.in-Ok-Some.field-0-is at w.in-Ok-Some.ensures.steps in
-          let takes = subst (λ (s : StationState). TakesFrame frame c.loop-datagram.station s) (sym w.station-is) w.receive-in-Ok-Some.ensures in (
+          let takes = subst (λ (s : StationState). TakesFrame frame c.loop-datagram.station s) (sym w.station-is) w.take.ensures.takes in (
             heard_more g.W.Wire.steps c.loop-datagram._datagram (record { station = c.args.station.now; wire = c.args.wire.now }) c.loop-datagram.station c.match-receive.station c.loop-datagram.wire
                 c.receive.new.self
                 (Ok (Some frame)) c.loop-datagram.invariant.0 (some_came _ frame refl) asked takes,

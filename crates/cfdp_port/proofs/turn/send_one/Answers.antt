@@ -15,3 +15,6 @@ returns-clause-sent g c _ = record {
   answer = c.send.result;
   sent = c.send.ensures;
 }
+
+pub returns-clause-shown : goal.returns-clause-shown
+returns-clause-shown g c _ = (c.in-Some.lane, sym c.next_frame.ensures.lane ∙ c.in-Some.is, (c.send.result, c.send.ensures, rw c.is_ok-is_sent.ensures.value at c.sees.ensures))

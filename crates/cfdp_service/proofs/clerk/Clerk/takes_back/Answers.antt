@@ -17,9 +17,9 @@ was_open g c file was = subst (λ (s : ClerkState _). Contains s.files file) c.s
 keeps_its_name : (g : _) → (c : goal.After-opened g) → IsTrue c.if-are_alike.is_file
     → c.args.names.source.items ≡ c.args.names.destination.items
 keeps_its_name g c is = elim c.if-are_alike.branch [
-  | then-are_alike w ↦ w.if-are_alike.ensures refl
+  | then-are_alike w ↦ w.if-are_alike.ensures.0 refl
   | else-are_alike w ↦
-      w.if-are_alike.ensures (subst IsTrue (w.is_file-is ∙ w.if-are_alike.false) is)
+      w.if-are_alike.ensures.0 (subst IsTrue (w.is_file-is ∙ w.if-are_alike.false) is)
 ]
 
 pub returns-clause-files : goal.returns-clause-files

@@ -22,8 +22,8 @@ gives (Some lane) frame old new is kept made other count rest = record {
 
 pub returns-clause-sent : goal.returns-clause-sent
 returns-clause-sent g c = record {
-  pulled = c.pull.new.station;
+  pulled = c.pull.new.self;
   pulls = c.in_ok-pull.ensures.ok;
-  gives = gives c.next_frame.result c.next_frame.new.out c.pull.new.station c.next_frame.new.self c.next_frame.ensures.lane (λ none. (c.next_frame.ensures.kept none).0)
+  gives = gives c.next_frame.result c.next_frame.new.out c.pull.new.self c.next_frame.new.self c.next_frame.ensures.lane (λ none. (c.next_frame.ensures.kept none).0)
       c.next_frame.ensures.made c.next_frame.ensures.other c.next_frame.ensures.packet_count c.next_frame.ensures.rest;
 }
