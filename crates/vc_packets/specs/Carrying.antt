@@ -1,6 +1,6 @@
 -- What the frames of any virtual channels carry (CCSDS 732.0-B-4, 4.1.2.4, 4.1.2.5, 4.1.4.2), by
 -- the frames that were seen before.
-use Rattle.std.specs.Prelude.{◌≡◌, ℕ, ◌+◌, ◌<◌, ◌≤◌, ◌==◌, ◌&&◌, Bool, true, false, if◌then◌else◌, Option, Some, None, MatchOption, List, [], ◌∷◌, ◌++◌, length, drop}
+use Rattle.std.specs.Prelude.{◌≡◌, ◌⊎◌, ℕ, ◌+◌, ◌<◌, ◌≤◌, ◌==◌, ◌&&◌, Bool, true, false, if◌then◌else◌, Option, Some, None, MatchOption, List, [], ◌∷◌, ◌++◌, length, drop}
 use Rattle.std.specs.List.{All}
 use Rattle.aos_frame.specs.Counts.{AreMissing, compared}
 use Rattle.aos_frame.specs.declared.count.SeenCount.{SeenCount}
@@ -45,6 +45,10 @@ carried_text c = record {
   bad = c.notes.bad;
   packets = c.packets;
 }
+
+-- a channel that has seen a frame, and holds nothing of a begun packet
+abbrev pub seen_only : FrameHeader → Channel → Channel
+seen_only h c = record c { monitor = Some (count_of h); reassembler = [] }
 
 -- So many frames of a channel are missing before this count: none before the first one seen.
 abbrev pub IsMissing : Option SeenCount → SeenCount → ℕ → Type 0
@@ -104,3 +108,9 @@ pub record IsUnfollowed (channels : List Channel) (h : FrameHeader) (after : Lis
   pub full : 64 ≤ length channels
   pub other : All (λ c. is_of h c ≡ false) channels
   pub same : after ≡ channels
+
+-- There was no memory for a frame: nothing changed, or its channel has seen it, and holds nothing of
+-- a begun packet. No other channel changes.
+abbrev pub LacksMemory : List Channel → FrameHeader → List Channel → Type 0
+LacksMemory channels h after = (after ≡ channels)
+    ⊎ (after ≡ with_channel h (seen_only h (channel_of h channels)) channels)

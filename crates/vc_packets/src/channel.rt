@@ -1,7 +1,7 @@
 //! One virtual channel of a spacecraft.
-ghost use Rattle.std.specs.Prelude.{◌≡◌, ◌≤◌, length, IfOk, Some};
+ghost use Rattle.std.specs.Prelude.{◌≡◌, ◌≤◌, length, IfOk, OnErr, Some};
 ghost use Rattle.vc_packets.specs.Carrying.{Carries, IsMissing, carried_text, count_of, fresh};
-ghost use Rattle.vc_packets.specs.Carrying.{is_of};
+ghost use Rattle.vc_packets.specs.Carrying.{is_of, seen_only};
 
 use aos_frame::{Continuity, FrameHeader, VcMonitor, one_number_is_missing};
 use mpdu::{MPDU_HEADER_LEN, Notes, ONLY_IDLE, Reassembler, read_pointer};
@@ -59,7 +59,8 @@ impl Channel {
     ///
     /// # Errors
     ///
-    /// `AllocError` if there is no memory for a packet. Its packets aren't reported then.
+    /// `AllocError` if there is no memory for a packet. Its packets aren't reported then, and
+    /// nothing is held of a begun one.
     pub(crate) fn take(
         &mut self,
         alloc: Global,
@@ -68,8 +69,9 @@ impl Channel {
     ) -> Result<Carried, AllocError>
         requires least { 18 ≤ length mpdu.now }
         requires most { length mpdu.now ≤ 2042 }
-        ensures { IfOk result (λ carried. Carries self.old header mpdu.now (carried_text carried)
+        ensures ok { IfOk result (λ carried. Carries self.old header mpdu.now (carried_text carried)
             self.new) }
+        ensures err { OnErr result (self.new ≡ seen_only header self.old) }
     {
         let missing = missing_before(&mut self.monitor, header);
         let mut packets = OctetStrings::new(alloc);

@@ -1,8 +1,8 @@
 //! All virtual channels whose frames were seen.
 ghost use Rattle.std.specs.Prelude.{◌≡◌, ◌≤◌, ◌<◌, [], length, take, slice_index_or, true, false};
-ghost use Rattle.std.specs.Prelude.{All, IfOk, IfSome, MatchOption, None};
-ghost use Rattle.vc_packets.specs.Carrying.{FrameCarries, IsUnfollowed, carried_text, fresh};
-ghost use Rattle.vc_packets.specs.Carrying.{is_of};
+ghost use Rattle.std.specs.Prelude.{All, IfOk, IfSome, MatchOption, None, OnErr};
+ghost use Rattle.vc_packets.specs.Carrying.{FrameCarries, IsUnfollowed, LacksMemory};
+ghost use Rattle.vc_packets.specs.Carrying.{carried_text, fresh, is_of};
 
 use crate::channel::{Carried, Channel};
 use aos_frame::FrameHeader;
@@ -45,13 +45,15 @@ impl Channels {
     ///
     /// # Errors
     ///
-    /// `AllocError` if there is no memory for it.
+    /// `AllocError` if there is no memory for it: what is held of a begun packet of its channel may
+    /// be lost then.
     pub fn take(&mut self, header: FrameHeader, mpdu: &[u8]) -> Result<Option<Carried>, AllocError>
         requires least { 18 ≤ length mpdu.now }
         requires most { length mpdu.now ≤ 2042 }
-        ensures { IfOk result (λ answer. MatchOption answer
+        ensures ok { IfOk result (λ answer. MatchOption answer
             (IsUnfollowed self.old header self.new)
             (λ carried. FrameCarries self.old header mpdu.now (carried_text carried) self.new)) }
+        ensures err { OnErr result (LacksMemory self.old header self.new) }
     {
         match place_of(&self.channels, header) {
             Some(place) => {
@@ -75,9 +77,10 @@ impl Channels {
         requires least { 18 ≤ length mpdu.now }
         requires most { length mpdu.now ≤ 2042 }
         requires none { All (λ channel. is_of header channel ≡ false) self.old }
-        ensures { IfOk result (λ answer. MatchOption answer
+        ensures ok { IfOk result (λ answer. MatchOption answer
             (IsUnfollowed self.old header self.new)
             (λ carried. FrameCarries self.old header mpdu.now (carried_text carried) self.new)) }
+        ensures err { OnErr result (LacksMemory self.old header self.new) }
     {
         if self.channels.len() >= MOST_CHANNELS {
             return Ok(None);

@@ -2,8 +2,8 @@ use Rattle.std.proofs.Common.{rules, ◌≡◌, ◌-◌, [], refl, length, take,
 use Rattle.std.proofs.lemmas.List.{take_rest}
 use Rattle.vc_packets.proofs.channel.Channel.take.Goals as goal
 
-pub returns : goal.returns
-returns c =
+pub returns-clause-ok : goal.returns-clause-ok
+returns-clause-ok c =
     let none : c.new-packets.result ≡ [] = c.new-packets.ensures in
     let zone : take (length c.args.mpdu.now - 2) (drop 2 c.args.mpdu.now) ≡ drop 2 c.args.mpdu.now = take_rest c.args.mpdu.now 2 in
     record {
