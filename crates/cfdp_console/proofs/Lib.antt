@@ -1,5 +1,6 @@
 pub mod HeardFrom
 mod Denials
+mod LinesShown
 mod HearingLemmas
 mod Summing
 mod Takes

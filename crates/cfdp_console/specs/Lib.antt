@@ -1,6 +1,7 @@
 pub mod Guard
 pub mod Asking
 pub mod Hearing
+pub mod LastLines
 pub mod Shown
 pub mod Ranges
 pub mod Rounds

@@ -1,2 +1,4 @@
 mod AskingRows
+mod Giving
 mod NamesRead
+mod Visiting

@@ -1,3 +1,4 @@
 pub mod Asking
+pub mod Door
 pub mod Lines
 pub mod Shown

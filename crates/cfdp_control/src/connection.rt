@@ -1,5 +1,8 @@
 //! A connection over which lines come and are answered.
-use crate::line::{LineFault, text_of};
+ghost use Rattle.std.specs.Prelude.{◌≡◌, ◌≢◌, ◌⊎◌, ◌<◌, [], vec_len, IfNone, IsFalse, IsTrue};
+ghost use Rattle.cfdp_control.specs.Lines.{Gives, HasNoEnd, came_to, waiting_in};
+
+use crate::line::LineFault;
 use crate::line_buffer::LineBuffer;
 use crate::stream::Stream;
 use libc::net::{POLLIN, POLLOUT};
@@ -71,7 +74,9 @@ impl Connection {
     }
 
     /// Returns the number by which it is known.
-    pub fn number(&self) -> u64 {
+    pub fn number(&self) -> u64
+        ensures { result ≡ self.now.number }
+    {
         self.number
     }
 
@@ -112,30 +117,47 @@ impl Connection {
     }
 
     /// Returns `true` if a line may be taken: one lies here, and its answers aren't left to wait.
-    pub fn has_line(&self) -> bool {
+    pub fn has_line(&self) -> bool
+        ensures some { IsTrue result → waiting_in self.now.lines ≢ [] }
+        ensures none { IsFalse result → HasNoEnd (waiting_in self.now.lines)
+            ⊎ (65536 < vec_len self.now.answers) }
+    {
         let is_whole = self.lines.has_line()
             || self.stage == Stage::Ending && !self.lines.is_empty();
         is_whole && self.answers.len() <= ENOUGH_ANSWERS
     }
 
     /// Takes the next line. After one that is too long, or no line of an operator, no more are.
-    pub fn next_line(&mut self) -> Option<Result<String, LineFault>> {
+    #[tactic(auto, using(crate::proofs::Giving::refused_all))]
+    pub fn next_line(&mut self) -> Option<Result<String, LineFault>>
+        ensures given { Gives self.old.lines result self.new.lines }
+        // A whole line waits only while many octets of answers do.
+        ensures none { IfNone result (HasNoEnd (waiting_in self.old.lines)
+            ⊎ (65536 < vec_len self.old.answers)) }
+        ensures number { self.new.number ≡ self.old.number }
+    {
         if !self.has_line() {
             return None;
         }
         self.owed = self.owed.saturating_add(1);
-        let line = match self.lines.take() {
-            Ok(Some(taken)) => text_of(taken),
-            Ok(None) => Err(LineFault::NoEnd),
-            Err(_) => Err(LineFault::NoMemory),
-        };
-        if let Err(fault) = line
-            && fault != LineFault::NotText
-        {
-            self.lines.clear();
-            self.stage = Stage::Ending;
+        match self.lines.next_text() {
+            Some(Ok(text)) => Some(Ok(text)),
+            Some(Err(LineFault::NotText)) => Some(Err(LineFault::NotText)),
+            Some(Err(fault)) => Some(Err(self.ends_lines(fault))),
+            None => Some(Err(self.ends_lines(LineFault::NoEnd))),
         }
-        Some(line)
+    }
+
+    /// Takes no more lines after one that has this fault, and drops what lies here.
+    fn ends_lines(&mut self, fault: LineFault) -> LineFault
+        ensures same { result ≡ fault }
+        ensures none { waiting_in self.new.lines ≡ [] }
+        ensures all { came_to self.new.lines ≡ came_to self.old.lines }
+        ensures number { self.new.number ≡ self.old.number }
+    {
+        self.lines.clear();
+        self.stage = Stage::Ending;
+        fault
     }
 
     /// Takes no more lines: it is left once this is sent.

@@ -1,4 +1,6 @@
 //! A line that came, and who sent it.
+ghost use Rattle.cfdp_control.specs.Lines.{IsTextOf};
+
 use crate::line_buffer::Taken;
 use std::fmt;
 
@@ -49,12 +51,16 @@ const WEB: &str = " HTTP/1.";
 /// # Errors
 ///
 /// The `LineFault` if it is none.
-pub(crate) fn text_of(taken: Taken) -> Result<String, LineFault> {
+pub(crate) fn text_of(taken: Taken) -> Result<String, LineFault>
+    ensures { IsTextOf taken result }
+{
     let octets = match taken {
         Taken::Line(octets) => octets,
         Taken::TooLong => return Err(LineFault::TooLong),
     };
-    let text = String::from_utf8(octets).map_err(|_error| LineFault::NotText)?;
+    let Ok(text) = String::from_utf8(octets) else {
+        return Err(LineFault::NotText);
+    };
     if text.as_str().contains(WEB) {
         return Err(LineFault::OfWeb);
     }

@@ -1,9 +1,10 @@
 //! Lines, as their octets come.
-ghost use Rattle.std.specs.Prelude.{◌≡◌, ◌==◌, ◌+◌, ◌≤◌, ◌++◌, length, vec_len, IfOk, OnErr, OnOk};
-ghost use Rattle.std.specs.Prelude.{false};
-ghost use Rattle.cfdp_control.specs.Lines.{Takes};
+ghost use Rattle.std.specs.Prelude.{◌≡◌, ◌≢◌, ◌==◌, ◌+◌, ◌≤◌, ◌++◌, ◌∷◌, [], length, vec_len};
+ghost use Rattle.std.specs.Prelude.{false, true, None, Ok, IfNone, IfOk, IsFalse, IsTrue, OnErr, OnOk};
 
+use crate::line::{LineFault, text_of};
 use cfdp_report::cut_at_first;
+use past::Past;
 use std::alloc::{AllocError, Global};
 
 /// The longest line, in octets, without its line feed.
@@ -28,17 +29,26 @@ pub struct LineBuffer {
     alloc: Global,
     pub octets: Vec<u8>,
     // Whether what comes is the rest of a line that was too long.
-    is_skipping: bool,
+    pub is_skipping: bool,
+    // The octets that came before these: they were taken or dropped. Only clauses see them.
+    pub gone: Past<u8>,
     ghost within: { vec_len octets ≤ 4097 },
+    ghost none_waits: { is_skipping ≡ true → octets.items ≡ [] },
 }
 
 impl LineBuffer {
+    ghost use Rattle.cfdp_control.specs.Lines.{Gives, GoesWith, HasNoEnd, Takes, came_to};
+
     /// Returns an empty buffer.
-    pub fn new(alloc: Global) -> LineBuffer {
+    pub fn new(alloc: Global) -> LineBuffer
+        ensures gone { result.gone ≡ [] }
+        ensures whole { result.is_skipping ≡ false }
+    {
         LineBuffer {
             alloc,
             octets: Vec::new(alloc),
             is_skipping: false,
+            gone: Past::new(),
         }
     }
 
@@ -57,7 +67,10 @@ impl LineBuffer {
     }
 
     /// Returns `true` if something may be taken: a whole line, or one that is too long.
-    pub fn has_line(&self) -> bool {
+    pub fn has_line(&self) -> bool
+        ensures some { IsTrue result → self.now.octets.items ≢ [] }
+        ensures none { IsFalse result → HasNoEnd self.now.octets.items }
+    {
         self.octets.len() > MOST_LINE || self.octets.as_slice().contains(&b'\n')
     }
 
@@ -70,14 +83,20 @@ impl LineBuffer {
         requires { vec_len self.old.octets + length octets.now ≤ 4097 }
         ensures kept { OnOk result (self.old.is_skipping ≡ false →
             self.new.octets.items ≡ self.old.octets.items ++ octets.now) }
+        ensures all { OnOk result (came_to self.new ≡ came_to self.old ++ octets.now) }
         ensures err { OnErr result (self.new.octets.items ≡ self.old.octets.items) }
     {
         if !self.is_skipping {
             return self.octets.extend_from_slice(octets);
         }
-        if let (_, Some(behind)) = cut_at_first(octets, b'\n') {
-            self.octets.extend_from_slice(behind)?;
-            self.is_skipping = false;
+        match cut_at_first(octets, b'\n') {
+            (rest, Some(behind)) => {
+                self.octets.extend_from_slice(behind)?;
+                self.is_skipping = false;
+                self.gone.put_all(rest);
+                self.gone.put(&b'\n');
+            }
+            (rest, None) => self.gone.put_all(rest),
         }
         Ok(())
     }
@@ -90,26 +109,51 @@ impl LineBuffer {
     pub fn take(&mut self) -> Result<Option<Taken>, AllocError>
         ensures taken { IfOk result (λ taken. Takes self.old.octets.items taken
             self.new.octets.items) }
+        ensures all { came_to self.new ≡ came_to self.old }
+        ensures gone { IfOk result (λ taken. GoesWith self.old.gone taken self.new.gone) }
+        ensures none { result ≡ Ok None → self.new ≡ self.old }
         ensures err { OnErr result (self.new.octets.items ≡ self.old.octets.items) }
     {
         let (line, behind) = cut_at_first(self.octets.as_slice(), b'\n');
         if let Some(behind) = behind {
             let line = Vec::from_slice(self.alloc, line)?;
             self.octets = Vec::from_slice(self.alloc, behind)?;
+            self.gone.put_all(line.as_slice());
+            self.gone.put(&b'\n');
             return Ok(Some(Taken::Line(line)));
         }
         if self.octets.len() <= MOST_LINE {
             return Ok(None);
         }
+        self.gone.put_all(self.octets.as_slice());
         self.octets.clear();
         self.is_skipping = true;
         Ok(Some(Taken::TooLong))
     }
 
+    /// Takes the text of the next line; `None` if none is whole. If there is no memory for it, all
+    /// that lies here is dropped.
+    #[tactic(auto, using(crate::proofs::Giving::gives_text))]
+    pub fn next_text(&mut self) -> Option<Result<String, LineFault>>
+        ensures given { Gives self.old result self.new }
+        ensures none { IfNone result (HasNoEnd self.old.octets.items) }
+    {
+        match self.take() {
+            Ok(Some(taken)) => Some(text_of(taken)),
+            Ok(None) => None,
+            Err(AllocError) => {
+                self.clear();
+                Some(Err(LineFault::NoMemory))
+            }
+        }
+    }
+
     /// Drops what lies here.
     pub fn clear(&mut self)
-        ensures { vec_len self.new.octets ≡ 0 }
+        ensures none { self.new.octets.items ≡ [] }
+        ensures all { came_to self.new ≡ came_to self.old }
     {
+        self.gone.put_all(self.octets.as_slice());
         self.octets.clear();
     }
 }

@@ -1,5 +1,8 @@
 //! Lines of standard input.
-use crate::line::{LineFault, text_of};
+ghost use Rattle.std.specs.Prelude.{IfNone};
+ghost use Rattle.cfdp_control.specs.Lines.{Gives, HasNoEnd, waiting_in};
+
+use crate::line::LineFault;
 use crate::line_buffer::LineBuffer;
 use libc::net::{POLLIN, POLLNVAL};
 use libc::types::pollfd;
@@ -78,14 +81,11 @@ impl StandardInput {
     }
 
     /// Takes the next line, if one is whole.
-    pub fn next_line(&mut self) -> Option<Result<String, LineFault>> {
-        match self.lines.take() {
-            Ok(taken) => Some(text_of(taken?)),
-            Err(_) => {
-                self.lines.clear();
-                Some(Err(LineFault::NoMemory))
-            }
-        }
+    pub fn next_line(&mut self) -> Option<Result<String, LineFault>>
+        ensures given { Gives self.old.lines result self.new.lines }
+        ensures none { IfNone result (HasNoEnd (waiting_in self.old.lines)) }
+    {
+        self.lines.next_text()
     }
 }
 

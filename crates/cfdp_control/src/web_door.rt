@@ -1,10 +1,11 @@
 //! The console's address: connections of browsers, served in the station's own turn.
-ghost use Rattle.std.specs.Prelude.{◌≡◌, IfSome};
-ghost use Rattle.cfdp_web.specs.Serving.{MayBeAsked};
+ghost use Rattle.std.specs.Prelude.{◌≡◌};
+ghost use Rattle.cfdp_web.specs.Serving.{AreKnownOrNew};
+ghost use Rattle.cfdp_control.specs.Door.{AsksAtDoor};
 
 use crate::cause::address_cause;
 use crate::line_sources::is_passing;
-use cfdp_console::{Answer, Ask, Caller, Guard};
+use cfdp_console::{Answer, Ask, Guard};
 use cfdp_exchange::Watched;
 use cfdp_web::{Visitors, WebStream, reply};
 use libc::net::{POLLIN, POLLOUT};
@@ -158,7 +159,8 @@ impl<'a> WebDoor<'a> {
     /// something it is `None` for two milliseconds, so that whoever asks does something else
     /// between.
     pub fn next_ask(&mut self, now: u64) -> Option<(u64, Ask)>
-        ensures { IfSome result (λ asked. MayBeAsked self.old.guard asked.1) }
+        ensures { AsksAtDoor self.old.guard self.old.visitors.all.items
+            self.new.visitors.all.items result }
     {
         if now < self.rests_until || !self.is_stirred(now) {
             return None;
@@ -211,7 +213,8 @@ impl<'a> WebDoor<'a> {
     /// Takes a connection, if one waits for that. If there is no room for it, the one that was
     /// answered least recently is closed.
     fn accepts(&mut self, now: u64)
-        ensures { self.new.guard ≡ self.old.guard }
+        ensures guard { self.new.guard ≡ self.old.guard }
+        ensures visitors { AreKnownOrNew self.old.visitors.all.items self.new.visitors.all.items }
     {
         if now < self.deaf_until {
             return;
@@ -228,17 +231,18 @@ impl<'a> WebDoor<'a> {
 
     /// Has one more connection.
     fn takes_in(&mut self, stream: TcpStream, now: u64)
-        ensures { self.new.guard ≡ self.old.guard }
+        ensures guard { self.new.guard ≡ self.old.guard }
+        ensures visitors { AreKnownOrNew self.old.visitors.all.items self.new.visitors.all.items }
     {
         let Ok(keys) = RandomState::new(self.rt) else {
             return;
         };
-        if stream.set_nonblocking(true).is_ok() {
-            let _ = stream.set_nodelay(true);
-            let caller = Caller::new(self.rt.alloc(), keys, now);
-            self.visitors.makes_room();
-            self.visitors.takes_in(WebSocket(stream), caller);
+        if stream.set_nonblocking(true).is_err() {
+            return;
         }
+        let _ = stream.set_nodelay(true);
+        self.visitors.makes_room();
+        self.visitors.takes_in(WebSocket(stream), keys, now);
     }
 }
 

@@ -1,11 +1,15 @@
 //! A connection of the console: how far it is, and the stream that carries its octets.
-ghost use Rattle.std.specs.Prelude.{◌≡◌, ◌≤◌, IfSome};
-ghost use Rattle.cfdp_web.specs.Serving.{MayBeAsked, most_octets};
+ghost use Rattle.std.specs.Prelude.{◌≡◌, ◌≤◌, ◌++◌, IfOk, OnErr, length, take};
+ghost use Rattle.std.specs.Io.KnownBytes.{Consumes};
+ghost use Rattle.cfdp_console.specs.Hearing.{Heard, HearsNothing, Listens, Reads};
+ghost use Rattle.cfdp_web.specs.Came.{HasHeard, most_octets};
 
 use crate::piece::Piece;
 use crate::stream::WebStream;
 use cfdp_console::{Answer, Ask, Caller, Guard};
-use std::alloc::AllocError;
+use past::Past;
+use std::alloc::{AllocError, Global};
+use std::hash::RandomState;
 use std::io;
 use std::io::ErrorKind;
 
@@ -34,22 +38,37 @@ pub struct Wants {
 pub struct Visitor<S: WebStream> {
     number: u64,
     stream: S,
-    caller: Caller,
+    pub(crate) caller: Caller,
+    // All octets that were read over the stream until it is left. Only clauses see them.
+    pub(crate) came: Past<u8>,
     // How many octets came since its last answer.
     heard: usize,
     // Since when it is left, in milliseconds.
     left_at: Option<u64>,
     is_over: bool,
     ghost within: { heard ≤ most_octets },
+    ghost all_heard: { HasHeard caller came },
 }
 
 impl<S: WebStream> Visitor<S> {
-    /// Returns the connection of this number.
-    pub(crate) fn new(number: u64, stream: S, caller: Caller) -> Visitor<S> {
+    ghost use Rattle.cfdp_web.specs.Serving.{Attends, BringsNothing, IsNew};
+
+    /// Returns the connection of this number that came at this time. The names of the fields of its
+    /// requests are kept under secret keys.
+    pub(crate) fn new(
+        alloc: Global,
+        number: u64,
+        stream: S,
+        keys: RandomState,
+        now: u64,
+    ) -> Visitor<S>
+        ensures { IsNew result }
+    {
         Visitor {
             number,
             stream,
-            caller,
+            caller: Caller::new(alloc, keys, now),
+            came: Past::new(),
             heard: 0,
             left_at: None,
             is_over: false,
@@ -57,7 +76,9 @@ impl<S: WebStream> Visitor<S> {
     }
 
     /// Returns the number by which it is known.
-    pub fn number(&self) -> u64 {
+    pub fn number(&self) -> u64
+        ensures { result ≡ self.now.number }
+    {
         self.number
     }
 
@@ -80,21 +101,26 @@ impl<S: WebStream> Visitor<S> {
     }
 
     /// Returns `true` if it is over: its stream must be closed.
-    pub fn is_over(&self) -> bool {
+    pub fn is_over(&self) -> bool
+        ensures { result ≡ self.now.is_over }
+    {
         self.is_over
     }
 
     /// Does what can be done now: sends a piece, takes a piece, or leaves it. Returns what it asks,
-    /// if its request is whole and it may ask that by the guard: that must be answered.
+    /// if its next request is whole and it may ask that by the guard: that must be answered.
     pub fn attend(&mut self, guard: &Guard, now: u64) -> Option<Ask>
-        ensures { IfSome result (MayBeAsked guard.now) }
+        ensures { Attends guard.now self.old self.new result }
     {
-        if self.left_at.is_none() {
-            self.caller.looks_at_clock(now);
-        }
-        if self.caller.has_output() {
-            self.sends(now);
-        }
+        self.looks_at_clock(now);
+        self.sends(now);
+        self.goes_on(guard, now)
+    }
+
+    /// Takes a piece, or leaves it. Returns what it asks.
+    fn goes_on(&mut self, guard: &Guard, now: u64) -> Option<Ask>
+        ensures { Attends guard.now self.old self.new result }
+    {
         if self.caller.is_gone() {
             self.leaves(now);
             None
@@ -113,8 +139,23 @@ impl<S: WebStream> Visitor<S> {
         self.caller.answers(answer, now);
     }
 
-    /// Sends a piece of what waits.
-    fn sends(&mut self, now: u64) {
+    /// Leaves it if it was too slow.
+    fn looks_at_clock(&mut self, now: u64)
+        ensures { BringsNothing self.old self.new }
+    {
+        if self.left_at.is_some() {
+            return;
+        }
+        self.caller.looks_at_clock(now);
+    }
+
+    /// Sends a piece of what waits, if something does.
+    fn sends(&mut self, now: u64)
+        ensures { BringsNothing self.old self.new }
+    {
+        if !self.caller.has_output() {
+            return;
+        }
         if let Err(error) = send_piece(&mut self.caller, &mut self.stream, now) {
             self.fails(error.kind());
         }
@@ -122,7 +163,8 @@ impl<S: WebStream> Visitor<S> {
 
     /// Takes a piece of its request. One that is too long is left.
     fn hears(&mut self, guard: &Guard, now: u64) -> Option<Ask>
-        ensures { IfSome result (MayBeAsked guard.now) }
+        requires { Listens self.old.caller }
+        ensures { Attends guard.now self.old self.new result }
     {
         let room = MOST_OCTETS - self.heard;
         if room == 0 {
@@ -131,10 +173,10 @@ impl<S: WebStream> Visitor<S> {
         }
         let mut buffer = [0u8; MOST_READ];
         let most = room.min(MOST_READ);
-        match self.stream.read(&mut buffer[..most]) {
+        match read_noted(&mut self.stream, &mut buffer[..most], &mut self.came) {
             Ok(len) => {
                 self.heard += len;
-                self.takes(&buffer[..len], guard, now)
+                hear(&mut self.caller, &buffer[..len], guard, now)
             }
             Err(error) => {
                 self.fails(error.kind());
@@ -143,20 +185,10 @@ impl<S: WebStream> Visitor<S> {
         }
     }
 
-    /// Takes octets that came. If no more come and nothing was asked, it is left.
-    fn takes(&mut self, octets: &[u8], guard: &Guard, now: u64) -> Option<Ask>
-        ensures heard { self.new.heard ≡ self.old.heard }
-        ensures may { IfSome result (MayBeAsked guard.now) }
-    {
-        let asked = self.caller.hears(octets, guard, now);
-        if asked.is_none() && octets.is_empty() && !self.caller.has_output() {
-            self.caller.breaks_off();
-        }
-        asked
-    }
-
     /// Notifies it that nothing more comes; then discards what comes, for a second at most.
-    fn leaves(&mut self, now: u64) {
+    fn leaves(&mut self, now: u64)
+        ensures { BringsNothing self.old self.new }
+    {
         match self.left_at {
             None => {
                 self.stream.ends();
@@ -168,7 +200,9 @@ impl<S: WebStream> Visitor<S> {
     }
 
     /// Discards what came, until its other end is closed.
-    fn throws_away(&mut self) {
+    fn throws_away(&mut self)
+        ensures { BringsNothing self.old self.new }
+    {
         let mut buffer = [0u8; MOST_READ];
         match self.stream.read(&mut buffer) {
             Ok(0) => self.is_over = true,
@@ -178,7 +212,9 @@ impl<S: WebStream> Visitor<S> {
     }
 
     /// Notes why nothing was sent or read: it is over, unless it must only wait.
-    fn fails(&mut self, kind: ErrorKind) {
+    fn fails(&mut self, kind: ErrorKind)
+        ensures { BringsNothing self.old self.new }
+    {
         if kind != ErrorKind::WouldBlock && kind != ErrorKind::Interrupted {
             self.caller.breaks_off();
             self.is_over = true;
@@ -187,7 +223,50 @@ impl<S: WebStream> Visitor<S> {
 }
 
 /// Sends a piece of what waits to be sent to a caller.
-fn send_piece<S: WebStream>(caller: &mut Caller, stream: &mut S, now: u64) -> io::Result<usize> {
+fn send_piece<S: WebStream>(caller: &mut Caller, stream: &mut S, now: u64) -> io::Result<usize>
+    ensures { HearsNothing caller.old caller.new }
+{
     let mut piece = Piece(stream);
     caller.sends(&mut piece, now)
+}
+
+/// Reads once over a stream, and notes what came.
+fn read_noted<S: WebStream>(
+    stream: &mut S,
+    octets: &mut [u8],
+    came: &mut Past<u8>,
+) -> io::Result<usize>
+    ensures bound { IfOk result (λ len. len ≤ length octets.new) }
+    ensures read { IfOk result (λ len. Consumes (S.remaining stream.old) (S.remaining stream.new)
+        (take len octets.new)) }
+    ensures noted { IfOk result (λ len. came.new ≡ came.old ++ take len octets.new) }
+    ensures err { OnErr result (came.new ≡ came.old) }
+{
+    let len = stream.read(octets)?;
+    came.put_all(&octets[..len]);
+    Ok(len)
+}
+
+/// Has a caller hear octets that came. If no more come and nothing is asked, it is left.
+fn hear(caller: &mut Caller, octets: &[u8], guard: &Guard, now: u64) -> Option<Ask>
+    requires { Listens caller.old }
+    ensures heard { Heard guard.now caller.old caller.new result }
+    ensures read { Reads caller.old caller.new octets.now }
+{
+    match caller.hears(octets, guard, now) {
+        Some(ask) => Some(ask),
+        None => {
+            leave_at_end(caller, octets.is_empty());
+            None
+        }
+    }
+}
+
+/// Leaves a caller that sends no more octets, unless it is answered.
+fn leave_at_end(caller: &mut Caller, is_end: bool)
+    ensures { HearsNothing caller.old caller.new }
+{
+    if is_end && !caller.has_output() {
+        caller.breaks_off();
+    }
 }

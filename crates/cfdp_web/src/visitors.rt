@@ -1,11 +1,13 @@
 //! All connections of the console.
-ghost use Rattle.std.specs.Prelude.{◌↔◌, ◌<◌, ◌≤◌, vec_len, IfSome, IsTrue};
-ghost use Rattle.cfdp_web.specs.Serving.{MayBeAsked, most_visitors};
+ghost use Rattle.std.specs.Prelude.{◌≡◌, ◌↔◌, ◌<◌, ◌≤◌, vec_len, IsTrue};
+ghost use Rattle.cfdp_web.specs.Serving.{AreKnownOrNew, AttendsAt, AttendsInTurn, most_visitors};
+ghost use Rattle.cfdp_web.specs.Serving.{staying};
 
 use crate::stream::WebStream;
 use crate::visitor::Visitor;
-use cfdp_console::{Answer, Ask, Caller, Guard};
+use cfdp_console::{Answer, Ask, Guard};
 use std::alloc::{AllocError, Global};
+use std::hash::RandomState;
 
 /// The most connections at a time.
 const MOST_VISITORS: usize = 16;
@@ -14,6 +16,7 @@ const MOST_VISITORS: usize = 16;
 /// last.
 #[derive(Drop)]
 pub struct Visitors<S: WebStream> {
+    alloc: Global,
     all: Vec<Visitor<S>>,
     // How many there were so far.
     numbered: u64,
@@ -24,6 +27,7 @@ impl<S: WebStream> Visitors<S> {
     /// Returns no connections.
     pub fn new(alloc: Global) -> Visitors<S> {
         Visitors {
+            alloc,
             all: Vec::new(alloc),
             numbered: 0,
         }
@@ -38,7 +42,8 @@ impl<S: WebStream> Visitors<S> {
 
     /// Closes the connection that came or was answered least recently, if there are 16.
     pub fn makes_room(&mut self)
-        ensures { vec_len self.new.all < most_visitors }
+        ensures room { vec_len self.new.all < most_visitors }
+        ensures known { AreKnownOrNew self.old.all.items self.new.all.items }
     {
         if self.all.len() >= MOST_VISITORS {
             let _ = self.all.remove(0);
@@ -50,28 +55,44 @@ impl<S: WebStream> Visitors<S> {
         self.all.as_slice()
     }
 
-    /// Adds a connection; if there are 16, or there is no memory, it is closed.
-    pub fn takes_in(&mut self, stream: S, caller: Caller) {
+    /// Adds a connection that came at this time; if there are 16, or there is no memory, it is
+    /// closed. The names of the fields of its requests are kept under secret keys.
+    pub fn takes_in(&mut self, stream: S, keys: RandomState, now: u64)
+        ensures { AreKnownOrNew self.old.all.items self.new.all.items }
+    {
         if self.has_room() {
             self.numbered = self.numbered.saturating_add(1);
-            let _ = self.all.push(Visitor::new(self.numbered, stream, caller));
+            let visitor = Visitor::new(self.alloc, self.numbered, stream, keys, now);
+            let _ = self.all.push(visitor);
         } else {
-            drop((stream, caller));
+            drop(stream);
         }
     }
 
     /// Attends to each connection once, up to the first one that asks something. Returns its
-    /// number, and what it asks, which some request may ask by the guard. That must be answered.
+    /// number, and what it asks, which one of its requests may ask by the guard. That must be
+    /// answered.
     pub fn next_ask(&mut self, guard: &Guard, now: u64) -> Option<(u64, Ask)>
-        ensures { IfSome result (λ asked. MayBeAsked guard.now asked.1) }
+        ensures { AttendsInTurn guard.now (staying self.old.all.items) self.new.all.items result }
     {
         self.all.retain(|visitor| !visitor.is_over());
-        for visitor in self.all.iter_mut() {
-            if let Some(ask) = visitor.attend(guard, now) {
-                return Some((visitor.number(), ask));
+        for place in 0..self.all.len() {
+            if let Some(asked) = self.next_at(place, guard, now) {
+                return Some(asked);
             }
         }
         None
+    }
+
+    /// Attends to the connection at this index. Returns its number, and what it asks.
+    fn next_at(&mut self, place: usize, guard: &Guard, now: u64) -> Option<(u64, Ask)>
+        requires { place < vec_len self.old.all }
+        ensures attends { AttendsAt guard.now self.old.all.items self.new.all.items place result }
+        ensures len { vec_len self.new.all ≡ vec_len self.old.all }
+    {
+        let visitor = &mut self.all[place];
+        let ask = visitor.attend(guard, now)?;
+        Some((visitor.number(), ask))
     }
 
     /// Answers the connection of this number. If it has gone, nothing is sent.
