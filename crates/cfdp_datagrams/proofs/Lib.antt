@@ -1,2 +1,3 @@
 mod CarrierLemmas
+mod DatagramLemmas
 mod Paces

@@ -11,7 +11,7 @@ use std::io::ErrorKind;
 ///
 /// ```text
 /// let numbers = SharedNumbers::over(reservation);
-/// let socket = PeerSocket::bind(&rt, listen, to, pace, &numbers, &exchange)?;
+/// let wire = DatagramWire::new(&rt, transport, pace, &numbers, &exchange)?;
 /// let keeper = StationKeeper::new(&numbers, &exchange);
 /// ```
 #[derive(Drop)]

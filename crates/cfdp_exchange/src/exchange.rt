@@ -57,6 +57,8 @@ pub struct Exchange {
     pub dropped: CarrierTally,
     /// How many frames of a secured link were refused.
     pub refused: RefusalTally,
+    /// How many transactions an EOF cancelled before anything of them arrived.
+    pub unknown_cancels: Cell<u64>,
     /// How many octets of frames left, and how many came. Each count stays at 2^64 - 1.
     pub octets_sent: Cell<u64>,
     pub octets_received: Cell<u64>,
@@ -84,6 +86,7 @@ impl Exchange {
             gaps: FrameGaps::new(),
             dropped: CarrierTally::new(),
             refused: RefusalTally::new(),
+            unknown_cancels: Cell::new(0),
             octets_sent: Cell::new(0),
             octets_received: Cell::new(0),
             notes: NoteQueue::new(alloc),

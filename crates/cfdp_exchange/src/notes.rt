@@ -53,6 +53,8 @@ pub enum NoteTopic {
     Order,
     /// A transaction that waits for the peer's Finished.
     Finished,
+    /// A transaction that was cancelled before anything of it arrived.
+    UnknownCancel,
     /// Times that end a transaction before anything is repeated.
     Timers,
     /// Whether frames are authenticated.
@@ -89,6 +91,7 @@ impl NoteTopic {
             NoteTopic::Journal => "journal",
             NoteTopic::Order => "order",
             NoteTopic::Finished => "finished",
+            NoteTopic::UnknownCancel => "unknown-cancel",
             NoteTopic::Timers => "timers",
             NoteTopic::Authentication => "authentication",
             NoteTopic::Limits => "limits",
