@@ -1,1 +1,2 @@
 pub mod JournalLines
+mod Losing

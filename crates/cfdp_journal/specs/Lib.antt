@@ -1,2 +1,4 @@
 pub mod Journal
+pub mod Kept
+pub mod Lossy
 pub mod Queue

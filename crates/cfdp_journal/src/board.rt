@@ -1,6 +1,5 @@
 //! What a station's console shows of it.
 use crate::details::{DetailsSetup, details_of};
-use crate::journal::meaning::{condition_name, condition_words, name_of_code};
 use crate::journal::noted::{Noted, NotedTopics};
 use crate::journal::style::unix_time;
 use crate::journal::totals::{CONDITIONS, Totals};
@@ -12,7 +11,7 @@ use cfdp_console::{
 use cfdp_directives::{Condition, Delivery, FileStatus, Indication, Limits};
 use cfdp_exchange::{CarrierDrop, Exchange, NoteKind, REFUSALS, refusal_name};
 use cfdp_header::TransactionId;
-use cfdp_report::{Name, parse_id};
+use cfdp_report::{Name, condition_name, condition_words, parse_id};
 use cfdp_service::PutNames;
 use cfdp_station::{EntityDrop, Lane, LinkDrop, Phase, Station};
 use cfdp_store::{Inbox, Outbox};
@@ -205,8 +204,8 @@ impl<'a> Board<'a> {
     fn ends(&mut self, id: TransactionId, is_complete: bool, condition: Condition) {
         let ending = Ending {
             is_complete,
-            why: condition_words(condition),
-            condition: condition_name(condition),
+            why: condition_words(condition.code()),
+            condition: condition_name(condition.code()),
             time: unix_time(self.setup.rt),
         };
         self.ledger.ends(id, ending);
@@ -340,7 +339,7 @@ fn add_failed(all: &mut Vec<Failed>, way: Way, code: usize, count: u64) -> Resul
         all.push(Failed {
             way,
             code: u64::from(code),
-            condition: name_of_code(code),
+            condition: condition_name(code),
             count,
         })?;
     }

@@ -1,7 +1,6 @@
 //! The log of a station: a line for what its user asks for and hears, and what is known of that.
 pub mod json;
 pub mod line;
-pub mod meaning;
 pub mod noted;
 pub mod overview;
 pub mod register;

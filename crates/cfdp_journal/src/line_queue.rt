@@ -1,8 +1,10 @@
 //! Lines that wait to be written, and how many were lost since there was no room for them.
 ghost use Rattle.std.specs.Prelude.{◌≡◌, ◌≤◌, ◌+◌, ◌-◌, ◌==◌, ◌↔◌, [], IfOk, IsTrue, drop};
 ghost use Rattle.std.specs.Prelude.{length, vec_capacity, vec_len};
-ghost use Rattle.cfdp_journal.specs.Queue.{HasRoom, KeepsLine, LosesLine, TellsLost, WritesFirst};
+ghost use Rattle.cfdp_journal.specs.Queue.{HasRoom, KeepsLine, KeepsOrLoses, LosesLine, TellsLost};
+ghost use Rattle.cfdp_journal.specs.Queue.{WritesFirst};
 
+use past::Past;
 use std::alloc::{AllocError, Global};
 use std::io;
 use std::io::Write;
@@ -18,6 +20,8 @@ pub const MOST_WAITING: usize = 65_536;
 pub struct LineQueue {
     octets: Vec<u8>,
     lost: u64,
+    // What was written. Only clauses see it.
+    written: Past<u8>,
 }
 
 impl Model for LineQueue {
@@ -27,6 +31,7 @@ impl Model for LineQueue {
     ghost Value = { QueueState };
 
     ghost view = { λ queue. record {
+      written = queue.written;
       waits = queue.octets.items;
       lost = queue.lost;
     } };
@@ -41,12 +46,14 @@ impl LineQueue {
     ///
     /// `AllocError` if there is no memory.
     pub fn new(alloc: Global) -> Result<LineQueue, AllocError>
+        ensures written { IfOk result (λ queue. queue.written ≡ []) }
         ensures waits { IfOk result (λ queue. queue.waits ≡ []) }
         ensures lost { IfOk result (λ queue. queue.lost ≡ 0) }
     {
         Ok(LineQueue {
             octets: Vec::with_capacity(alloc, MOST_WAITING)?,
             lost: 0,
+            written: Past::new(),
         })
     }
 
@@ -78,6 +85,18 @@ impl LineQueue {
         self.lost == 0
             && self.octets.len() <= MOST_WAITING
             && count <= MOST_WAITING - self.octets.len()
+    }
+
+    /// Takes a line, with its line feed: it waits after the others, if it is whole and there is
+    /// room for it. Otherwise it is lost.
+    pub fn take(&mut self, line: &[u8], is_whole: bool)
+        ensures { KeepsOrLoses line.now is_whole self.old self.new }
+    {
+        if is_whole && self.has_room(line.len()) {
+            self.add(line);
+        } else {
+            self.lose();
+        }
     }
 
     /// Adds a line, with its line feed, to what waits, if there is room for it. Otherwise it is
@@ -121,6 +140,7 @@ impl LineQueue {
     {
         let most = most.min(self.octets.len());
         let written = out.write(&self.octets[..most])?;
+        self.written.put_all(&self.octets[..written]);
         remove_first(&mut self.octets, written);
         Ok(written)
     }

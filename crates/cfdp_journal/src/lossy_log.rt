@@ -1,4 +1,9 @@
 //! A log over standard output that loses lines if standard output takes none.
+ghost use Rattle.std.specs.Prelude.{◌≡◌, ◌++◌, ◌∷◌, [], List, ℕ, IfOk, IsTrue, OnOk};
+ghost use Rattle.std.specs.Prelude.{codes, decimal};
+ghost use Rattle.cfdp_journal.specs.Lossy.{HasLogged, HasNoEnd, KeepsMore, SaysLost};
+ghost use Rattle.cfdp_journal.specs.Queue.{StaysLogged};
+
 use crate::journal::json::{begin_object, end_object};
 use crate::journal::line::{LINE_ROOM, add_time};
 use crate::journal::style::{Log, Style};
@@ -7,10 +12,12 @@ use cfdp_exchange::Watched;
 use cfdp_report::cut_at_first;
 use libc::net::{POLLERR, POLLNVAL, POLLOUT};
 use libc::types::pollfd;
+use past::Past;
 use std::alloc::AllocError;
 use std::fs::{File, OpenOptions};
 use std::io;
 use std::io::{ErrorKind, Write};
+use std::marker::Model;
 use std::os::fd::{AsRawFd, RawFd};
 use std::time::Instant;
 
@@ -58,6 +65,18 @@ pub struct LossyLog<'a> {
     // For how many milliseconds it may still be waited, and when a write failed last.
     patience: u64,
     failed_at: Option<Instant>,
+    // All octets that came. Only clauses see them.
+    came: Past<u8>,
+}
+
+impl<'a> Model for LossyLog<'a> {
+    ghost use Rattle.cfdp_journal.specs.Lossy.{LogsLines, LossyState};
+
+    ghost Value = { LossyState };
+
+    ghost view = { λ l. record { came = l.came; queue = l.queue } };
+
+    ghost invariant = { λ l. LogsLines l.came l.queue l.is_whole l.begun.items };
 }
 
 impl<'a> LossyLog<'a> {
@@ -66,7 +85,9 @@ impl<'a> LossyLog<'a> {
     /// # Errors
     ///
     /// `AllocError` if there is no memory.
-    pub fn new(log: Log<'a>) -> Result<LossyLog<'a>, AllocError> {
+    pub fn new(log: Log<'a>) -> Result<LossyLog<'a>, AllocError>
+        ensures { IfOk result (λ log. log.came ≡ []) }
+    {
         let alloc = log.rt.alloc();
         Ok(LossyLog {
             log,
@@ -76,6 +97,7 @@ impl<'a> LossyLog<'a> {
             terminal: terminal(log.rt),
             patience: PATIENCE,
             failed_at: None,
+            came: Past::new(),
         })
     }
 
@@ -89,44 +111,49 @@ impl<'a> LossyLog<'a> {
 
     /// Writes what waits, for the last time: a reader that reads nothing is waited for, two seconds
     /// at most. Returns `true` if all of the last lines were written.
-    pub fn finish(&mut self) -> bool {
+    pub fn finish(&mut self) -> bool
+        ensures came { self.new.came ≡ self.old.came }
+        ensures logged { HasLogged self.new }
+        ensures all { IsTrue result → (self.old.queue.lost ≡ 0) × (self.new.queue.waits ≡ []) }
+    {
         let is_kept = self.queue.lost() == 0;
         self.failed_at = None;
-        for _piece in 0..MOST_PIECES {
-            if !self.writes_piece(LAST_PATIENCE) {
-                break;
-            }
-        }
+        self.writes_out(LAST_PATIENCE);
         is_kept && self.queue.is_empty()
     }
 
     /// Adds to the line that is begun.
-    fn begins(&mut self, octets: &[u8]) {
-        let len = self.begun.len().saturating_add(octets.len());
-        if len > MOST_LINE || self.begun.extend_from_slice(octets).is_err() {
-            self.is_whole = false;
-        }
+    fn begins(&mut self, octets: &[u8])
+        requires { HasNoEnd octets.now }
+        ensures { self.new.came ≡ self.old.came ++ octets.now }
+    {
+        self.is_whole = keeps(&mut self.begun, self.is_whole, octets);
+        self.came.put_all(octets);
     }
 
     /// Has the line wait that is begun, and is at its end.
-    fn ends_line(&mut self) {
-        if self.is_whole {
-            self.makes_room();
-            self.queue.add(self.begun.as_slice());
-        } else {
-            self.queue.lose();
-        }
+    fn ends_line(&mut self)
+        ensures { self.new.came ≡ self.old.came ++ 10 ∷ [] }
+    {
+        self.makes_room();
+        let is_whole = keeps(&mut self.begun, self.is_whole, b"\n");
+        self.queue.take(self.begun.as_slice(), is_whole);
+        self.came.put(&b'\n');
         self.begun.clear();
         self.is_whole = true;
     }
 
-    /// Has room for the line that is begun, if standard output takes enough of what waits in time.
-    fn makes_room(&mut self) {
-        let len = self.begun.len();
-        if self.queue.len().saturating_add(len) <= MANY {
+    /// Has room for the line that is begun, if it can be kept, and standard output takes enough of
+    /// what waits in time.
+    fn makes_room(&mut self)
+        ensures { self.new.came ≡ self.old.came }
+    {
+        let len = self.begun.len().saturating_add(1);
+        let is_kept = self.is_whole && len <= MOST_LINE;
+        if !is_kept || self.queue.len().saturating_add(len) <= MANY {
             return;
         }
-        self.writes_out();
+        self.writes_out(0);
         for _piece in 0..MOST_PIECES {
             if self.queue.has_room(len) || !self.waits() {
                 break;
@@ -134,10 +161,13 @@ impl<'a> LossyLog<'a> {
         }
     }
 
-    /// Writes what standard output takes without a wait.
-    fn writes_out(&mut self) {
+    /// Writes what standard output takes, for which it waits so many milliseconds at most before
+    /// each piece.
+    fn writes_out(&mut self, milliseconds: i32)
+        ensures { self.new.came ≡ self.old.came }
+    {
         for _piece in 0..MOST_PIECES {
-            if !self.writes_piece(0) {
+            if !self.writes_piece(milliseconds) {
                 break;
             }
         }
@@ -145,7 +175,9 @@ impl<'a> LossyLog<'a> {
 
     /// Waits for standard output, as long as there is patience left, and writes a piece. Returns
     /// `false` if none was written.
-    fn waits(&mut self) -> bool {
+    fn waits(&mut self) -> bool
+        ensures { self.new.came ≡ self.old.came }
+    {
         let began = Instant::now(self.log.rt).ok();
         let is_written = self.writes_piece(i32::try_from(self.patience).unwrap_or(0));
         let waited = milliseconds_since(self.log, began).unwrap_or(u128::MAX);
@@ -156,7 +188,9 @@ impl<'a> LossyLog<'a> {
 
     /// Writes a piece of what waits, once standard output takes it, for which it waits so many
     /// milliseconds at most. Returns `false` if none was written.
-    fn writes_piece(&mut self, milliseconds: i32) -> bool {
+    fn writes_piece(&mut self, milliseconds: i32) -> bool
+        ensures { self.new.came ≡ self.old.came }
+    {
         if self.queue.is_empty() {
             self.patience = PATIENCE;
             self.tells_lost();
@@ -175,15 +209,10 @@ impl<'a> LossyLog<'a> {
     }
 
     /// Writes a piece of what waits. Returns `false` if none was written.
-    fn writes(&mut self) -> bool {
-        let written = match &mut self.terminal {
-            Some(terminal) => self.queue.write_first(terminal, MOST_PIECE),
-            None => {
-                let mut out = io::writer(self.log.rt);
-                self.queue.write_first(&mut out, MOST_PIECE)
-            }
-        };
-        match written {
+    fn writes(&mut self) -> bool
+        ensures { self.new.came ≡ self.old.came }
+    {
+        match write_piece(self.log, &mut self.queue, &mut self.terminal) {
             Ok(0) => {
                 self.fails();
                 false
@@ -202,7 +231,9 @@ impl<'a> LossyLog<'a> {
     }
 
     /// Notes that a write failed.
-    fn fails(&mut self) {
+    fn fails(&mut self)
+        ensures { self.new.came ≡ self.old.came }
+    {
         self.failed_at = Instant::now(self.log.rt).ok();
     }
 
@@ -216,7 +247,9 @@ impl<'a> LossyLog<'a> {
 
     /// Has a line wait that says how many lines were lost, if some were and there is memory for
     /// it.
-    fn tells_lost(&mut self) {
+    fn tells_lost(&mut self)
+        ensures { self.new.came ≡ self.old.came }
+    {
         let lost = self.queue.lost();
         if lost == 0 || !self.queue.is_empty() {
             return;
@@ -229,24 +262,53 @@ impl<'a> LossyLog<'a> {
 }
 
 impl Write for LossyLog<'_> {
+    ghost use Rattle.std.specs.Prelude.{Some};
+
+    ghost contents = { λ log. Some log.came };
+
     /// Takes octets up to the end of the first line among them. It never fails: what there is no
     /// room for is lost.
     fn write(&mut self, octets: &[u8]) -> io::Result<usize> {
         let (line, rest) = cut_at_first(octets, b'\n');
+        self.begins(line);
         if rest.is_none() {
-            self.begins(octets);
             return Ok(octets.len());
         }
-        let len = line.len() + 1;
-        self.begins(&octets[..len]);
         self.ends_line();
-        Ok(len)
+        Ok(line.len() + 1)
     }
 
     /// Writes what standard output takes without a wait. It never fails.
     fn flush(&mut self) -> io::Result<()> {
-        self.writes_out();
+        self.writes_out(0);
         Ok(())
+    }
+}
+
+/// Adds to the beginning of a line, if all of that was kept. Returns `false` if the line is too long,
+/// there is no memory for it, or a part of it was lost before.
+fn keeps(begun: &mut Vec<u8>, is_whole: bool, octets: &[u8]) -> bool
+    ensures { IsTrue result → KeepsMore is_whole octets.now begun.old.items begun.new.items }
+{
+    let len = begun.len().saturating_add(octets.len());
+    is_whole && len <= MOST_LINE && begun.extend_from_slice(octets).is_ok()
+}
+
+/// Writes a piece of what waits to the terminal that standard output is, if it is one, or to
+/// standard output.
+fn write_piece(
+    log: Log<'_>,
+    queue: &mut LineQueue,
+    terminal: &mut Option<File>,
+) -> io::Result<usize>
+    ensures { StaysLogged queue.old queue.new }
+{
+    match terminal {
+        Some(terminal) => queue.write_first(terminal, MOST_PIECE),
+        None => {
+            let mut out = io::writer(log.rt);
+            queue.write_first(&mut out, MOST_PIECE)
+        }
     }
 }
 
@@ -302,7 +364,9 @@ fn milliseconds_since(log: Log<'_>, then: Option<Instant>) -> Option<u128> {
 }
 
 /// Makes the line that says how many lines were lost.
-fn make_lost(line: &mut Vec<u8>, log: Log<'_>, lost: u64) -> io::Result<()> {
+fn make_lost(line: &mut Vec<u8>, log: Log<'_>, lost: u64) -> io::Result<()>
+    ensures { OnOk result (SaysLost lost line.new.items) }
+{
     match log.style {
         Style::Json { .. } => {
             begin_object(line, log, "lost")?;

@@ -4,12 +4,14 @@
 //! upper-case hexadecimal digits for `%` and for each octet that is no visible ASCII character, so
 //! any octets come back from it; of the others, those that mean something in JSON or in markup are
 //! escaped.
-use crate::journal::meaning::{condition_name, condition_words, delivery_word, status_word};
+ghost use Rattle.std.specs.Io.KnownBytes.{Appends};
+ghost use Rattle.std.specs.Prelude.{◌∷◌, ◌++◌, [], OnOk, codes};
+
 use crate::journal::style::Log;
 use cfdp_directives::{Condition, Indication};
 use cfdp_exchange::Note;
 use cfdp_header::TransactionId;
-use cfdp_report::Name;
+use cfdp_report::{Name, condition_name, condition_words, delivery_word, status_word};
 use cfdp_service::PutNames;
 use cfdp_station::{PutError, RequestError};
 use std::io::Write;
@@ -261,7 +263,10 @@ pub fn begin_object<V: Write>(out: &mut V, log: Log<'_>, event: &str) -> io::Res
 /// # Errors
 ///
 /// That of the writer.
-pub fn end_object<V: Write>(out: &mut V) -> io::Result<()> {
+pub fn end_object<V: Write>(out: &mut V) -> io::Result<()>
+    ensures { OnOk result (Appends (V.contents out.old) (V.contents out.new)
+        (codes "}" ++ 10 ∷ [])) }
+{
     writeln!(out, "}}")
 }
 
@@ -285,8 +290,8 @@ fn write_fault<V: Write>(
     condition: Condition,
 ) -> io::Result<()> {
     write_event(out, log, event, id)?;
-    let (code, name) = (condition.code(), condition_name(condition));
-    let words = condition_words(condition);
+    let code = condition.code();
+    let (name, words) = (condition_name(code), condition_words(code));
     write!(
         out,
         ",\"condition\":{code},\"condition_name\":\"{name}\",\"meaning\":\"{words}\""

@@ -2,10 +2,9 @@
 ghost use Rattle.std.specs.Io.KnownBytes.{Appends};
 ghost use Rattle.std.specs.Prelude.{◌≡◌, ◌-◌, ◌++◌, ◌∷◌, [], ℕ, List, OnOk, length, take};
 
-use crate::journal::meaning::condition_name;
 use crate::journal::style::Log;
 use cfdp_directives::Condition;
-use cfdp_report::Name;
+use cfdp_report::{Name, condition_name};
 use cfdp_service::PutNames;
 use std::io;
 use std::io::Write;
@@ -60,7 +59,7 @@ fn write_behind(
 {
     match (names, condition) {
         (None, None) => Ok(()),
-        (None, Some(condition)) => write!(line, " ({})", condition_name(condition)),
+        (None, Some(condition)) => write!(line, " ({})", condition_name(condition.code())),
         (Some(names), condition) => write_names(line, names, condition),
     }
 }
@@ -77,7 +76,7 @@ fn write_names(line: &mut Vec<u8>, names: &PutNames, condition: Option<Condition
     match condition {
         None => write!(line, " {} {}", Name(source), Name(destination)),
         Some(condition) => {
-            let name = condition_name(condition);
+            let name = condition_name(condition.code());
             write!(line, " {} {} ({name})", Name(source), Name(destination))
         }
     }

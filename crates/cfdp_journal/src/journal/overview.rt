@@ -1,6 +1,5 @@
 //! What an operator asks of a station: its open transactions, and its counters.
 use crate::journal::json::JsonName;
-use crate::journal::meaning::{name_of_code, phase_word};
 use crate::journal::noted::NotedTopics;
 use crate::journal::register::{Known, Register};
 use crate::journal::stopped::Stopped;
@@ -8,7 +7,7 @@ use crate::journal::totals::{CONDITIONS, Failures, Totals};
 use cfdp_console::Way;
 use cfdp_exchange::{Exchange, REFUSALS, refusal_name};
 use cfdp_header::TransactionId;
-use cfdp_report::{Name, parse_id};
+use cfdp_report::{Name, condition_name, parse_id, phase_word};
 use cfdp_station::{EntityDrop, FrameError, LinkDrop, Phase, Station, Timer};
 use cfdp_store::{Inbox, Outbox};
 use std::alloc::{AllocError, Global};
@@ -507,7 +506,7 @@ pub fn write_counter_members<O: Outbox, I: Inbox, W: fmt::Write>(
 fn counts<O: Outbox, I: Inbox>(
     figures: Figures<'_>,
     station: &Station<O, I>,
-) -> [(&'static str, u64); 18] {
+) -> [(&'static str, u64); 19] {
     let Figures {
         totals,
         exchange,
@@ -539,6 +538,7 @@ fn counts<O: Outbox, I: Inbox>(
         ),
         ("datagrams_thrown_away", gaps.thrown_away()),
         ("sends_failed", totals.sends_failed as u64),
+        ("unknown_cancels", exchange.unknown_cancels.get()),
         ("notes", noted.notes()),
         ("errors", noted.errors()),
     ]
@@ -566,7 +566,7 @@ fn write_failed<W: fmt::Write>(out: &mut W, of: &str, code: usize, count: u64) -
 /// Returns the standard's name of the condition of this code.
 fn code_name(code: usize) -> &'static str {
     match u8::try_from(code) {
-        Ok(code) => name_of_code(code),
+        Ok(code) => condition_name(code),
         Err(_) => "RESERVED",
     }
 }

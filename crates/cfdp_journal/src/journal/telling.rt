@@ -12,12 +12,11 @@ use crate::journal::json::{
     write_file_object, write_indication_object, write_note_object, write_put_object,
 };
 use crate::journal::line::{add_names, add_time, write_line};
-use crate::journal::meaning::condition_words;
 use crate::journal::overview::{Figures, Form, write_counter_members, write_counters};
 use crate::journal::style::{Log, Style};
 use cfdp_directives::{Condition, Indication};
 use cfdp_exchange::Note;
-use cfdp_report::{Answer, Answered, Name, write_answer, write_indications};
+use cfdp_report::{Answer, Answered, Name, condition_words, write_answer, write_indications};
 use cfdp_service::{Outcome, PutNames};
 use cfdp_station::{PutError, RequestError, Station};
 use cfdp_store::{Inbox, Outbox};
@@ -38,7 +37,10 @@ impl fmt::Display for Why {
     fn fmt<W: fmt::Write>(&self, f: &mut fmt::Formatter<W>) -> fmt::Result {
         match self {
             Why::Refused(error) => write!(f, "{error}"),
-            Why::Ended(condition) => write!(f, "{}", condition_words(*condition)),
+            Why::Ended(condition) if condition.code() == 0 => {
+                f.write_str("no error, but the peer did not report that it keeps the file")
+            }
+            Why::Ended(condition) => f.write_str(condition_words(condition.code())),
         }
     }
 }
