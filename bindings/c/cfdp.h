@@ -37,7 +37,7 @@ extern "C" {
 #endif
 
 /* The number of this interface. It grows by one whenever a call, a struct or a number changes. */
-#define CFDP_VERSION 7
+#define CFDP_VERSION 8
 
 /* The release that this header belongs to (docs/EMBEDDING.md, "Versions"). */
 #define CFDP_RELEASE "1.0.0-rc.1"
@@ -54,7 +54,7 @@ typedef uint32_t cfdp_answer;
 enum {
     CFDP_OK = 0,
     CFDP_CLOSED = 1,       /* the handle is closed */
-    CFDP_ALREADY_OPEN = 2, /* cfdp_open, cfdp_open_folders: the handle is open */
+    CFDP_ALREADY_OPEN = 2, /* cfdp_open and its likes: the handle is open */
     CFDP_BAD_ARGUMENT = 3, /* cfdp_read_file: the file ends before; cfdp_seal_frame,
                               cfdp_open_frame: a field of cfdp_security isn't in its range */
     CFDP_NO_MEMORY = 4,    /* out of memory */
@@ -69,6 +69,12 @@ enum {
     CFDP_INBOX_IN_USE = 14, /* another station receives into it */
 
     CFDP_SOURCE_IN_USE = 15, /* cfdp_remove_source: a transaction is sending the file */
+
+    /* cfdp_open_folders_journal, which may answer 12 to 14 too */
+    CFDP_NO_JOURNAL = 16,        /* the journal can't be read, or none can be written there */
+    CFDP_JOURNAL_IN_USE = 17,    /* another process has it */
+    CFDP_JOURNAL_OF_OTHERS = 18, /* it is of another entity, or with another peer */
+    CFDP_JOURNAL_MISPLACED = 19, /* it would lie in a folder that a station receives into */
 
     /* cfdp_put: the first that holds, in the order 22, 24, 25, 26, 21, 23; then CFDP_NO_MEMORY */
     CFDP_NO_SUCH_FILE = 21,  /* the outbox has no file of that name */
@@ -310,7 +316,24 @@ cfdp_answer cfdp_open_folders(cfdp_station *station, const cfdp_config *config,
                               const void *outbox, size_t outbox_len, const void *inbox,
                               size_t inbox_len);
 
-/* Gives back all memory of the station. The handle is closed then; a closed one stays closed. */
+/* Opens a closed handle on a station over two folders, as cfdp_open_folders does, that keeps a
+ * journal in a file. The journal's path is in UTF-8; the file needn't be there, its folder must be.
+ * If it is the journal of an earlier run, however that ended, the transactions that were open go on
+ * under their numbers, those that were over are refused, and numbers of puts go on after those of
+ * the journal, unless first_number is greater. After each `every` units of time, at a tick, the
+ * station notes how much of each file was sent and is held: so much of a file passes twice after a
+ * kill. All else is on the device before a frame or an indication that rests on it is given out. A
+ * damaged journal is renamed, with .damaged after its name, and nothing goes on. CFDP_OK,
+ * CFDP_ALREADY_OPEN, 70 to 99 as cfdp_open, 12 to 14 as cfdp_open_folders, CFDP_NO_JOURNAL,
+ * CFDP_JOURNAL_IN_USE, CFDP_JOURNAL_OF_OTHERS, CFDP_JOURNAL_MISPLACED or CFDP_NO_MEMORY; unless it
+ * is CFDP_OK, what was noted stays, and may go on at the next try. */
+cfdp_answer cfdp_open_folders_journal(cfdp_station *station, const cfdp_config *config,
+                                      const void *outbox, size_t outbox_len, const void *inbox,
+                                      size_t inbox_len, const void *journal, size_t journal_len,
+                                      uint64_t every);
+
+/* Gives back all memory of the station. The handle is closed then; a closed one stays closed. If it
+ * has a journal, all that the station has is noted there first. */
 void cfdp_close(cfdp_station *station);
 
 /* ---- What its user asks for. All but cfdp_next_indication only ask; cfdp_poll sends. */
@@ -629,6 +652,36 @@ enum { CFDP_NAMES = 510, CFDP_NAME = 255 };
 cfdp_answer cfdp_next_indication(cfdp_station *station, cfdp_indication *out, uint8_t *names,
                                  size_t room);
 
+/* ---- The journal of a station (cfdp_open_folders_journal). */
+
+/* Whether a station keeps a journal. */
+enum {
+    CFDP_JOURNAL_NONE = 0,     /* it was opened without */
+    CFDP_JOURNAL_KEPT = 1,     /* what must be noted is on the device */
+    CFDP_JOURNAL_NOT_KEPT = 2, /* it couldn't be written, and was removed: after a kill nothing goes
+                                  on. It is tried again after 60 times `every` */
+    CFDP_JOURNAL_STUCK = 3     /* it could neither be written nor removed: it says what isn't so any
+                                  more. Send no more frames, close the handle and remove the file */
+};
+
+typedef struct cfdp_journal_info {
+    uint32_t resumed;    /* open transactions that went on when the handle was opened */
+    uint32_t lost;       /* transactions of the journal that could not be restored then */
+    uint8_t state;       /* CFDP_JOURNAL_NONE and others */
+    uint8_t was_damaged; /* 1 if a damaged journal was renamed then, otherwise 0 */
+} cfdp_journal_info;
+
+/* Gives how the journal fares, and what went on when the handle was opened. A program with a
+ * journal asks once a turn, and doesn't send what it took in this turn if the answer is
+ * CFDP_JOURNAL_STUCK. CFDP_OK or CFDP_CLOSED. */
+cfdp_answer cfdp_journal_state(const cfdp_station *station, cfdp_journal_info *out);
+
+/* Gives the next end of a transaction, of kind CFDP_FINISHED or CFDP_ABANDONED, that the program
+ * may not have heard before an earlier run ended, and doesn't give it again before the next
+ * opening: after cfdp_forget of its transaction never again. CFDP_OK, CFDP_CLOSED, or CFDP_NOTHING
+ * if there are no more. */
+cfdp_answer cfdp_next_unheard(cfdp_station *station, cfdp_indication *out);
+
 /* ---- The published files, if they are in memory; if a station has folders, these calls answer
  * CFDP_IN_FOLDERS, and its files lie in its folder. Their indexes (place) are 0, 1, .. in
  * ascending order of their names; a file that is published or removed may shift those after it.
@@ -738,6 +791,10 @@ static inline const char *cfdp_answer_text(cfdp_answer answer)
     case CFDP_NO_INBOX: text = "cannot use the folder to receive into"; break;
     case CFDP_INBOX_IN_USE: text = "another station already receives into that folder"; break;
     case CFDP_SOURCE_IN_USE: text = "a transaction is still sending the file"; break;
+    case CFDP_NO_JOURNAL: text = "cannot read or write the journal"; break;
+    case CFDP_JOURNAL_IN_USE: text = "another process has the journal"; break;
+    case CFDP_JOURNAL_OF_OTHERS: text = "the journal is of another entity or peer"; break;
+    case CFDP_JOURNAL_MISPLACED: text = "the journal must not lie in an inbox"; break;
     case CFDP_NAME_TAKEN: text = "a file of that name already exists"; break;
     case CFDP_NO_SUCH_FILE: text = "no such file"; break;
     case CFDP_BAD_NAME: text = "file names must be 1 to 255 octets that the folder allows"; break;

@@ -6,6 +6,7 @@
  * FOLDER is empty. Prints what is wrong, and ends with the number of mistakes. */
 #define _POSIX_C_SOURCE 200809L
 #include "cfdp.h"
+#include "checks.h"
 
 #include <signal.h>
 #include <stdio.h>
@@ -19,18 +20,6 @@ enum { MOST_FRAME = 2048, LOST = 7, LIMIT = 255, LONG = 5000000, FILESTORE = 4 }
 
 static const long TURNS = 1000000;
 
-static int mistakes;
-
-static void check(int line, const char *what, unsigned long long told, unsigned long long wanted)
-{
-    if (told != wanted) {
-        printf("line %d: %s is %llu, not %llu\n", line, what, told, wanted);
-        mistakes++;
-    }
-}
-
-#define IS(call, wanted) \
-    check(__LINE__, #call, (unsigned long long)(call), (unsigned long long)(wanted))
 
 static const uint8_t *octets_in(const char *text)
 {
@@ -82,16 +71,8 @@ static bool is_there(const char *path)
 
 static cfdp_config config_of(int number)
 {
-    cfdp_config config;
+    cfdp_config config = defaults_of(number);
 
-    cfdp_defaults(&config);
-    if (number == 2) {
-        const cfdp_link sends = config.sends;
-        config.sends = config.receives;
-        config.receives = sends;
-        config.entity = 2;
-        config.peer = 1;
-    }
     config.sends.zone = config.receives.zone = 1100;
     config.eof_limit = config.nak_limit = config.finished_limit = LIMIT;
     return config;
@@ -323,7 +304,7 @@ static void failures(cfdp_station *one, cfdp_station *two)
 /* A file that gets shorter ends its transaction, and the one behind it goes on in the same loop. */
 static void goes_on(cfdp_station *one, cfdp_station *two)
 {
-    struct ended ended = {0, 0};
+    struct ended ended = {0, 0}, received = {0, 0};
 
     IS(cfdp_forget_closed(one), CFDP_OK);
     IS(cfdp_forget_closed(two), CFDP_OK);
@@ -335,10 +316,49 @@ static void goes_on(cfdp_station *one, cfdp_station *two)
     IS(passed_by_steps(two, one), 0);
     IS(passed_by_steps(one, two), 0);
     read_indications(one, &ended);
+    read_indications(two, &received);
     IS(ended.count, 2);
+    IS(received.count, 2);
     IS(ended.condition, FILESTORE);
     IS(is_there("in2/again"), 0);
     IS(is_file("in2/behind", 1, 2), 1);
+}
+
+/* A link in the place of a part file that isn't open any more: its file fails, those beside it don't,
+ * and nothing is written behind the link. A station keeps 16 part files open. */
+static void link_refused(cfdp_station *one, cfdp_station *two)
+{
+    enum { FILES = 17, LEN = 4000, KIND = 20 };
+    uint8_t frame[MOST_FRAME];
+    char path[64], *name = path + strlen("out1/");
+    cfdp_id id = {0, 0}, first = {0, 0};
+    unsigned at;
+
+    IS(cfdp_forget_closed(one), CFDP_OK);
+    IS(cfdp_forget_closed(two), CFDP_OK);
+    write_file("victim", 5, 9);
+    for (at = 0; at < FILES; at++) {
+        snprintf(path, sizeof path, "out1/many%u", at);
+        write_file(path, LEN, KIND + at);
+        IS(cfdp_put(one, octets_in(name), strlen(name), octets_in(name), strlen(name), &id),
+           CFDP_OK);
+        if (at == 0)
+            first = id;
+    }
+    snprintf(path, sizeof path, "in2/.part-1-%llu", (unsigned long long)id.number);
+    while (!is_there(path) && cfdp_transmit(one, frame, cfdp_frame_len(one)) == CFDP_OK)
+        cfdp_receive(two, frame, cfdp_frame_len(one));
+    IS(is_there(path), 1);
+    snprintf(path, sizeof path, "in2/.part-1-%llu", (unsigned long long)first.number);
+    IS(unlink(path), 0);
+    IS(symlink("../victim", path), 0);
+    run(one, two, FILES, FILESTORE);
+    IS(is_file("victim", 5, 9), 1);
+    IS(is_there("in2/many0"), 0);
+    for (at = 1; at < FILES; at++) {
+        snprintf(path, sizeof path, "in2/many%u", at);
+        IS(is_file(path, LEN, KIND + at), 1);
+    }
 }
 
 int main(int count, char **words)
@@ -360,6 +380,7 @@ int main(int count, char **words)
     parts_removed();
     failures(&one, &two);
     goes_on(&one, &two);
+    link_refused(&one, &two);
     cfdp_close(&one);
     cfdp_close(&two);
     return mistakes != 0;

@@ -7,6 +7,7 @@
  * C++. */
 #include "cfdp.h"
 #include "cfdp_hooks.h"
+#include "checks.h"
 
 #include <stdio.h>
 #include <stdlib.h>
@@ -80,21 +81,6 @@ void rattle_dealloc(void *at)
 }
 #endif
 
-/* ---- what is wrong */
-
-static int mistakes;
-
-static void check(int line, const char *what, unsigned long long told, unsigned long long wanted)
-{
-    if (told != wanted) {
-        printf("line %d: %s is %llu, not %llu\n", line, what, told, wanted);
-        mistakes++;
-    }
-}
-
-#define IS(call, wanted) \
-    check(__LINE__, #call, (unsigned long long)(call), (unsigned long long)(wanted))
-
 /* ---- two stations and the link between them */
 
 enum { MOST_RECORDS = 4096 };
@@ -104,15 +90,9 @@ static const uint8_t NAME[] = {'a'};
 /* Station 2 sends a Finished again after 1 unit of time, once, and then abandons what it is of. */
 static cfdp_config config_of(int number)
 {
-    cfdp_config config;
+    cfdp_config config = defaults_of(number);
 
-    cfdp_defaults(&config);
     if (number == 2) {
-        const cfdp_link sends = config.sends;
-        config.sends = config.receives;
-        config.receives = sends;
-        config.entity = 2;
-        config.peer = 1;
         config.finished_time = 1;
         config.finished_limit = 1;
         config.on_ack_limit = 3;

@@ -9,6 +9,7 @@
  * with status 1 if something is wrong. tests/bindings.py builds and runs it with -DCFDP_POOL=16, as
  * C and as C++: the process has no array. */
 #include "cfdp.h"
+#include "checks.h"
 #include "pool.h"
 
 #include <stdio.h>
@@ -30,36 +31,16 @@ struct end {
 static uint8_t first_array[SENDS], second_array[RECEIVES];
 static struct end one, two;
 static uint8_t octets[LEN], copy[LEN];
-static int mistakes;
-
-static void check(int line, const char *what, unsigned long told, unsigned long wanted)
-{
-    if (told != wanted) {
-        printf("line %d: %s is %lu, not %lu\n", line, what, told, wanted);
-        mistakes++;
-    }
-}
-
-#define IS(call, wanted) check(__LINE__, #call, (unsigned long)(call), (unsigned long)(wanted))
 
 /* Opens station 1 or 2 in its array. A segment is one octet. */
 static void open_end(struct end *end, int number, uint64_t most_gaps)
 {
     static const cfdp_station closed = CFDP_STATION_INIT;
-    cfdp_config config;
+    cfdp_config config = defaults_of(number);
 
-    cfdp_defaults(&config);
     config.capacity = CAPACITY;
     config.segment = 1;
     config.most_gaps = most_gaps;
-    if (number == 2) {
-        const cfdp_link sends = config.sends;
-
-        config.sends = config.receives;
-        config.receives = sends;
-        config.entity = 2;
-        config.peer = 1;
-    }
     end->station = closed;
     cfdp_pool_use(&end->pool);
     IS(cfdp_open(&end->station, &config), CFDP_OK);

@@ -124,6 +124,26 @@ static cfdp_answer in_folders(const char *outbox, const char *inbox)
     return answer;
 }
 
+static cfdp_answer with_journal(const char *outbox, const char *inbox, const char *journal)
+{
+    cfdp_station station = CFDP_STATION_INIT;
+    cfdp_config config;
+    cfdp_journal_info info;
+    cfdp_indication told;
+    cfdp_answer answer;
+
+    cfdp_defaults(&config);
+    answer = cfdp_open_folders_journal(&station, &config, outbox, strlen(outbox), inbox,
+                                       strlen(inbox), journal, strlen(journal), 1000);
+    while (cfdp_next_unheard(&station, &told) == CFDP_OK)
+        tell(&told, NULL);
+    if (cfdp_journal_state(&station, &info) == CFDP_OK)
+        printf("%u transfers go on\n", (unsigned)info.resumed);
+
+    cfdp_close(&station);
+    return answer;
+}
+
 static cfdp_station station;
 
 static void take_turn(uint64_t now)
@@ -262,6 +282,7 @@ int main(int count, char **words)
     static const uint8_t key[32] = {7}, frame[40] = {9};
     cfdp_station peer = CFDP_STATION_INIT;
     uint8_t sealed[40 + 10 + 16 + 2];
+    char journal[4096];
     int status = count == 2 ? 0 : 2;
 
     if (first_program("a", 1, "hello", 5, "b", 1) != 0)
@@ -270,6 +291,11 @@ int main(int count, char **words)
         status = 1;
     if (count == 2 && in_folders(words[1], words[1]) != CFDP_OK)
         status = 1;
+    if (count == 2) {
+        snprintf(journal, sizeof journal, "%s.journal", words[1]);
+        if (with_journal(words[1], words[1], journal) != CFDP_OK || remove(journal) != 0)
+            status = 1;
+    }
     if (open_in_a_pool() != CFDP_OK || open_peer(&peer) != CFDP_OK || transfer(&peer) != 0)
         status = 1;
     cfdp_close(&station);

@@ -6,6 +6,7 @@
  * Prints what the array was used for, and ends with status 1 where something is wrong.
  * tests/bindings.py builds and runs it, as C and as C++. */
 #include "cfdp.h"
+#include "checks.h"
 #include "pool.h"
 
 #include <stdio.h>
@@ -14,36 +15,16 @@
 
 enum { PUTS = 10000, AT_ONCE = 8, SENT_LEN = 3000, FILES = 4, LOST = 7, FRAME = 264 };
 
-static int mistakes;
-
-static void check(int line, const char *what, unsigned long told, unsigned long wanted)
-{
-    if (told != wanted) {
-        printf("line %d: %s is %lu, not %lu\n", line, what, told, wanted);
-        mistakes++;
-    }
-}
-
-#define IS(call, wanted) check(__LINE__, #call, (unsigned long)(call), (unsigned long)(wanted))
 
 static uint8_t octets[SENT_LEN];
 
 /* Station 1 or 2. What isn't answered is sent again as often as it takes. */
 static cfdp_config config_of(int number)
 {
-    cfdp_config config;
+    cfdp_config config = defaults_of(number);
 
-    cfdp_defaults(&config);
     config.eof_limit = config.nak_limit = config.finished_limit = 255;
     config.on_inactivity = 2;
-    if (number == 2) {
-        const cfdp_link sends = config.sends;
-
-        config.sends = config.receives;
-        config.receives = sends;
-        config.entity = 2;
-        config.peer = 1;
-    }
     return config;
 }
 

@@ -5,6 +5,7 @@
  * tests/bindings.py builds and runs it with -DCFDP_POOL=16, as C and as C++: the process has no
  * array. */
 #include "cfdp.h"
+#include "checks.h"
 #include "pool.h"
 
 #include <stdio.h>
@@ -20,33 +21,13 @@ enum { FILES = 20, LEN = 3000, FRAME = 264, CAPACITY = 16384 };
 static uint8_t first_array[SENDS + 1], second_array[RECEIVES], small_array[4000];
 static cfdp_pool first, second, small;
 static uint8_t octets[LEN];
-static int mistakes;
-
-static void check(int line, const char *what, unsigned long told, unsigned long wanted)
-{
-    if (told != wanted) {
-        printf("line %d: %s is %lu, not %lu\n", line, what, told, wanted);
-        mistakes++;
-    }
-}
-
-#define IS(call, wanted) check(__LINE__, #call, (unsigned long)(call), (unsigned long)(wanted))
 
 /* Opens station 1 or 2. */
 static cfdp_answer open_station(cfdp_station *station, int number)
 {
     static const cfdp_station closed = CFDP_STATION_INIT;
-    cfdp_config config;
+    const cfdp_config config = defaults_of(number);
 
-    cfdp_defaults(&config);
-    if (number == 2) {
-        const cfdp_link sends = config.sends;
-
-        config.sends = config.receives;
-        config.receives = sends;
-        config.entity = 2;
-        config.peer = 1;
-    }
     *station = closed;
     return cfdp_open(station, &config);
 }

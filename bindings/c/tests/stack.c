@@ -2,7 +2,8 @@
  *
  *     stack [FOLDER]
  *
- * FOLDER is empty; with it a second transfer goes from folder to folder. Prints the most that each
+ * FOLDER is empty; with it a second transfer goes from folder to folder, and a third one between
+ * stations that keep journals and are opened once more in its midst. Prints the most that each
  * call took, with its caller's frame, and ends with status 1 where one took more than cfdp.h says.
  * tests/bindings.py builds and runs it. */
 #define _POSIX_C_SOURCE 200809L
@@ -15,7 +16,7 @@
 #include <unistd.h>
 
 enum { SAID = 32 * 1024, SAID_OF_FOLDERS = 64 * 1024, PAINTED = 128 * 1024 };
-enum { FILE_LEN = 100 * 1000, LOST = 7, CALLS = 64, MEASURED = 36 };
+enum { FILE_LEN = 100 * 1000, LOST = 7, CALLS = 64, MEASURED = 38 };
 
 /* ---- the stack below: filled, and looked at later. Both functions and the calls between them are
  * called from one place, so that they have the same octets of it. */
@@ -67,8 +68,9 @@ static void note(const char *name, size_t octets)
 /* ---- a transfer */
 
 static const uint8_t NAME[] = {'a'}, OUT[] = {'o'}, IN[] = {'i'}, BACK[] = {'b'};
+static const uint8_t JOURNAL_1[] = {'1'}, JOURNAL_2[] = {'2'};
 static uint8_t octets[FILE_LEN], copy[FILE_LEN], frame[2048], names[CFDP_NAMES];
-static bool in_folders;
+static bool in_folders, with_journals;
 
 static void open_one(cfdp_station *station, const cfdp_config *config, const uint8_t *inbox)
 {
@@ -76,7 +78,12 @@ static void open_one(cfdp_station *station, const cfdp_config *config, const uin
     cfdp_answer answer;
 
     *station = closed;
-    if (in_folders)
+    if (with_journals)
+        TAKES(cfdp_open_folders_journal,
+              answer = cfdp_open_folders_journal(station, config, OUT, 1, inbox, 1,
+                                                 config->entity == 1 ? JOURNAL_1 : JOURNAL_2, 1,
+                                                 1));
+    else if (in_folders)
         TAKES(cfdp_open_folders, answer = cfdp_open_folders(station, config, OUT, 1, inbox, 1));
     else
         TAKES(cfdp_open, answer = cfdp_open(station, config));
@@ -137,6 +144,7 @@ static void look_at(cfdp_station *station, const cfdp_id *id)
     cfdp_counts counts;
     cfdp_indication told;
     cfdp_transaction it;
+    cfdp_journal_info journal;
     cfdp_answer answer = CFDP_OK;
     uint64_t deadline;
     uint32_t control;
@@ -153,6 +161,8 @@ static void look_at(cfdp_station *station, const cfdp_id *id)
     TAKES(cfdp_transactions, cfdp_transactions(station, &cursor, &it));
     TAKES(cfdp_records_left, cfdp_records_left(station));
     TAKES(cfdp_control_field, cfdp_control_field(station, true, &control));
+    TAKES(cfdp_journal_state, cfdp_journal_state(station, &journal));
+    TAKES(cfdp_next_unheard, cfdp_next_unheard(station, &told));
 }
 
 /* What no station has to do with. */
@@ -229,6 +239,11 @@ static void transfer(void)
         TAKES(cfdp_tick, cfdp_tick(&one, now));
         TAKES(cfdp_tick, cfdp_tick(&two, now));
         pass(&one, &two);
+        if (with_journals && now == 1) {
+            TAKES(cfdp_close, cfdp_close(&one));
+            TAKES(cfdp_close, cfdp_close(&two));
+            open_both(&one, &two);
+        }
         pass(&two, &one);
     }
     read_file(&two);
@@ -294,6 +309,9 @@ int main(int count, char **words)
     if (count > 1) {
         in_folders = true;
         is_good = has_made_folders(words[1]) && is_measured("files in folders", SAID_OF_FOLDERS)
+            && is_in_the_inbox() && is_good;
+        with_journals = true;
+        is_good = unlink("i/a") == 0 && is_measured("with journals", SAID_OF_FOLDERS)
             && is_in_the_inbox() && is_good;
     }
     return is_good ? 0 : 1;

@@ -20,6 +20,14 @@ pub enum Error {
     NoInbox,
     /// Another station receives into that folder.
     InboxInUse,
+    /// The journal can't be read, or none can be written there.
+    NoJournal,
+    /// Another process has the journal.
+    JournalInUse,
+    /// The journal is of another entity, or with another peer.
+    JournalOfOthers,
+    /// The journal would lie in a folder that a station receives into.
+    JournalMisplaced,
     /// A transaction is still sending the file.
     SourceInUse,
     /// The outbox has a file of that name.
@@ -158,6 +166,10 @@ impl Error {
             13 => Error::NoInbox,
             14 => Error::InboxInUse,
             15 => Error::SourceInUse,
+            16 => Error::NoJournal,
+            17 => Error::JournalInUse,
+            18 => Error::JournalOfOthers,
+            19 => Error::JournalMisplaced,
             21 => Error::NoSuchFile,
             22 => Error::BadName,
             23 => Error::TooLarge,
@@ -226,6 +238,10 @@ impl fmt::Display for Error {
             Error::NoOutbox => "cannot read the folder to send from",
             Error::NoInbox => "cannot use the folder to receive into",
             Error::InboxInUse => "another station already receives into that folder",
+            Error::NoJournal => "cannot read or write the journal",
+            Error::JournalInUse => "another process has the journal",
+            Error::JournalOfOthers => "the journal is of another entity or peer",
+            Error::JournalMisplaced => "the journal must not lie in an inbox",
             Error::SourceInUse => "a transaction is still sending the file",
             Error::NameTaken => "a file of that name already exists",
             Error::NoSuchFile => "no such file",

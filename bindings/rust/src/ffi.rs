@@ -98,6 +98,16 @@ pub struct Listed {
     pub phase: u8,
 }
 
+/// How the journal of a station fares.
+#[repr(C)]
+#[derive(Clone, Copy, Default)]
+pub struct JournalInfo {
+    pub resumed: u32,
+    pub lost: u32,
+    pub state: u8,
+    pub was_damaged: u8,
+}
+
 /// How long the name of a file is, and the file.
 #[repr(C)]
 #[derive(Clone, Copy, Default)]
@@ -298,6 +308,19 @@ extern "C" {
         inbox: *const u8,
         m: usize,
     ) -> u32;
+    fn cfdp_open_folders_journal(
+        station: &mut Handle,
+        config: &Config,
+        outbox: *const u8,
+        n: usize,
+        inbox: *const u8,
+        m: usize,
+        journal: *const u8,
+        l: usize,
+        every: u64,
+    ) -> u32;
+    fn cfdp_journal_state(station: &mut Handle, out: &mut JournalInfo) -> u32;
+    fn cfdp_next_unheard(station: &mut Handle, out: &mut Told) -> u32;
     fn cfdp_close(station: &mut Handle);
     fn cfdp_add(s: &mut Handle, name: *const u8, n: usize, octets: *const u8, m: usize) -> u32;
     fn cfdp_remove_source(station: &mut Handle, name: *const u8, n: usize) -> u32;
@@ -406,6 +429,24 @@ impl Handle {
         let (n, m) = (outbox.len(), inbox.len());
         // SAFETY: both slices are readable for their lengths, and only read.
         unsafe { cfdp_open_folders(self, config, outbox.as_ptr(), n, inbox.as_ptr(), m) }
+    }
+
+    pub fn open_journal(&mut self, config: &Config, paths: [&[u8]; 3], every: u64) -> u32 {
+        let [outbox, inbox, journal] = paths;
+        let (n, m, l) = (outbox.len(), inbox.len(), journal.len());
+        let (outbox, inbox, journal) = (outbox.as_ptr(), inbox.as_ptr(), journal.as_ptr());
+        // SAFETY: the slices are readable for their lengths, and only read.
+        unsafe { cfdp_open_folders_journal(self, config, outbox, n, inbox, m, journal, l, every) }
+    }
+
+    pub fn journal_state(&mut self, out: &mut JournalInfo) -> u32 {
+        // SAFETY: each argument is a reference.
+        unsafe { cfdp_journal_state(self, out) }
+    }
+
+    pub fn next_unheard(&mut self, out: &mut Told) -> u32 {
+        // SAFETY: each argument is a reference.
+        unsafe { cfdp_next_unheard(self, out) }
     }
 
     pub fn add(&mut self, name: &[u8], octets: &[u8]) -> u32 {

@@ -130,7 +130,7 @@ impl Indication {
         )
     }
 
-    fn of(told: &Told, names: &[u8]) -> Result<Indication, Error> {
+    pub(crate) fn of(told: &Told, names: &[u8]) -> Result<Indication, Error> {
         let (id, condition, size) = (told.id, Condition::from(told.condition), told.size);
         Ok(match told.kind {
             1 => Indication::Transaction { id },

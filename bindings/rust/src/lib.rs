@@ -38,6 +38,7 @@ mod error;
 #[allow(unsafe_code, missing_docs, missing_debug_implementations)]
 mod ffi;
 mod indication;
+mod journal;
 mod lists;
 mod pdu;
 mod security;
@@ -50,6 +51,7 @@ pub use config::{Config, Link};
 pub use error::{Error, Field, PduError};
 pub use ffi::{Counters, FrameDrops, Id, PduDrops, SentPdus};
 pub use indication::{Indication, Indications};
+pub use journal::{Journal, JournalState};
 pub use lists::{Files, Frames, Phase, Transaction, Transactions};
 pub use pdu::{decode, Acknowledged, Content, Pdu};
 pub use security::{Opener, Sealer, Security};

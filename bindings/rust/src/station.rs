@@ -132,7 +132,7 @@ impl Station {
         Ok(Station::of(handle))
     }
 
-    fn of(mut handle: Handle) -> Station {
+    pub(crate) fn of(mut handle: Handle) -> Station {
         let frame_len = handle.frame_len();
         Station { handle: RefCell::new(handle), frame_len }
     }

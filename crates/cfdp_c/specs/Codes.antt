@@ -26,6 +26,8 @@ use Rattle.frame_security.specs.declared.opening.Refusal.{Refusal}
 use Rattle.frame_security.specs.declared.opening.Refusal.TheVariants as refusals
 use Rattle.cfdp_c.specs.declared.held.FoldersError.{FoldersError}
 use Rattle.cfdp_c.specs.declared.held.FoldersError.TheVariants as folders
+use Rattle.cfdp_c.specs.declared.resuming.JournaledError.{JournaledError}
+use Rattle.cfdp_c.specs.declared.resuming.JournaledError.TheVariants as journaled
 use Rattle.cfdp_c.specs.declared.bad_field.BadField.{BadField}
 use Rattle.cfdp_c.specs.declared.bad_field.BadField.TheVariants as fields
 
@@ -68,6 +70,14 @@ folders_code folders.NoOutbox = 12
 folders_code folders.NoInbox = 13
 folders_code folders.InboxInUse = 14
 folders_code folders.NoMemory = no_memory
+
+-- also of folders with a journal
+abbrev pub journaled_code : JournaledError → ℕ
+journaled_code (journaled.Folders by) = folders_code by
+journaled_code journaled.NoJournal = 16
+journaled_code journaled.InUse = 17
+journaled_code journaled.OfOthers = 18
+journaled_code journaled.Misplaced = 19
 
 -- if the outbox failed to look for a file
 abbrev pub look_code : StoreError → ℕ

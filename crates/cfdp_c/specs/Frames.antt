@@ -9,7 +9,8 @@ use Rattle.cfdp_entity.specs.Sound.{SpellsTurn}
 use Rattle.cfdp_station.specs.Link.{FlushesBoth, WaitAtMost, HoldsAtMost}
 use Rattle.cfdp_station.specs.Polling.{Polls, Shows, next_len, next_room}
 use Rattle.cfdp_station.specs.Station.{StationState, KeepsRest}
-use Rattle.cfdp_station.specs.Transmitting.{PullsInPart, Transmits}
+use Rattle.cfdp_station.specs.Transmitting.{PollsInPart, Transmits, most_polls}
+use Rattle.cfdp_station.specs.declared.pumping.Until.TheVariants.{Frame}
 use Rattle.cfdp_station.specs.declared.polled.Polled.{Polled}
 use Rattle.cfdp_station.specs.declared.polled.Polled.TheVariants.{Moved, Full}
 use Rattle.cfdp_c.specs.Codes.{no_room, nothing, ok, poll_answer, transmit_answer}
@@ -76,7 +77,7 @@ pub record Sends (answer : ℕ) (frame : List ℕ) (old new : StationState) : Ty
   pub told : Result (Option Lane) AllocError
   pub code : answer ≡ transmit_answer told
   pub sent : IfOk told (λ lane. Transmits lane frame old new)
-  pub err : OnErr told (PullsInPart old new)
+  pub err : OnErr told (PollsInPart Frame most_polls old new)
 
 -- That frame was written to room of its length; if the room has another, nothing changed.
 pub record TransmitsTo (answer : ℕ) (room_before room_now : List ℕ) (old new : StationState)

@@ -11,3 +11,4 @@ pub mod Files
 pub mod Counters
 pub mod Control
 pub mod Looking
+pub mod Journaling

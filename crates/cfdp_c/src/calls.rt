@@ -130,10 +130,12 @@ impl Held {
         ensures kept { result ≢ codes.ok → id.new ≡ id.old }
         ensures place { has_folders self.new.station ≡ has_folders self.old.station }
     {
-        match &mut self.station {
+        let answer = match &mut self.station {
             AnyStation::Memory(station) => put(station, source, destination, id),
             AnyStation::Folders(station) => seek(station, source, destination, id),
-        }
+        };
+        self.notes_request();
+        answer
     }
 
     fn tick(&mut self, now: u64) -> u32
@@ -243,6 +245,7 @@ pub extern "C" fn cfdp_tick(alloc: Global, station: &mut CfdpStation, now: u64) 
         return CLOSED;
     };
     let answer = held.tick(now);
+    held.notes_tick(now);
     *station = CfdpStation::holding(held);
     answer
 }

@@ -1,12 +1,13 @@
 // What a call answers to C: a number; 0 is that all went well.
 ghost use Rattle.std.specs.Prelude.{◌≡◌, MatchOption};
 ghost use Rattle.cfdp_c.specs.Codes as codes;
-ghost use Rattle.cfdp_c.specs.Codes.{folders_code, look_code};
+ghost use Rattle.cfdp_c.specs.Codes.{folders_code, journaled_code, look_code};
 ghost use Rattle.cfdp_c.specs.Codes.{add_answer, request_answer, forget_answer, put_answer};
 ghost use Rattle.cfdp_c.specs.Codes.{remove_answer};
 ghost use Rattle.cfdp_c.specs.Codes.{poll_answer, transmit_answer, memory_answer};
 
 use crate::held::FoldersError;
+use crate::resuming::JournaledError;
 use cfdp_header::TransactionId;
 use cfdp_station::{AddError, ForgetError, Lane, Polled, PutError, RemoveError, RequestError};
 use cfdp_store::StoreError;
@@ -71,6 +72,19 @@ pub(crate) fn of_folders(error: FoldersError) -> u32
         FoldersError::NoInbox => 13,
         FoldersError::InboxInUse => 14,
         FoldersError::NoMemory => NO_MEMORY,
+    }
+}
+
+/// Returns the number of why no station over folders with a journal can be opened.
+pub(crate) fn of_journaled(error: JournaledError) -> u32
+    ensures { result ≡ journaled_code error }
+{
+    match error {
+        JournaledError::Folders(error) => of_folders(error),
+        JournaledError::NoJournal => 16,
+        JournaledError::InUse => 17,
+        JournaledError::OfOthers => 18,
+        JournaledError::Misplaced => 19,
     }
 }
 

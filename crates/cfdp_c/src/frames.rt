@@ -52,10 +52,12 @@ impl Held {
             (state_of self.old.station) (state_of self.new.station) }
         ensures place { has_folders self.new.station ≡ has_folders self.old.station }
     {
-        match &mut self.station {
+        let answer = match &mut self.station {
             AnyStation::Memory(station) => poll_memory(station),
             AnyStation::Folders(station) => poll(station),
-        }
+        };
+        self.notes_polls();
+        answer
     }
 
     fn transmit(&mut self, out: &mut [u8]) -> u32
@@ -148,6 +150,7 @@ pub extern "C" fn cfdp_transmit(alloc: Global, station: &mut CfdpStation, frame:
         return CLOSED;
     };
     let answer = held.transmit(frame);
+    held.notes_polls();
     *station = CfdpStation::holding(held);
     answer
 }

@@ -7,10 +7,11 @@ ghost use Rattle.cfdp_c.specs.declared.bad_field.BadField.{BadField};
 ghost use Rattle.cfdp_c.specs.Held.{has_folders, state_of};
 ghost use Rattle.cfdp_c.specs.Config.{config_of, IsUsable, Suits};
 
-use crate::codes::{ALREADY_OPEN, NO_MEMORY, OK, of_folders};
+use crate::codes::{ALREADY_OPEN, NO_MEMORY, OK, of_folders, of_journaled};
 use crate::config::CfdpConfig;
 use crate::held::Held;
 use crate::parts::Parts;
+use crate::resuming::Paths;
 use crate::station_slot::StationSlot;
 use cfdp_station::{StationConfig, Valid};
 use std::alloc::{AllocError, Global};
@@ -126,6 +127,73 @@ pub extern "C" fn cfdp_open_folders(
     }
 }
 
+/// Opens a closed handle on a station over two folders, as `cfdp_open_folders` does, that keeps a
+/// journal in the file of the third path. If that is the journal of an earlier run, the
+/// transactions that were open then go on, under their numbers, and those that were over are
+/// refused. After each `every` units of time it is noted how much was sent and is held.
+///
+/// Returns 0, `ALREADY_OPEN`, the number of a field as `cfdp_open`, `NO_OUTBOX`, `NO_INBOX`,
+/// `INBOX_IN_USE` or `NO_MEMORY` as `cfdp_open_folders`, `NO_JOURNAL` if the journal can't be read
+/// or written, `JOURNAL_IN_USE` if another process has it, `JOURNAL_OF_OTHERS` if it is of another
+/// entity or peer, or `JOURNAL_MISPLACED` if it would lie in a folder that a station receives into.
+/// Unless it is 0, the handle is as it was.
+#[unsafe(no_mangle)]
+pub extern "C" fn cfdp_open_folders_journal(
+    alloc: Global,
+    station: &mut CfdpStation,
+    config: &CfdpConfig,
+    outbox: &[u8],
+    inbox: &[u8],
+    journal: &[u8],
+    every: u64,
+) -> u32
+    ensures answers { ((result ≡ codes.ok) ⊎ (result ≡ codes.already_open))
+        ⊎ (((result ≡ codes.no_memory) ⊎ codes.NamesField result)
+        ⊎ (((12 ≤ result) × (result ≤ 14)) ⊎ ((16 ≤ result) × (result ≤ 19)))) }
+    ensures twice { (result ≡ codes.already_open) ↔ (station.old.is_open ≡ true) }
+    ensures bad { station.old.is_open ≡ false →
+        ((codes.NamesField result → ⊥) ↔ IsUsable config.now) }
+    ensures field { codes.NamesField result → (field : BadField)
+        × (result ≡ codes.field_number field) × (Suits field config.now → ⊥) }
+    ensures opened { result ≡ codes.ok → (station.new.is_open ≡ true)
+        × IsSomeAnd station.new.slot.value (λ held. has_folders held.station ≡ true) }
+    ensures refused { result ≢ codes.ok → station.new ≡ station.old }
+{
+    if station.is_open {
+        return ALREADY_OPEN;
+    }
+    match config.config() {
+        Ok(config) => {
+            let paths = Paths {
+                outbox,
+                inbox,
+                journal,
+            };
+            open_with_journal(alloc, station, config, paths, every)
+        }
+        Err(field) => field.number(),
+    }
+}
+
+fn open_with_journal(
+    alloc: Global,
+    station: &mut CfdpStation,
+    config: Valid<StationConfig>,
+    paths: Paths<'_>,
+    every: u64,
+) -> u32
+    ensures answers { ((result ≡ codes.ok) ⊎ (result ≡ codes.no_memory))
+        ⊎ (((12 ≤ result) × (result ≤ 14)) ⊎ ((16 ≤ result) × (result ≤ 19))) }
+    ensures opened { result ≡ codes.ok → (station.new.is_open ≡ true)
+        × IsSomeAnd station.new.slot.value (λ held. has_folders held.station ≡ true) }
+    ensures refused { result ≢ codes.ok → station.new ≡ station.old }
+{
+    match Held::resumed(alloc, config, paths, every) {
+        Ok(held) => fill(alloc, station, held),
+        Err(error) => of_journaled(error),
+    }
+}
+
 fn open_in_memory(alloc: Global, station: &mut CfdpStation, config: Valid<StationConfig>) -> u32
     ensures answers { (result ≡ codes.ok) ⊎ (result ≡ codes.no_memory) }
     ensures opened { result ≡ codes.ok → (station.new.is_open ≡ true)
@@ -180,7 +248,9 @@ fn fill(alloc: Global, station: &mut CfdpStation, held: Held) -> u32
 pub extern "C" fn cfdp_close(alloc: Global, station: &mut CfdpStation)
     ensures { station.new.is_open ≡ false }
 {
-    let _held = station.lift(alloc);
+    if let Some(held) = station.lift(alloc) {
+        held.notes_end();
+    }
 }
 
 fn boxed(alloc: Global, held: Held) -> Result<Box<Held>, AllocError>

@@ -1,14 +1,20 @@
 // What an open handle has: a station with its stores in memory, or with both in folders.
-ghost use Rattle.std.specs.Prelude.{◌≡◌, true, false, IfOk};
+ghost use Rattle.std.specs.Prelude.{◌≡◌, true, false, [], IfOk};
 ghost use Rattle.cfdp_c.specs.Calls.{IsFirst};
+ghost use Rattle.cfdp_c.specs.declared.held.AnyStation.TheVariants as held;
 ghost use Rattle.cfdp_c.specs.Held.{has_folders, state_of};
 
+use crate::noting_inbox::NotingInbox;
+use cfdp_directives::Indication;
 use cfdp_folders::{FolderRefusal, HeldFolder, SystemFiles, look_at_folder};
 use cfdp_station::{Station, StationConfig, Valid};
-use cfdp_store::{FolderInbox, FolderOutbox, MemoryInbox, MemoryOutbox};
+use cfdp_store::{FolderOutbox, MemoryInbox, MemoryOutbox};
 use past::Past;
 use std::alloc::{AllocError, Global};
 use std::snapshot::Snapshot;
+
+/// A station with its stores in folders, which may have a journal.
+pub type FoldersStation = Station<FolderOutbox<SystemFiles>, NotingInbox>;
 
 /// A station, by where its stores are.
 #[derive(Drop)]
@@ -16,14 +22,37 @@ pub enum AnyStation {
     /// Both in memory.
     Memory(Station<MemoryOutbox, MemoryInbox>),
     /// Both in folders.
-    Folders(Station<FolderOutbox<SystemFiles>, FolderInbox<SystemFiles>>),
+    Folders(FoldersStation),
+}
+
+/// What became of the transactions of a journal when its station was opened.
+#[derive(Clone, Copy)]
+pub struct Resumption {
+    /// How many open ones go on.
+    pub resumed: u32,
+    /// How many don't.
+    pub lost: u32,
+    /// Whether the journal was damaged, and was kept aside.
+    pub was_damaged: bool,
+}
+
+impl Resumption {
+    /// What is so if there was no journal.
+    pub const NONE: Resumption = Resumption {
+        resumed: 0,
+        lost: 0,
+        was_damaged: false,
+    };
 }
 
 /// A station, and the folder that it receives into, if it has one.
 #[derive(Drop)]
 pub struct Held {
     pub station: AnyStation,
-    _inbox: Option<HeldFolder>,
+    pub resumption: Resumption,
+    /// Ends of an earlier run that its user may not have heard, and hasn't asked for since.
+    pub unheard: Vec<Indication>,
+    inbox: Option<HeldFolder>,
 }
 
 /// Why a station over folders can't be opened.
@@ -55,7 +84,9 @@ impl Held {
         let station = Station::new(alloc, config, outbox, inbox)?;
         Ok(Held {
             station: AnyStation::Memory(station),
-            _inbox: None,
+            resumption: Resumption::NONE,
+            unheard: Vec::new(alloc),
+            inbox: None,
         })
     }
 
@@ -73,17 +104,34 @@ impl Held {
         let (path, folder) = take_inbox(alloc, inbox)?;
         let expected = Snapshot::of(&Past::new());
         let sources = FolderOutbox::new(SystemFiles, alloc, outbox, expected)?;
-        let received = FolderInbox::new(SystemFiles, alloc, path)?;
+        let received = NotingInbox::new(alloc, path, None)?;
         let station = Station::new(alloc, config, sources, received)?;
-        Ok(Held {
+        let resumption = Resumption::NONE;
+        Ok(Held::of_folders(alloc, station, folder, resumption))
+    }
+
+    /// Returns what an open handle has over two folders, if it holds the second one.
+    pub fn of_folders(
+        alloc: Global,
+        station: FoldersStation,
+        inbox: HeldFolder,
+        resumption: Resumption,
+    ) -> Held
+        ensures station { result.station ≡ held.Folders station }
+        ensures resumption { result.resumption ≡ resumption }
+        ensures unheard { result.unheard.items ≡ [] }
+    {
+        Held {
             station: AnyStation::Folders(station),
-            _inbox: Some(folder),
-        })
+            resumption,
+            unheard: Vec::new(alloc),
+            inbox: Some(inbox),
+        }
     }
 }
 
 /// Returns the path of a folder to send from, which must be there.
-fn outbox_path(alloc: Global, path: &[u8]) -> Result<&str, FoldersError> {
+pub(crate) fn outbox_path(alloc: Global, path: &[u8]) -> Result<&str, FoldersError> {
     let Ok(path) = str::from_utf8(path) else {
         return Err(FoldersError::NoOutbox);
     };
@@ -101,8 +149,15 @@ fn take_inbox(alloc: Global, path: &[u8]) -> Result<(&str, HeldFolder), FoldersE
     };
     match HeldFolder::take(alloc, path) {
         Ok(folder) => Ok((path, folder)),
-        Err(FolderRefusal::Missing) => Err(FoldersError::NoInbox),
-        Err(FolderRefusal::InUse) => Err(FoldersError::InboxInUse),
-        Err(FolderRefusal::NoMemory) => Err(FoldersError::NoMemory),
+        Err(refusal) => Err(of_inbox(refusal)),
+    }
+}
+
+/// Returns why no station receives into a folder that can't be had.
+pub(crate) fn of_inbox(refusal: FolderRefusal) -> FoldersError {
+    match refusal {
+        FolderRefusal::Missing => FoldersError::NoInbox,
+        FolderRefusal::InUse => FoldersError::InboxInUse,
+        FolderRefusal::NoMemory => FoldersError::NoMemory,
     }
 }

@@ -67,7 +67,7 @@ impl CfdpIndication {
         }
     }
 
-    fn of(told: &Indication) -> CfdpIndication
+    pub(crate) fn of(told: &Indication) -> CfdpIndication
         ensures { result ≡ told_of told.now }
     {
         match told {
@@ -161,6 +161,7 @@ impl Held {
         ensures kept { result ≢ codes.ok → (out.new ≡ out.old) × (names.new ≡ names.old) }
         ensures place { has_folders self.new.station ≡ has_folders self.old.station }
     {
+        self.notes_news();
         let Some(told) = self.indications().first() else {
             return NOTHING;
         };

@@ -21,9 +21,13 @@ mod frames;
 mod handle;
 mod held;
 mod indications;
+mod journal_place;
+mod journaling;
 mod looking;
+mod noting_inbox;
 mod parts;
 mod requests;
+mod resuming;
 mod room;
 mod securing;
 mod station_slot;
@@ -40,8 +44,11 @@ pub use frames::{
     cfdp_flush, cfdp_frame_len, cfdp_frames_ahead, cfdp_next_frame, cfdp_poll, cfdp_receive,
     cfdp_transmit,
 };
-pub use handle::{CfdpStation, cfdp_close, cfdp_open, cfdp_open_folders};
+pub use handle::{
+    CfdpStation, cfdp_close, cfdp_open, cfdp_open_folders, cfdp_open_folders_journal,
+};
 pub use indications::{CfdpIndication, cfdp_next_indication};
+pub use journaling::{CfdpJournal, cfdp_journal_state, cfdp_next_unheard};
 pub use looking::{CfdpTransaction, cfdp_records_left, cfdp_transactions};
 pub use requests::{cfdp_cancel, cfdp_prompt, cfdp_resume, cfdp_suspend};
 pub use securing::{CfdpSecurity, cfdp_open_frame, cfdp_seal_frame};

@@ -19,10 +19,12 @@ impl Held {
             (state_of self.new.station) }
         ensures place { has_folders self.new.station ≡ has_folders self.old.station }
     {
-        match &mut self.station {
+        let answer = match &mut self.station {
             AnyStation::Memory(station) => of_request(station.request(id, request)),
             AnyStation::Folders(station) => of_request(station.request(id, request)),
-        }
+        };
+        self.notes_request();
+        answer
     }
 }
 

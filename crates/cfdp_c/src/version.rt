@@ -5,7 +5,7 @@ ghost use Rattle.std.specs.Prelude.{◌≡◌};
 /// it changes.
 #[unsafe(no_mangle)]
 pub extern "C" fn cfdp_version() -> u32
-    ensures { result ≡ 7 }
+    ensures { result ≡ 8 }
 {
-    7
+    8
 }

@@ -22,7 +22,7 @@ pub(crate) fn find_behind_links(path: &str) -> io::Result<Metadata> {
 }
 
 /// Returns `true` if a link lies at a path; an error if nothing does.
-fn is_link(path: &str) -> io::Result<bool> {
+pub(crate) fn is_link(path: &str) -> io::Result<bool> {
     let mut target = [0u8; 1];
     if os::readlink(path.as_bytes(), &mut target) >= 0 {
         return Ok(true);

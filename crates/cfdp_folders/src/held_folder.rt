@@ -3,6 +3,7 @@
 use crate::system_file::SystemFile;
 use crate::system_files::SystemFiles;
 use std::alloc::{AllocError, Global};
+use std::collections::BTreeSet;
 use std::fs::{self, FileType};
 use std::io::{self, ErrorKind};
 
@@ -50,14 +51,37 @@ impl HeldFolder {
     ///
     /// A [`FolderRefusal`], if the folder can't be had.
     pub fn take(alloc: Global, path: &str) -> Result<HeldFolder, FolderRefusal> {
+        let held = HeldFolder::hold(alloc, path)?;
+        held.clear(alloc, path, &BTreeSet::new(alloc));
+        Ok(held)
+    }
+
+    /// Takes a folder, and leaves the part files in it.
+    ///
+    /// # Errors
+    ///
+    /// A [`FolderRefusal`], if the folder can't be had.
+    pub fn hold(alloc: Global, path: &str) -> Result<HeldFolder, FolderRefusal> {
         let folder = open_folder(alloc, path)?;
         match folder.lock() {
-            Ok(()) => {
-                remove_parts(alloc, path);
-                Ok(HeldFolder { _folder: folder })
-            }
+            Ok(()) => Ok(HeldFolder { _folder: folder }),
             Err(error) => Err(refusal_of(&error)),
         }
+    }
+
+    /// Removes the part files of a station that died from this folder, whose path this is, except
+    /// for those with these names.
+    pub fn clear(&self, alloc: Global, path: &str, kept: &BTreeSet<String>) {
+        remove_parts(alloc, path, kept);
+    }
+}
+
+/// Returns `true` if a folder is one that a [`HeldFolder`] has, of this process or another one, by
+/// whatever path. It says so of no folder that can't be read.
+pub fn is_held(alloc: Global, path: &str) -> bool {
+    match open_folder(alloc, path) {
+        Ok(folder) => folder.is_locked(),
+        Err(_) => false,
     }
 }
 
@@ -81,8 +105,9 @@ fn refusal_of(error: &io::Error) -> FolderRefusal {
     FolderRefusal::Missing
 }
 
-/// Removes the part files of a folder, as far as they can be removed.
-fn remove_parts(alloc: Global, path: &str) {
+/// Removes the part files of a folder, as far as they can be removed, except for those with these
+/// names.
+fn remove_parts(alloc: Global, path: &str, kept: &BTreeSet<String>) {
     let Ok(entries) = fs::read_dir(&(SystemFiles, alloc), path) else {
         return;
     };
@@ -90,6 +115,7 @@ fn remove_parts(alloc: Global, path: &str) {
         if let Ok(entry) = entry
             && is_part_name(entry.file_name())
             && is_plain(entry.file_type())
+            && !kept.contains(entry.file_name())
         {
             let _ = fs::remove_file(&SystemFiles, entry.path());
         }

@@ -13,6 +13,6 @@ mod held_folder;
 mod system_file;
 mod system_files;
 
-pub use held_folder::{FolderRefusal, HeldFolder, look_at_folder};
+pub use held_folder::{FolderRefusal, HeldFolder, is_held, look_at_folder};
 pub use system_file::{SystemFile, SystemFolder};
 pub use system_files::SystemFiles;

@@ -42,6 +42,7 @@ enum Change {
     Sync,
     SyncData,
     Lock,
+    Share,
 }
 
 /// An open file of the system. It is closed if it is dropped.
@@ -88,8 +89,20 @@ impl SystemFile {
     }
 
     /// Keeps others away that ask so too, as long as the file is open. It waits for nobody.
-    pub(crate) fn lock(&self) -> io::Result<()> {
+    ///
+    /// # Errors
+    ///
+    /// `WouldBlock` if somebody keeps it; or what the system says.
+    pub fn lock(&self) -> io::Result<()> {
         self.change(Change::Lock)
+    }
+
+    /// Returns `true` if somebody keeps others away from it by [`lock`](Self::lock).
+    pub(crate) fn is_locked(&self) -> bool {
+        match self.change(Change::Share) {
+            Ok(()) => false,
+            Err(error) => error.kind() == ErrorKind::WouldBlock,
+        }
     }
 
     fn change_once(&self, change: Change) -> i32 {
@@ -99,6 +112,7 @@ impl SystemFile {
             Change::Sync => libc::fsync(descriptor),
             Change::SyncData => libc::fdatasync(descriptor),
             Change::Lock => libc::flock(descriptor, libc::LOCK_EX | libc::LOCK_NB),
+            Change::Share => libc::flock(descriptor, libc::LOCK_SH | libc::LOCK_NB),
         }
     }
 

@@ -1,6 +1,6 @@
 //! The files of the system.
 use crate::flags::flags_of;
-use crate::found::{find, find_behind_links};
+use crate::found::{find, find_behind_links, is_link};
 use crate::system_file::{SystemFile, SystemFolder, done};
 use std::alloc::Allocator;
 use std::fs::{Files, Metadata, OpenOptions};
@@ -23,8 +23,13 @@ impl Files for SystemFiles {
 
     type Dir = SystemFolder;
 
+    // No link is followed to a file that is written: the name of a part file is known, and
+    // somebody may have put a link there since the file was made.
     fn open_file(&self, how: &OpenOptions, path: &str) -> io::Result<SystemFile> {
         how.check()?;
+        if how.asks_write() && matches!(is_link(path), Ok(true)) {
+            return Err(io::Error::from_raw_os_error(libc::ELOOP));
+        }
         SystemFile::open(path, flags_of(how))
     }
 

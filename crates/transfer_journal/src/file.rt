@@ -1,20 +1,21 @@
 //! The file of a journal.
+ghost use Rattle.std.specs.Prelude.{◌≡◌, ◌+◌, ◌<◌, ◌≤◌, length, IfOk, OnErr};
+
+use crate::place::{JournalError, JournalPlace};
 use batches::{HEAD_LEN, first_batch};
-use cfdp_files::{LockError, Use, folder_of, lock, open_plain};
 use journal_records::{JournalRecord, batch_of};
-use std::alloc::{AllocError, Global};
-use std::fs::File;
+use std::alloc::Global;
+use std::fs::OpenFile;
+use std::io;
 use std::io::{ErrorKind, Read, Write};
-use std::{fs, io};
 
 /// The most octets of a journal: a longer one is neither read nor written.
 const MOST_OCTETS: u64 = 1 << 28;
 
 /// A journal that is open to be written. No other process writes it meanwhile.
 #[derive(Drop)]
-pub struct JournalFile {
-    path: String,
-    file: File,
+pub struct JournalFile<F: Write + OpenFile + Drop> {
+    file: F,
     len: u64,
 }
 
@@ -24,14 +25,16 @@ pub struct JournalFile {
 ///
 /// `InUse` if another process writes it; `System` with what the system says, for example
 /// `FileTooLarge` if it has more than 2^28 octets.
-pub fn read_file(rt: &HostRuntime, path: &str) -> Result<Option<Vec<u8>>, LockError> {
-    let file = match open_plain(rt, path, Use::Read) {
+pub fn read_file<P: JournalPlace>(
+    alloc: Global,
+    place: &P,
+) -> Result<Option<Vec<u8>>, JournalError> {
+    let file = match place.open_alone(place.path()) {
         Ok(file) => file,
-        Err(error) if error.kind() == ErrorKind::NotFound => return Ok(None),
-        Err(error) => return Err(LockError::System(error)),
+        Err(JournalError::System(error)) if error.kind() == ErrorKind::NotFound => return Ok(None),
+        Err(error) => return Err(error),
     };
-    lock(&file)?;
-    let mut octets = Vec::new(rt.alloc());
+    let mut octets = Vec::new(alloc);
     file.take(MOST_OCTETS + 1).read_to_end(&mut octets)?;
     let _ = grown(0, octets.as_slice())?;
     Ok(Some(octets))
@@ -42,39 +45,39 @@ pub fn read_file(rt: &HostRuntime, path: &str) -> Result<Option<Vec<u8>>, LockEr
 /// # Errors
 ///
 /// What the system says.
-pub fn set_aside(rt: &HostRuntime, path: &str) -> io::Result<()> {
-    let aside = format!(in rt.alloc(); "{path}.damaged")?;
-    fs::rename(rt, path, aside.as_str())?;
-    sync_folder_of(rt, path)
+pub fn set_aside<P: JournalPlace>(alloc: Global, place: &P) -> io::Result<()> {
+    let path = place.path();
+    let aside = format!(in alloc; "{path}.damaged")?;
+    place.rename(path, aside.as_str())?;
+    sync_folder(place)
 }
 
-impl JournalFile {
-    /// Writes a new journal with these records, in place of the one at this path, if there is one.
-    /// It gets its name once it is whole and on the device.
-    ///
-    /// # Errors
-    ///
-    /// `InUse` if another process writes it; `System` with what the system says, or with
-    /// `FileTooLarge` if it would have more than 2^28 octets. What was there stays so.
-    pub fn begin(
-        rt: &HostRuntime,
-        path: &str,
-        records: &[JournalRecord],
-    ) -> Result<JournalFile, LockError> {
-        let part = format!(in rt.alloc(); "{path}.new").map_err(out_of_memory)?;
-        let path = String::from_str(rt.alloc(), path).map_err(out_of_memory)?;
-        let batch = batch_of(rt.alloc(), records).map_err(out_of_memory)?;
-        let len = grown(0, batch.as_slice())?;
-        let _ = fs::remove_file(rt, part.as_str());
-        let mut file = File::create_new(rt, part.as_str())?;
-        lock(&file)?;
-        file.write_all(batch.as_slice())?;
-        file.sync_all()?;
-        fs::rename(rt, part.as_str(), path.as_str())?;
-        sync_folder_of(rt, path.as_str())?;
-        Ok(JournalFile { path, file, len })
-    }
+/// Writes a new journal with these records, in place of the one that is there, if there is one. It
+/// gets its name once it is whole and on the device.
+///
+/// # Errors
+///
+/// `InUse` if another process writes it; `System` with what the system says, or with `FileTooLarge`
+/// if it would have more than 2^28 octets. What was there stays so.
+pub fn begin<P: JournalPlace>(
+    alloc: Global,
+    place: &P,
+    records: &[JournalRecord],
+) -> Result<JournalFile<P::File>, JournalError> {
+    let path = place.path();
+    let part = format!(in alloc; "{path}.new")?;
+    let batch = batch_of(alloc, records)?;
+    let len = grown(0, batch.as_slice())?;
+    let _ = place.remove(part.as_str());
+    let mut file = place.make(part.as_str())?;
+    file.write_all(batch.as_slice())?;
+    file.sync_all()?;
+    place.rename(part.as_str(), path)?;
+    sync_folder(place)?;
+    Ok(JournalFile { file, len })
+}
 
+impl<F: Write + OpenFile + Drop> JournalFile<F> {
     /// Returns how many octets it has.
     pub fn len(&self) -> u64 {
         self.len
@@ -94,25 +97,16 @@ impl JournalFile {
         self.len = len;
         Ok(())
     }
-
-    /// Removes the journal, also from the device.
-    ///
-    /// # Errors
-    ///
-    /// What the system says.
-    pub fn remove(&self, rt: &HostRuntime) -> io::Result<()> {
-        remove_at(rt, self.path.as_str())
-    }
 }
 
-/// Removes the journal at this path, also from the device, if there is one.
+/// Removes the journal, also from the device, if there is one.
 ///
 /// # Errors
 ///
 /// What the system says.
-pub fn remove_at(rt: &HostRuntime, path: &str) -> io::Result<()> {
-    match fs::remove_file(rt, path) {
-        Ok(()) => sync_folder_of(rt, path),
+pub fn remove<P: JournalPlace>(place: &P) -> io::Result<()> {
+    match place.remove(place.path()) {
+        Ok(()) => sync_folder(place),
         Err(error) if error.kind() == ErrorKind::NotFound => Ok(()),
         Err(error) => Err(error),
     }
@@ -125,7 +119,14 @@ pub fn has_batch_behind(octets: &[u8]) -> bool {
 }
 
 /// Returns how many octets a journal of so many has with these after it.
-fn grown(len: u64, octets: &[u8]) -> io::Result<u64> {
+///
+/// # Errors
+///
+/// `FileTooLarge` if they are more than 2^28.
+fn grown(len: u64, octets: &[u8]) -> io::Result<u64>
+    ensures ok { IfOk result (λ all. (all ≡ len + length octets.now) × (all ≤ 268435456)) }
+    ensures err { OnErr result (268435456 < len + length octets.now) }
+{
     let len = len.saturating_add(octets.len() as u64);
     if len > MOST_OCTETS {
         return Err(io::Error::from(ErrorKind::FileTooLarge));
@@ -133,11 +134,16 @@ fn grown(len: u64, octets: &[u8]) -> io::Result<u64> {
     Ok(len)
 }
 
-fn out_of_memory(_error: AllocError) -> LockError {
-    LockError::System(io::Error::from(ErrorKind::OutOfMemory))
+/// Sees that the folder of the journal keeps what names were given in it.
+fn sync_folder<P: JournalPlace>(place: &P) -> io::Result<()> {
+    place.open(folder_of(place.path()))?.sync_all()
 }
 
-/// Sees that the folder of a path keeps what names were given in it.
-fn sync_folder_of(rt: &HostRuntime, path: &str) -> io::Result<()> {
-    File::open(rt, folder_of(path))?.sync_all()
+/// Returns the folder in which a path names something.
+pub fn folder_of(path: &str) -> &str {
+    match path.rsplit_once('/') {
+        Some(("", _)) => "/",
+        Some((folder, _)) => folder,
+        None => ".",
+    }
 }

@@ -5,53 +5,45 @@ ghost use Rattle.std.specs.Option.{option_to_list};
 ghost use Rattle.transfer_journal.specs.Pending.{pending_by};
 
 use crate::facts::{note_facts, note_progress, push_some};
-use crate::file::{JournalFile, remove_at};
+use crate::file::{JournalFile, begin, remove};
 use crate::noted::Noted;
+use crate::place::{JournalError, JournalPlace};
 use crate::ranges::lacks_some;
 use cfdp_directives::{Indication, Octets, Outcome};
 use cfdp_entity::Record;
-use cfdp_files::LockError;
 use cfdp_forgotten::Numbers;
 use cfdp_header::TransactionId;
-use cfdp_port::Passed;
 use cfdp_station::Station;
 use cfdp_store::{Inbox, Outbox};
 use journal_records::{JournalRecord, Owner, Ranges};
 use std::alloc::{AllocError, Global};
 use std::cell::{Cell, RefCell};
 use std::collections::BTreeMap;
-use std::fs::File;
-use std::io::ErrorKind;
-use std::time::Instant;
+use std::fs::OpenFile;
+use std::io::{ErrorKind, Write};
 use std::{io, mem};
 
 /// A new journal is written if the last one has more octets than this, and more than twice as many
 /// as when it was begun.
 const MOST_OCTETS: u64 = 65_536;
 
-/// The seconds until it is tried again to begin a journal that couldn't be written.
-const AGAIN: u64 = 60;
-
-/// The seconds from one journal to the next.
-const PAUSE: u64 = 1;
-
-/// Where a journal lies, and what it is of.
+/// What a journal is of, and when it is written. Times are in the units of its place.
 #[derive(Clone, Copy)]
-pub struct JournalSetup<'a> {
-    /// The path of its file.
-    pub path: &'a str,
-    /// The folder of the inbox, if the station has one.
-    pub inbox: Option<&'a str>,
+pub struct JournalSetup {
     /// Whose it is.
     pub owner: Owner,
-    /// After how many milliseconds it is noted how much was sent and is held.
+    /// After how long it is noted how much was sent and is held.
     pub every: u64,
+    /// How long it is at least from one new journal to the next, if the last one has grown.
+    pub pause: u64,
+    /// After how long it is tried again to begin a journal that couldn't be written.
+    pub again: u64,
 }
 
 /// What is written at the moment.
 #[derive(Drop)]
-struct Writing {
-    file: JournalFile,
+struct Writing<F: Write + OpenFile + Drop> {
+    file: JournalFile<F>,
     /// How many octets it had when it was begun.
     begun: u64,
     noted: BTreeMap<TransactionId, Noted>,
@@ -60,30 +52,32 @@ struct Writing {
     /// How many directives but NAKs had been sent: EOFs are among them.
     directives: u64,
     /// When it was noted last how much was sent and is held.
-    at: Option<Instant>,
+    at: Option<u64>,
 }
 
 /// The journal of a station, in a file. It is shared by whoever looks on at the station and by the
 /// station's inbox.
 ///
-/// If it can't be written, it is removed, and the station goes on without; each minute it is tried
-/// again.
+/// If it can't be written, it is removed, and the station goes on without; after a while it is
+/// tried again.
 #[derive(Drop)]
-pub struct TransferJournal<'a> {
-    rt: &'a HostRuntime,
-    setup: JournalSetup<'a>,
-    writing: RefCell<Option<Writing>>,
-    tried: Cell<Option<Instant>>,
+pub struct TransferJournal<P: JournalPlace> {
+    alloc: Global,
+    place: P,
+    setup: JournalSetup,
+    writing: RefCell<Option<Writing<P::File>>>,
+    tried: Cell<Option<u64>>,
     fault: Cell<Option<ErrorKind>>,
     is_stuck: Cell<bool>,
 }
 
-impl<'a> TransferJournal<'a> {
+impl<P: JournalPlace> TransferJournal<P> {
     /// Returns a journal that isn't written before it [`begins`](Self::begins), or before the
-    /// station's first turn.
-    pub fn new(rt: &'a HostRuntime, setup: JournalSetup<'a>) -> TransferJournal<'a> {
+    /// station [`ticks`](Self::ticks).
+    pub fn new(alloc: Global, place: P, setup: JournalSetup) -> TransferJournal<P> {
         TransferJournal {
-            rt,
+            alloc,
+            place,
             setup,
             writing: RefCell::new(None),
             tried: Cell::new(None),
@@ -92,9 +86,9 @@ impl<'a> TransferJournal<'a> {
         }
     }
 
-    /// Returns the path of its file.
-    pub fn path(&self) -> &'a str {
-        self.setup.path
+    /// Returns where it lies.
+    pub fn place(&self) -> &P {
+        &self.place
     }
 
     /// Returns why it couldn't be written, once for each time.
@@ -108,22 +102,30 @@ impl<'a> TransferJournal<'a> {
         self.is_stuck.get()
     }
 
+    /// Returns `true` if it is written.
+    pub fn is_kept(&self) -> bool {
+        match self.writing.try_borrow() {
+            Ok(slot) => slot.is_some(),
+            Err(_) => false,
+        }
+    }
+
     /// Writes all that the station has as a new journal. If that fails, the one before it goes on,
     /// if this run wrote one. One of an earlier run is removed: it says what isn't so any more.
     ///
-    /// `pending` are ends that the user heard beside the station, and whose lines the log may not
-    /// have yet.
+    /// `pending` are ends that the user heard beside the station, or hears from elsewhere: if the
+    /// station is killed, the user may not have heard them.
     pub fn begins<O: Outbox, I: Inbox>(&self, station: &Station<O, I>, pending: &[Indication]) {
-        self.tried.set(Instant::now(self.rt).ok());
+        self.tried.set(self.place.now());
         let Ok(mut slot) = self.writing.try_borrow_mut() else {
             return;
         };
-        match begun(self.rt, &self.setup, station, pending) {
+        match begun(self.alloc, &self.place, &self.setup, station, pending) {
             Ok(writing) => *slot = Some(writing),
             Err(error) => {
                 if slot.is_none() {
-                    self.fault.set(Some(kind_of(&error)));
-                    if remove_at(self.rt, self.setup.path).is_err() {
+                    self.fault.set(Some(error.kind()));
+                    if remove(&self.place).is_err() {
                         self.is_stuck.set(true);
                     }
                 }
@@ -131,21 +133,44 @@ impl<'a> TransferJournal<'a> {
         }
     }
 
-    /// Sees what passed at the station. What must be on the device before a PDU leaves, or the user
-    /// hears of it, is there then.
-    pub fn sees<O: Outbox, I: Inbox>(&self, passed: Passed<'_>, station: &Station<O, I>) {
-        match passed {
-            Passed::Ticked(_) => {
-                self.commits(station);
-                self.tries_again(station);
-            }
-            Passed::Asked => self.commits(station),
-            Passed::Polled(_) => {
-                if self.lacks_eof(station) {
-                    self.commits(station);
-                }
-            }
-            Passed::Left { .. } | Passed::Took(_) => {}
+    /// Writes all that the station has as a new journal, as [`begins`](Self::begins) does.
+    ///
+    /// # Errors
+    ///
+    /// Why it can't be written. The journal of an earlier run stays then, and this one isn't begun.
+    pub fn starts<O: Outbox, I: Inbox>(
+        &self,
+        station: &Station<O, I>,
+        pending: &[Indication],
+    ) -> Result<(), JournalError> {
+        let writing = begun(self.alloc, &self.place, &self.setup, station, pending)?;
+        self.tried.set(self.place.now());
+        if let Ok(mut slot) = self.writing.try_borrow_mut() {
+            *slot = Some(writing);
+        }
+        Ok(())
+    }
+
+    /// Notes what the station has once it was given the time. If there is no journal and the last
+    /// try is long ago, or if it has grown, a new one is written; `pending` are as with
+    /// [`begins`](Self::begins).
+    pub fn ticks<O: Outbox, I: Inbox>(&self, station: &Station<O, I>, pending: &[Indication]) {
+        self.commits(station);
+        self.tries_again(station, pending);
+    }
+
+    /// Notes what the station has once it was polled, before a PDU leaves, if it may have sent an
+    /// EOF that isn't noted.
+    pub fn polls<O: Outbox, I: Inbox>(&self, station: &Station<O, I>) {
+        if self.lacks_eof(station) {
+            self.commits(station);
+        }
+    }
+
+    /// Notes what the station has before its user hears its next indication, if that isn't noted.
+    pub fn tells<O: Outbox, I: Inbox>(&self, station: &Station<O, I>) {
+        if self.lacks_news(station) {
+            self.commits(station);
         }
     }
 
@@ -155,22 +180,40 @@ impl<'a> TransferJournal<'a> {
             return;
         };
         if let Some(writing) = slot.as_mut()
-            && let Err(error) = intend(self.rt, &self.setup, writing, id, name, size)
+            && let Err(error) = intend(self.alloc, &self.place, &mut writing.file, id, name, size)
         {
-            self.gives_up(&writing.file, &error);
+            self.gives_up(&error);
             *slot = None;
         }
     }
 
-    /// Appends what the journal lacks.
-    fn commits<O: Outbox, I: Inbox>(&self, station: &Station<O, I>) {
+    /// Notes all that the station has and the journal lacks, and if that is due, how much was sent
+    /// and is held.
+    pub fn commits<O: Outbox, I: Inbox>(&self, station: &Station<O, I>) {
+        let is_due = match self.writing.try_borrow() {
+            Ok(slot) => match slot.as_ref() {
+                Some(writing) => is_past(&self.place, writing.at, self.setup.every),
+                None => false,
+            },
+            Err(_) => false,
+        };
+        self.commits_with(station, is_due);
+    }
+
+    /// Notes all that the station has and the journal lacks, and how much was sent and is held.
+    pub fn ends<O: Outbox, I: Inbox>(&self, station: &Station<O, I>) {
+        self.commits_with(station, true);
+    }
+
+    /// Appends what the journal lacks, and if it is due, how much was sent and is held.
+    fn commits_with<O: Outbox, I: Inbox>(&self, station: &Station<O, I>, is_due: bool) {
         let Ok(mut slot) = self.writing.try_borrow_mut() else {
             return;
         };
         if let Some(writing) = slot.as_mut()
-            && let Err(error) = writing.commits(self.rt, &self.setup, station)
+            && let Err(error) = writing.commits(self.alloc, &self.place, station, is_due)
         {
-            self.gives_up(&writing.file, &error);
+            self.gives_up(&error);
             *slot = None;
         }
     }
@@ -186,49 +229,61 @@ impl<'a> TransferJournal<'a> {
         }
     }
 
+    /// Returns `true` if there is an indication that wasn't looked at.
+    fn lacks_news<O: Outbox, I: Inbox>(&self, station: &Station<O, I>) -> bool {
+        match self.writing.try_borrow() {
+            Ok(slot) => match slot.as_ref() {
+                Some(writing) => match station.indications_since(writing.told) {
+                    Some(news) => !news.is_empty(),
+                    None => true,
+                },
+                None => false,
+            },
+            Err(_) => false,
+        }
+    }
+
     /// Writes a new journal, if there is none and the last try is long ago, or if it has grown.
-    fn tries_again<O: Outbox, I: Inbox>(&self, station: &Station<O, I>) {
+    fn tries_again<O: Outbox, I: Inbox>(&self, station: &Station<O, I>, pending: &[Indication]) {
         let is_due = match self.writing.try_borrow() {
             Ok(slot) => match slot.as_ref() {
                 Some(writing) => {
-                    writing.has_grown() && is_past(self.rt, self.tried.get(), PAUSE)
+                    writing.has_grown() && is_past(&self.place, self.tried.get(), self.setup.pause)
                 }
-                None => is_past(self.rt, self.tried.get(), AGAIN),
+                None => is_past(&self.place, self.tried.get(), self.setup.again),
             },
             Err(_) => false,
         };
         if is_due {
-            self.begins(station, &[]);
+            self.begins(station, pending);
         }
     }
 
     /// Removes the journal, since it can't be written.
-    fn gives_up(&self, file: &JournalFile, error: &io::Error) {
+    fn gives_up(&self, error: &io::Error) {
         self.fault.set(Some(error.kind()));
-        self.tried.set(Instant::now(self.rt).ok());
-        if file.remove(self.rt).is_err() {
+        self.tried.set(self.place.now());
+        if remove(&self.place).is_err() {
             self.is_stuck.set(true);
         }
     }
 }
 
 /// Writes all that a station has as a new journal.
-fn begun<O: Outbox, I: Inbox>(
-    rt: &HostRuntime,
-    setup: &JournalSetup<'_>,
+fn begun<P: JournalPlace, O: Outbox, I: Inbox>(
+    alloc: Global,
+    place: &P,
+    setup: &JournalSetup,
     station: &Station<O, I>,
     pending: &[Indication],
-) -> Result<Writing, LockError> {
-    let alloc = rt.alloc();
+) -> Result<Writing<P::File>, JournalError> {
     let mut noted = BTreeMap::new(alloc);
     let mut out = Vec::new(alloc);
     let told = station.indications_gone();
-    let held = snapshot(rt, setup, &mut out, &mut noted, station, pending);
-    let told = match held {
-        Ok(count) => told.saturating_add(count as u64),
-        Err(error) => return Err(LockError::System(error)),
-    };
-    let file = JournalFile::begin(rt, setup.path, out.as_slice())?;
+    push_some(&mut out, Some(JournalRecord::Station(setup.owner)))?;
+    let count = snapshot(alloc, place, &mut out, &mut noted, station, pending)?;
+    let told = told.saturating_add(count as u64);
+    let file = begin(alloc, place, out.as_slice())?;
     let begun = file.len();
     Ok(Writing {
         file,
@@ -236,31 +291,29 @@ fn begun<O: Outbox, I: Inbox>(
         noted,
         told,
         directives: station.counters().sent.other_directives,
-        at: Instant::now(rt).ok(),
+        at: place.now(),
     })
 }
 
 /// Appends all that a station has, and notes it. Returns how many indications were looked at.
-fn snapshot<O: Outbox, I: Inbox>(
-    rt: &HostRuntime,
-    setup: &JournalSetup<'_>,
+fn snapshot<P: JournalPlace, O: Outbox, I: Inbox>(
+    alloc: Global,
+    place: &P,
     out: &mut Vec<JournalRecord>,
     noted: &mut BTreeMap<TransactionId, Noted>,
     station: &Station<O, I>,
     pending: &[Indication],
 ) -> io::Result<usize> {
-    let alloc = rt.alloc();
-    out.push(JournalRecord::Station(setup.owner))?;
     note_forgotten(alloc, out, station)?;
     note_all_facts(alloc, out, noted, station)?;
     note_pending(out, pending)?;
     note_pending(out, station.indications())?;
-    sync_parts(rt, setup, noted, station)?;
+    sync_parts(alloc, place, noted, station)?;
     note_all_progress(alloc, out, noted, station)?;
     Ok(station.indications().len())
 }
 
-impl Writing {
+impl<F: Write + OpenFile + Drop> Writing<F> {
     /// Returns `true` if a new one should be written.
     fn has_grown(&self) -> bool {
         let len = self.file.len();
@@ -268,20 +321,20 @@ impl Writing {
     }
 
     /// Appends the facts that it lacks and, if that is due, how much was sent and is held.
-    fn commits<O: Outbox, I: Inbox>(
+    fn commits<P: JournalPlace, O: Outbox, I: Inbox>(
         &mut self,
-        rt: &HostRuntime,
-        setup: &JournalSetup<'_>,
+        alloc: Global,
+        place: &P,
         station: &Station<O, I>,
+        is_due: bool,
     ) -> io::Result<()> {
-        let alloc = rt.alloc();
         let mut out = Vec::new(alloc);
         note_all_facts(alloc, &mut out, &mut self.noted, station)?;
         self.note_told(&mut out, station)?;
         self.directives = station.counters().sent.other_directives;
-        if is_past_milliseconds(rt, self.at, setup.every) {
-            self.at = Instant::now(rt).ok();
-            sync_parts(rt, setup, &self.noted, station)?;
+        if is_due {
+            self.at = place.now();
+            sync_parts(alloc, place, &self.noted, station)?;
             note_all_progress(alloc, &mut out, &mut self.noted, station)?;
         }
         if out.is_empty() {
@@ -310,38 +363,38 @@ impl Writing {
 
 /// Syncs the part of a file, and the folder, which must not lose the part's name, and appends that
 /// it is about to be published.
-fn intend(
-    rt: &HostRuntime,
-    setup: &JournalSetup<'_>,
-    writing: &mut Writing,
+fn intend<P: JournalPlace>(
+    alloc: Global,
+    place: &P,
+    file: &mut JournalFile<P::File>,
     id: TransactionId,
     name: &[u8],
     size: u64,
 ) -> io::Result<()> {
-    sync_part(rt, setup, id)?;
-    if let Some(folder) = setup.inbox {
-        File::open(rt, folder)?.sync_all()?;
+    sync_part(alloc, place, id)?;
+    if let Some(folder) = place.inbox() {
+        place.open(folder)?.sync_all()?;
     }
-    let name = Octets::copied(rt.alloc(), name)?;
-    let mut out = Vec::new(rt.alloc());
+    let name = Octets::copied(alloc, name)?;
+    let mut out = Vec::new(alloc);
     out.push(JournalRecord::Publishing(id, name, size))?;
-    writing.file.append(rt.alloc(), out.as_slice())
+    file.append(alloc, out.as_slice())
 }
 
 /// Sees that the octets that came of a file are on the device.
-fn sync_part(rt: &HostRuntime, setup: &JournalSetup<'_>, id: TransactionId) -> io::Result<()> {
-    let Some(folder) = setup.inbox else {
+fn sync_part<P: JournalPlace>(alloc: Global, place: &P, id: TransactionId) -> io::Result<()> {
+    let Some(folder) = place.inbox() else {
         return Ok(());
     };
     let TransactionId { source, number } = id;
-    let path = format!(in rt.alloc(); "{folder}/.part-{source}-{number}")?;
-    File::open(rt, path.as_str())?.sync_data()
+    let path = format!(in alloc; "{folder}/.part-{source}-{number}")?;
+    place.open(path.as_str())?.sync_data()
 }
 
 /// Sees that the octets that came are on the device, of each file that has more than is noted.
-fn sync_parts<O: Outbox, I: Inbox>(
-    rt: &HostRuntime,
-    setup: &JournalSetup<'_>,
+fn sync_parts<P: JournalPlace, O: Outbox, I: Inbox>(
+    alloc: Global,
+    place: &P,
     noted: &BTreeMap<TransactionId, Noted>,
     station: &Station<O, I>,
 ) -> io::Result<()> {
@@ -349,7 +402,7 @@ fn sync_parts<O: Outbox, I: Inbox>(
         if let (Record::Receives(receiver), Some(Noted::Receives(noted))) = (record, noted.get(id))
             && lacks_some(receiver.held(), &noted.held)
         {
-            sync_part(rt, setup, *id)?;
+            sync_part(alloc, place, *id)?;
         }
     }
     Ok(())
@@ -486,24 +539,10 @@ fn pending_by(told: &Indication) -> Option<JournalRecord>
     }
 }
 
-/// Returns `true` if so many seconds have gone since then, or nothing was then.
-fn is_past(rt: &HostRuntime, then: Option<Instant>, seconds: u64) -> bool {
-    is_past_milliseconds(rt, then, seconds.saturating_mul(1000))
-}
-
-/// Returns `true` if so many milliseconds have gone since then, or nothing was then.
-fn is_past_milliseconds(rt: &HostRuntime, then: Option<Instant>, milliseconds: u64) -> bool {
-    match (then, Instant::now(rt)) {
-        (Some(then), Ok(now)) => {
-            now.duration_since(then).as_millis() >= u128::from(milliseconds)
-        }
-        (None, _) | (_, Err(_)) => true,
-    }
-}
-
-fn kind_of(error: &LockError) -> ErrorKind {
-    match error {
-        LockError::InUse => ErrorKind::ResourceBusy,
-        LockError::System(error) => error.kind(),
+/// Returns `true` if so much time has gone since then, or nothing was then, or it isn't known.
+fn is_past<P: JournalPlace>(place: &P, then: Option<u64>, time: u64) -> bool {
+    match (then, place.now()) {
+        (Some(then), Some(now)) => now.saturating_sub(then) >= time,
+        (None, _) | (_, None) => true,
     }
 }

@@ -9,12 +9,68 @@ use crate::survey::{ForgottenRange, Survey};
 use cfdp_directives::{Condition, Indication, Octets};
 use cfdp_extents::Extents;
 use cfdp_header::TransactionId;
-use cfdp_port::{PeerWire, Port};
 use cfdp_receiver::{CommittedReceiver, FileInfo};
 use cfdp_sender::{CommittedSender, SenderPhase, Transfer};
-use cfdp_station::RestoreError;
-use cfdp_store::{ResumingInbox, SeekingOutbox};
+use cfdp_station::{RestoreError, Station};
+use cfdp_store::{ResumingInbox, SeekingOutbox, StoreError};
 use std::alloc::{AllocError, Global};
+
+/// A station on which the transactions of a journal can be restored, or what has such a station.
+pub trait Restorable {
+    /// Looks for a file in the outbox, as [`Station::look_for`] says.
+    ///
+    /// # Errors
+    ///
+    /// As with [`Station::look_for`].
+    fn look_for(&mut self, name: &[u8]) -> Result<bool, StoreError>;
+
+    /// Forgets transactions, as [`Station::restore_forgotten`] says.
+    ///
+    /// # Errors
+    ///
+    /// As with [`Station::restore_forgotten`].
+    fn restore_forgotten(&mut self, source: u64, start: u64, end: u64) -> Result<(), RestoreError>;
+
+    /// Restores the record of a file that was sent, as [`Station::restore_sender`] says.
+    ///
+    /// # Errors
+    ///
+    /// As with [`Station::restore_sender`].
+    fn restore_sender(&mut self, kept: CommittedSender, sent: u64) -> Result<(), RestoreError>;
+
+    /// Restores the record of a file that was received, as [`Station::restore_receiver`] says.
+    ///
+    /// # Errors
+    ///
+    /// As with [`Station::restore_receiver`].
+    fn restore_receiver(
+        &mut self,
+        kept: CommittedReceiver,
+        held: Extents,
+    ) -> Result<(), RestoreError>;
+}
+
+impl<O: SeekingOutbox, I: ResumingInbox> Restorable for Station<O, I> {
+    fn look_for(&mut self, name: &[u8]) -> Result<bool, StoreError> {
+        Station::look_for(self, name)
+    }
+
+    fn restore_forgotten(&mut self, source: u64, start: u64, end: u64) -> Result<(), RestoreError> {
+        Station::restore_forgotten(self, source, start, end)
+    }
+
+    fn restore_sender(&mut self, kept: CommittedSender, sent: u64) -> Result<(), RestoreError> {
+        Station::restore_sender(self, kept, sent)
+    }
+
+    fn restore_receiver(
+        &mut self,
+        kept: CommittedReceiver,
+        held: Extents,
+    ) -> Result<(), RestoreError> {
+        Station::restore_receiver(self, kept, held)
+    }
+}
 
 /// A transaction that goes on.
 #[derive(Debug, Drop)]
@@ -53,9 +109,9 @@ pub struct Restored {
 /// # Errors
 ///
 /// `AllocError` if there is no memory to say what became of them: some may be restored by then.
-pub fn restore<O: SeekingOutbox, I: ResumingInbox, W: PeerWire>(
+pub fn restore<R: Restorable>(
     alloc: Global,
-    port: &mut Port<O, I, W>,
+    station: &mut R,
     survey: Survey,
 ) -> Result<Restored, AllocError>
     // All that the user may not have heard is there, in order of opening.
@@ -70,7 +126,7 @@ pub fn restore<O: SeekingOutbox, I: ResumingInbox, W: PeerWire>(
     };
     for range in survey.forgotten() {
         let ForgottenRange { source, start, end } = *range;
-        if port.restore_forgotten(source, start, end).is_err() {
+        if station.restore_forgotten(source, start, end).is_err() {
             let id = TransactionId {
                 source,
                 number: start,
@@ -80,7 +136,7 @@ pub fn restore<O: SeekingOutbox, I: ResumingInbox, W: PeerWire>(
     }
     for slot in survey.into_transfers() {
         if let Some(transfer) = slot {
-            restored.restores(port, transfer)?;
+            restored.restores(station, transfer)?;
         }
     }
     Ok(restored)
@@ -88,9 +144,9 @@ pub fn restore<O: SeekingOutbox, I: ResumingInbox, W: PeerWire>(
 
 impl Restored {
     /// Restores a transaction.
-    fn restores<O: SeekingOutbox, I: ResumingInbox, W: PeerWire>(
+    fn restores<R: Restorable>(
         &mut self,
-        port: &mut Port<O, I, W>,
+        station: &mut R,
         transfer: KeptTransfer,
     ) -> Result<(), AllocError>
         ensures { OnOk result (self.new.pending.items
@@ -98,8 +154,8 @@ impl Restored {
     {
         let KeptTransfer { id, end, pending } = transfer;
         let (resumed, answer) = match end {
-            KeptEnd::Sends(sender) => self.sender(port, sender, pending.is_some())?,
-            KeptEnd::Receives(receiver) => self.receiver(port, receiver)?,
+            KeptEnd::Sends(sender) => self.sender(station, sender, pending.is_some())?,
+            KeptEnd::Receives(receiver) => self.receiver(station, receiver)?,
         };
         match answer {
             Ok(()) => self.resumed.push(resumed)?,
@@ -113,9 +169,9 @@ impl Restored {
 
     /// Restores the record of a file that is sent. If the file isn't there any more as it was, the
     /// transaction is cancelled for that.
-    fn sender<O: SeekingOutbox, I: ResumingInbox, W: PeerWire>(
+    fn sender<R: Restorable>(
         &self,
-        port: &mut Port<O, I, W>,
+        station: &mut R,
         sender: KeptSender,
         is_pending: bool,
     ) -> Result<(Resumed, Result<(), RestoreError>), AllocError> {
@@ -133,12 +189,12 @@ impl Restored {
         let spare = cancelled(copied(self.alloc, transfer)?, sender.eof_taken);
         let is_sending = !sender.is_closed && sender.cancelled_for.is_none();
         if is_sending {
-            let _ = port.look_for(resumed.name.as_slice());
+            let _ = station.look_for(resumed.name.as_slice());
         }
         let sent = if is_sending { sent } else { 0 };
-        let answer = match port.restore_sender(sender.committed(), sent) {
+        let answer = match station.restore_sender(sender.committed(), sent) {
             Err(RestoreError::SourceFault | RestoreError::NoSuchFile | RestoreError::OtherSize) =>
-                port.restore_sender(spare, 0),
+                station.restore_sender(spare, 0),
             answer => answer,
         };
         Ok((resumed, answer))
@@ -146,9 +202,9 @@ impl Restored {
 
     /// Restores the record of a file that is received. If its part isn't there any more as far as
     /// it was held, the whole file is received again.
-    fn receiver<O: SeekingOutbox, I: ResumingInbox, W: PeerWire>(
+    fn receiver<R: Restorable>(
         &self,
-        port: &mut Port<O, I, W>,
+        station: &mut R,
         receiver: KeptReceiver,
     ) -> Result<(Resumed, Result<(), RestoreError>), AllocError> {
         let (committed, held) = receiver.committed();
@@ -165,10 +221,10 @@ impl Restored {
             resumed.name = Vec::from_slice(self.alloc, info.destination.as_slice())?;
         }
         let spare = copied_receiver(self.alloc, &committed)?;
-        let answer = match port.restore_receiver(committed, held) {
+        let answer = match station.restore_receiver(committed, held) {
             Err(RestoreError::ShortPart) => {
                 resumed.octets = 0;
-                port.restore_receiver(spare, Extents::new(self.alloc))
+                station.restore_receiver(spare, Extents::new(self.alloc))
             }
             answer => answer,
         };
