@@ -1,6 +1,6 @@
 -- What was noted of the lives before, as more is called.
 use Rattle.std.proofs.Common.{◌≡◌, ℕ, ◌+◌, List, [], ◌∷◌, ◌++◌, Bool, true, false, Result, Ok, Err, drop, length, refl, sym, ap, subst, ◌∙◌, inl, inr}
-use Rattle.std.specs.Prelude.{count_by}
+use Rattle.std.specs.Prelude.{◌≤◌, ◌^◌, MatchOption, Option, Some, None, count_by, slice_get, unwrap_or}
 use Rattle.std.specs.List.{flat_map}
 use Rattle.std.specs.declared.alloc.AllocError.{AllocError}
 use Rattle.std.proofs.lemmas.Grind.{flat_map-append}
@@ -17,7 +17,7 @@ use Rattle.cfdp_station.specs.declared.polled.Polled.{Polled}
 use Rattle.station_pair.specs.declared.side.Side.TheVariants as sides
 use Rattle.station_pair.specs.declared.world_config.WorldConfig.{WorldConfig}
 use Rattle.any_order.specs.Calls.{Call, One, Restarts, Two, Side, other}
-use Rattle.any_order.specs.Kept.{EndKept, IsNewKept, MadeFrame, all_kept, gives}
+use Rattle.any_order.specs.Kept.{EndKept, IsNewKept, LifeKept, MadeFrame, all_kept, gives}
 use Rattle.any_order.specs.Onward.{AreNoStarts, BeginsAnew, GoesOn, GoesOnInNewLife}
 use Rattle.any_order.specs.Refusing.{AnswersStart}
 use Rattle.any_order.specs.World.{ArePollCalls, AreFlushCalls, Happened, HasResumed, IsNewWorld, ResumesBy, WorldKept, deliver_calls, kept_at, octets_calls, put_calls, request_calls, restart_calls, side_of, sources_at, tick_calls}
@@ -31,7 +31,7 @@ use Rattle.any_order.specs.declared.answers.SentFrame.{SentFrame}
 use Rattle.cfdp_report.specs.Report.Lines.{indication_line, is_own_completion}
 use Rattle.cfdp_script.specs.Script.Outboxes.{outbox_of}
 use Rattle.cfdp_script.specs.declared.script.command.FileLine.{FileLine}
-use Rattle.cfdp_any_order_script.specs.Told.{GoesOnward, HasSources, IsNoted, Resumes, Starts}
+use Rattle.cfdp_any_order_script.specs.Told.{GoesOnward, HasSources, IsNextFirst, IsNoted, Resumes, Starts, next_first}
 
 -- ---- calls that are no starts
 pub put_no : (source destination : List ℕ) (result : Result TransactionId PutError) → AreNoStarts (put_calls source destination result)
@@ -192,3 +192,14 @@ happened_none s w = record { same = refl; follow = λ before is. (before, refl, 
 
 pub goes_none : (k : EndKept) → GoesOn k k
 goes_none k = record { before = refl; told_before = refl; gone = refl }
+
+-- ---- the first frame of another life
+pub latest_there : (before : List LifeKept) (latest l : LifeKept)
+    → slice_get (before ++ latest ∷ []) (length before) ≡ Some l → l ≡ latest
+latest_there [] latest l is = cc
+latest_there (x ∷ xs) latest l is = latest_there xs latest l is
+
+pub next_first_is : (k : EndKept) (o : Option ℕ) (first : ℕ) → MatchOption o (2 ^ 32 ≤ next_first k) (λ n. n ≡ next_first k)
+    → first ≡ unwrap_or o 0 → IsNextFirst first k
+next_first_is k None first most is = inr (most, is)
+next_first_is k (Some n) first same is = inl (is ∙ same)

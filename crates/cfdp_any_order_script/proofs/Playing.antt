@@ -5,19 +5,19 @@ use Rattle.std.proofs.lemmas.Option.{slice_get_within}
 use Rattle.station_pair.specs.declared.side.Side.{Side}
 use Rattle.station_pair.specs.declared.side.Side.TheVariants.{One, Two}
 use Rattle.any_order.specs.Calls.{Call, other}
-use Rattle.any_order.specs.World.{Happened, ResumesBy, WorldKept, side_of}
+use Rattle.any_order.specs.World.{Happened, ResumesBy, WorldKept, restart_calls, side_of}
+use Rattle.any_order.specs.declared.answers.Restarted.{Restarted}
 use Rattle.any_order.specs.declared.answers.Resumed.{Resumed}
 use Rattle.std.specs.declared.alloc.AllocError.{AllocError}
 use Rattle.aos_frame.specs.declared.config.Lane.{Lane}
 use Rattle.aos_frame.specs.declared.config.Lane.TheVariants.{Directives, Data}
 use Rattle.any_order.specs.Kept.{EndKept}
-use Rattle.any_order.specs.declared.answers.Delivered.{Delivered}
 use Rattle.any_order.specs.declared.answers.SentFrame.{SentFrame}
-use Rattle.any_order.specs.World.{deliver_calls, octets_calls}
+use Rattle.any_order.specs.World.{octets_calls}
 use Rattle.cfdp_any_order_script.specs.declared.answer.Answer.{Answer}
 use Rattle.cfdp_any_order_script.specs.Links.{Frames, IsBehind, made_of, made_since}
-use Rattle.cfdp_any_order_script.specs.Performing.{At, Calls, ComesDamaged, ComesFrom, GoesOn, OnlyCalls, PartState, PlayState, Sends, arrival_answer, behind_damage, behind_delivery, damage_answer, no_memory, part, resume_answer}
-use Rattle.cfdp_any_order_script.specs.Told.{IsFrame, kept_of, opposite}
+use Rattle.cfdp_any_order_script.specs.Performing.{At, Calls, ComesDamaged, GoesOn, OnlyCalls, PartState, PlayState, Sends, StartsAnew, behind_damage, damage_answer, no_memory, part, resume_answer, start_answer}
+use Rattle.cfdp_any_order_script.specs.Told.{AnswersNextLife, AnswersRestart, IsFrame, kept_of, opposite}
 
 pub at_one : (s : Side) (Does : PartState → PartState → Type 0) (v old new : PlayState) → s ≡ One → v ≡ old → Does (part One v) (part One new) → new.two ≡ v.two → At s Does old new
 at_one s Does v old new is same does others = subst (λ t. At t Does old new) (sym is) (subst (λ p. At One Does p new) same (record { does = does; others = others }))
@@ -28,10 +28,16 @@ at_two s Does v old new is same does others = subst (λ t. At t Does old new) (s
 pub only_calls : (s : Side) (calls : List Call) (v old new : PlayState) → v ≡ old → Happened (side_of s) calls v.world new.world → new.one ≡ v.one → new.two ≡ v.two → OnlyCalls s calls old new
 only_calls s calls v old new same happened one two = subst (λ p. OnlyCalls s calls p new) same (record { happened = happened; one = one; two = two })
 
+-- a station that restarts
+pub starts_anew : (s : Side) (answer : Option Answer) (result : Result Restarted AllocError) (first number : ℕ) (v old new : PlayState) → v ≡ old → answer ≡ start_answer result →
+    Happened (side_of s) (restart_calls first number result) v.world new.world → AnswersRestart s first number result v.world new.world → new.one ≡ v.one → new.two ≡ v.two → StartsAnew s answer old new
+starts_anew s answer result first number v old new same is happened why one two = subst (λ (p : PlayState). StartsAnew s answer p new) same
+    (result, first, number, is, record { happened = happened; one = one; two = two }, why)
+
 -- a station that resumes
 pub goes_on : (s : Side) (answer : Option Answer) (result : Result Resumed AllocError) (first number : ℕ) (v old new : PlayState) → v ≡ old → answer ≡ resume_answer result →
-    ResumesBy result (side_of s) first number v.world new.world → new.one ≡ v.one → new.two ≡ v.two → GoesOn s answer old new
-goes_on s answer result first number v old new same is by one two = subst (λ (p : PlayState). GoesOn s answer p new) same (result, first, number, is, by, one, two)
+    ResumesBy result (side_of s) first number v.world new.world → AnswersNextLife s first number result v.world new.world → new.one ≡ v.one → new.two ≡ v.two → GoesOn s answer old new
+goes_on s answer result first number v old new same is by why one two = subst (λ (p : PlayState). GoesOn s answer p new) same (result, first, number, is, by, why, one, two)
 
 pub other_side : (s : Side) → other (side_of s) ≡ side_of (opposite s)
 other_side One = refl
@@ -61,13 +67,6 @@ sends s calls usually answer v w f made waiting arrived same happened are waits 
 pub sends_none : (s : Side) (calls : List Call) (usually answer : Option Answer) (v w : WorldKept) (f : Frames) (waiting arrived : List SentFrame) → answer ≡ Some no_memory → Happened (side_of s) calls v w →
     waiting ≡ f.waiting → arrived ≡ f.arrived → Sends s calls usually answer (parted v f) (parted w (frames waiting arrived))
 sends_none s calls usually answer v w f waiting arrived same happened waits stay = inr (same, record { happened = happened; frames = ap₂ frames waits stay })
-
--- ---- a frame that must arrive
-pub comes : (none : Answer) (s : Side) (lane : Option Lane) (before place : ℕ) (frame : SentFrame) (by : Delivered) (answer : Option Answer) (v w : WorldKept) (f g : Frames) →
-    IsBehind lane before f.waiting place frame → answer ≡ arrival_answer by → Happened (other (side_of s)) (deliver_calls frame by) v w → g ≡ behind_delivery by frame place f →
-    ComesFrom none s lane before answer (parted v f) (parted w g)
-comes none s lane before place frame by answer v w f g there same happened are =
-    inr (inr (place, frame, by, there, same, others_calls s (deliver_calls frame by) (behind_delivery by frame place f) (parted v f) (parted w g) happened are))
 
 -- ---- a frame that must come damaged
 pub comes_damaged : (changed : List ℕ → List ℕ) (s : Side) (lane : Option Lane) (place : ℕ) (frame : SentFrame) (octets : List ℕ) (taken : Bool) (answer : Option Answer) (v w : WorldKept) (f g : Frames) →

@@ -19,6 +19,7 @@ use Rattle.station_pair.specs.declared.settle_error.SettleError.TheVariants as s
 use Rattle.station_pair.specs.declared.side.Side.{Side}
 use Rattle.station_pair.specs.declared.side.Side.TheVariants.{One, Two}
 use Rattle.any_order.specs.Calls.{Call, other}
+use Rattle.any_order.specs.Refusing.{AnswersFrame}
 use Rattle.any_order.specs.declared.answers.Delivered.{Delivered}
 use Rattle.any_order.specs.declared.answers.Delivered.TheVariants as delivered
 use Rattle.any_order.specs.declared.answers.Restarted.{Restarted}
@@ -26,7 +27,7 @@ use Rattle.any_order.specs.declared.answers.Restarted.TheVariants as restarted
 use Rattle.any_order.specs.declared.answers.Resumed.{Resumed}
 use Rattle.any_order.specs.declared.answers.Resumed.TheVariants as resumed
 use Rattle.any_order.specs.declared.answers.SentFrame.{SentFrame}
-use Rattle.any_order.specs.World.{ArePollCalls, AreFlushCalls, Happened, ResumesBy, WorldKept, deliver_calls, octets_calls, put_calls, request_calls, restart_calls, side_of, tick_calls}
+use Rattle.any_order.specs.World.{ArePollCalls, AreFlushCalls, Happened, ResumesBy, WorldKept, deliver_calls, kept_at, octets_calls, put_calls, request_calls, restart_calls, side_of, tick_calls}
 use Rattle.cfdp_report.specs.declared.report.answer.Answer.TheVariants as usual
 use Rattle.cfdp_script.specs.Script.Run.{damaged}
 use Rattle.cfdp_script.specs.declared.script.Step.{Step}
@@ -45,7 +46,7 @@ use Rattle.cfdp_any_order_script.specs.declared.play.Instead.TheVariants as inst
 use Rattle.cfdp_any_order_script.specs.Answers.{after_so_many}
 use Rattle.cfdp_any_order_script.specs.Links.{Frames, IsBack, IsBehind, count_of, is_any, made_since, shown}
 use Rattle.cfdp_any_order_script.specs.declared.links.Frames as declared
-use Rattle.cfdp_any_order_script.specs.Told.{IsFrame, kept_of, opposite}
+use Rattle.cfdp_any_order_script.specs.Told.{AnswersNextLife, AnswersRestart, IsFrame, kept_of, opposite}
 
 -- The two stations, and the frames of each on the link.
 pub record PlayState : Type 0 where
@@ -179,6 +180,12 @@ behind_delivery delivered.Taken frame place f = without place (f.arrived ++ fram
 behind_delivery delivered.NoSuchFrame frame place f = f
 behind_delivery delivered.TooFar frame place f = f
 
+-- When each answer of a delivery comes: a frame of a station is too far only if its number is too
+-- far from the last one that the other station took, and nothing changed then.
+abbrev pub IsAnswered : Side → SentFrame → Delivered → (old new : PartState) → Type 0
+IsAnswered s frame by old new = AnswersFrame by frame (kept_of s old.world)
+    (kept_at (other (side_of s)) old.world) (new.world ≡ old.world)
+
 -- The waiting frame of a station that has `before` frames of its lane, or of both, before it
 -- arrives at the other station. If fewer wait, the answer is `none`; if there is no memory to note
 -- it, nothing happens.
@@ -189,6 +196,7 @@ ComesFrom none s lane before answer old new =
     ⊎ (IsNotDone no_memory answer old new
     ⊎ ((place : ℕ) × (frame : SentFrame) × (by : Delivered)
     × IsBehind lane before old.frames.waiting place frame × (answer ≡ arrival_answer by)
+    × IsAnswered s frame by old new
     × Calls (opposite s) (deliver_calls frame by) (behind_delivery by frame place old.frames)
     old new))
 
@@ -232,15 +240,17 @@ ComesAgain s lane back answer old new =
     (((count_of lane old.frames.arrived < back) ⊎ (back ≡ 0))
     × IsNotDone NoSuchFrame answer old new)
     ⊎ ((frame : SentFrame) × (by : Delivered) × IsBack lane back old.frames.arrived frame
-    × (answer ≡ arrival_answer by)
+    × (answer ≡ arrival_answer by) × IsAnswered s frame by old new
     × Calls (opposite s) (deliver_calls frame by) old.frames old new)
 
 -- ---- a station that restarts
--- Its frames on the link stay as they are.
+-- Its frames on the link stay as they are. It has no number for a frame only if that would have
+-- more than 32 bits.
 abbrev pub StartsAnew : Side → Option Answer → (old new : PlayState) → Type 0
 StartsAnew s answer old new = (result : Result Restarted AllocError) × (first : ℕ) × (number : ℕ)
     × (answer ≡ start_answer result)
     × OnlyCalls s (restart_calls first number result) old new
+    × AnswersRestart s first number result old.world new.world
 
 -- ---- a station that resumes
 -- Its frames on the link stay as they are.
@@ -248,6 +258,7 @@ abbrev pub GoesOn : Side → Option Answer → (old new : PlayState) → Type 0
 GoesOn s answer old new = (result : Result Resumed AllocError) × (first : ℕ) × (number : ℕ)
     × (answer ≡ resume_answer result)
     × ResumesBy result (side_of s) first number old.world new.world
+    × AnswersNextLife s first number result old.world new.world
     × (new.one ≡ old.one) × (new.two ≡ old.two)
 
 -- ---- events

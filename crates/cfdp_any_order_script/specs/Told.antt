@@ -1,13 +1,17 @@
 -- What two stations indicated to their users, in all their lives, and what is kept of that.
-use Rattle.std.specs.Prelude.{◌≡◌, ℕ, List, [], ◌++◌, Some, length, count_by, slice_get, slice_index_or}
+use Rattle.std.specs.Prelude.{◌≡◌, ◌⊎◌, ◌+◌, ◌≤◌, ◌^◌, ℕ, List, [], ◌++◌, Some, Result, IfOk, length, max, count_by, slice_get, slice_index_or}
 use Rattle.std.specs.List.{flat_map}
+use Rattle.std.specs.declared.alloc.AllocError.{AllocError}
 use Rattle.cfdp_header.specs.Files.{FileMap}
 use Rattle.cfdp_directives.specs.declared.user.indication.Indication.{Indication}
 use Rattle.station_pair.specs.declared.side.Side.{Side}
 use Rattle.station_pair.specs.declared.side.Side.TheVariants.{One, Two}
+use Rattle.any_order.specs.declared.answers.Restarted.{Restarted}
+use Rattle.any_order.specs.declared.answers.Resumed.{Resumed}
 use Rattle.any_order.specs.declared.answers.SentFrame.{SentFrame}
 use Rattle.any_order.specs.Calls as sides
 use Rattle.any_order.specs.Kept.{EndKept, LifeKept, all_kept, frames_in}
+use Rattle.any_order.specs.Refusing.{AnswersResume, AnswersStart}
 use Rattle.any_order.specs.Onward.{BeginsAnew, GoesOn, GoesOnInNewLife}
 use Rattle.any_order.specs.World.{WorldKept, kept_at, side_of, sources_at}
 use Rattle.cfdp_report.specs.Report.Lines.{indication_line, is_own_completion}
@@ -39,6 +43,29 @@ received s w = (kept_of s w).station.entity.state.table.files
 abbrev pub IsFrame : SentFrame → List ℕ → EndKept → Type 0
 IsFrame f octets k = (l : LifeKept) × (slice_get (all_kept k) f.life ≡ Some l)
     × (octets ≡ slice_index_or (frames_in f.lane l) f.place [])
+
+-- ---- a station that begins another life
+-- the number of its first frame then: one is left out after those that it made
+abbrev pub next_first : EndKept → ℕ
+next_first k = k.latest.first + max (length k.latest.directives) (length k.latest.file_data) + 1
+
+-- The station is given that number; or it has more than 32 bits, and 0 is tried, which is used.
+abbrev pub IsNextFirst : ℕ → EndKept → Type 0
+IsNextFirst first k = (first ≡ next_first k) ⊎ ((2 ^ 32 ≤ next_first k) × (first ≡ 0))
+
+-- when each answer of a restart comes, and which number was tried
+abbrev pub AnswersRestart : Side → (first number : ℕ) → Result Restarted AllocError →
+    (old new : WorldKept) → Type 0
+AnswersRestart s first number result old new =
+    AnswersStart first number result (kept_of s old) (new ≡ old)
+    × IfOk result (λ _. IsNextFirst first (kept_of s old))
+
+-- the same of a resume
+abbrev pub AnswersNextLife : Side → (first number : ℕ) → Result Resumed AllocError →
+    (old new : WorldKept) → Type 0
+AnswersNextLife s first number result old new =
+    AnswersResume first number result (kept_of s old) (new ≡ old)
+    × IfOk result (λ _. IsNextFirst first (kept_of s old))
 
 -- Three things are kept of the lives that a station had before: their number, the lines of all that
 -- it indicated in them, and how many of its puts were complete by these. All that it indicated in

@@ -22,6 +22,7 @@ ghost use Rattle.cfdp_script.specs.Script.Outboxes.{outbox_of};
 ghost use Rattle.cfdp_timers.specs.ButInactivity.{IsLeastOther, OnlyInactivity};
 ghost use Rattle.cfdp_any_order_script.specs.Told.{IsFrame, IsNoted, kept_of, received, station_of};
 ghost use Rattle.cfdp_any_order_script.specs.Told.{GoesOnward, HasSources, Resumes, Starts};
+ghost use Rattle.cfdp_any_order_script.specs.Told.{AnswersNextLife, AnswersRestart, next_first};
 ghost use Rattle.cfdp_any_order_script.specs.Told.{told_ever};
 
 use crate::copies::copied;
@@ -142,7 +143,12 @@ fn stores_of(
 
 /// Returns the number of the first frame of a station that restarts: as small as it may be. `None`
 /// if there is none.
-fn first_of(world: &Stations, side: Side, life: usize) -> Option<u32> {
+#[tactic(auto, using(crate::proofs::Noted::latest_there))]
+fn first_of(world: &Stations, side: Side, life: usize) -> Option<u32>
+    requires { life ≡ length (kept_of side world.now).before }
+    ensures { MatchOption result (2 ^ 32 ≤ next_first (kept_of side world.now))
+        (λ first. first ≡ next_first (kept_of side world.now)) }
+{
     let life = world.life(side, life)?;
     let directives = life.count(Lane::Directives);
     let next = life.number(directives.max(life.count(Lane::Data)))?;
@@ -267,8 +273,9 @@ fn restart_at(
     requires noted { IsNoted (station_of side) before.old.lives before.old.told.items
         before.old.completed (kept_of side world.old) }
     requires sources { HasSources files.now world.old }
-    ensures happened { (first number : ℕ) × Happened (side_of side)
-        (restart_calls first number result) world.old world.new }
+    ensures happened { (first number : ℕ)
+        × Happened (side_of side) (restart_calls first number result) world.old world.new
+        × AnswersRestart side first number result world.old world.new }
     ensures refused { result ≢ Ok restarted.Done → world.new ≡ world.old }
     ensures noted { IsNoted (station_of side) before.new.lives before.new.told.items
         before.new.completed (kept_of side world.new) }
@@ -303,7 +310,8 @@ fn resume_at(
         before.old.completed (kept_of side world.old) }
     requires sources { HasSources files.now world.old }
     ensures happened { (first : ℕ) × (number : ℕ)
-        × ResumesBy result (side_of side) first number world.old world.new }
+        × ResumesBy result (side_of side) first number world.old world.new
+        × AnswersNextLife side first number result world.old world.new }
     ensures noted { IsNoted (station_of side) before.new.lives before.new.told.items
         before.new.completed (kept_of side world.new) }
     ensures other { GoesOn (kept_at (other (side_of side)) world.old)
@@ -470,8 +478,9 @@ impl<'a> ToldWorld<'a> {
     ///
     /// `AllocError` if there is no memory for the station, or for what must be kept.
     pub fn restart(&mut self, side: Side) -> Result<Restarted, AllocError>
-        ensures happened { (first number : ℕ) × Happened (side_of side)
-            (restart_calls first number result) self.old self.new }
+        ensures happened { (first number : ℕ)
+            × Happened (side_of side) (restart_calls first number result) self.old self.new
+            × AnswersRestart side first number result self.old self.new }
         ensures refused { result ≢ Ok restarted.Done → self.new ≡ self.old }
     {
         let (alloc, files) = (self.alloc, self.files);
@@ -491,7 +500,8 @@ impl<'a> ToldWorld<'a> {
     /// `AllocError` if there is no memory for the station.
     pub fn resume(&mut self, side: Side) -> Result<Resumed, AllocError>
         ensures { (first : ℕ) × (number : ℕ)
-            × ResumesBy result (side_of side) first number self.old self.new }
+            × ResumesBy result (side_of side) first number self.old self.new
+            × AnswersNextLife side first number result self.old self.new }
     {
         let (alloc, files) = (self.alloc, self.files);
         let world = &mut self.world;

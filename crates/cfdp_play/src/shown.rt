@@ -6,8 +6,7 @@ ghost use Rattle.cfdp_play.specs.Running.{Tells};
 
 use crate::values::Values;
 use cfdp_dump::{FrameShape, FrameShapes};
-use cfdp_report::{Exit, Fault, Reason};
-use cfdp_station::Phase;
+use cfdp_report::{Exit, Fault, Reason, phase_word};
 use cfdp_watch::{Deed, Kept, Ran, Sighting, Standing, write_trace};
 use serde_json::{Value, json};
 use std::alloc::{AllocError, Global};
@@ -180,16 +179,5 @@ fn number(value: Option<u64>) -> Value
     match value {
         Some(number) => Value::from(number),
         None => Value::Null,
-    }
-}
-
-/// Returns the word for how far a transaction is.
-fn phase_word(phase: Phase) -> &'static str {
-    match phase {
-        Phase::Sending => "sending",
-        Phase::Cancelling => "cancelling",
-        Phase::Receiving => "receiving",
-        Phase::Finishing => "finishing",
-        Phase::Closed => "closed",
     }
 }

@@ -27,7 +27,9 @@ pub use number::{HexNumber, parse_hex_octet, parse_number};
 pub use reading::read_up_to;
 pub use report::answer::{Answer, Answered};
 pub use report::name::{Name, hex_digit};
-pub use report::wording::{Id, delivery_word, status_word};
+pub use report::wording::{
+    Id, condition_name, condition_words, delivery_word, phase_word, status_word,
+};
 pub use report::{ToldWords, own_completions, write_answer, write_answers, write_indications};
 pub use settings::Settings;
 pub use settings::table::{Keys, Range, Setting, SettingsHelp, consider_keys, parse_setting};

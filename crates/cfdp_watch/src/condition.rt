@@ -1,5 +1,6 @@
 //! Conditions in words (CCSDS 727.0-B-5, table 5-5).
 use cfdp_directives::{Condition, Indication};
+use cfdp_report::condition_words;
 use station_pair::Side;
 use std::io;
 use std::io::Write;
@@ -80,25 +81,5 @@ fn told_condition(indication: &Indication) -> Option<Condition> {
         | Indication::EofRecv(_)
         | Indication::Resumed(_)
         | Indication::Progress(..) => None,
-    }
-}
-
-/// Returns what a condition code says.
-fn condition_words(code: u8) -> &'static str {
-    match code {
-        0 => "no error",
-        1 => "ACK limit reached: no acknowledgement of an EOF or a Finished",
-        2 => "keep-alive limit reached: the receiver is too far behind",
-        3 => "unsupported transmission mode",
-        4 => "filestore rejection: the file cannot be stored or read",
-        5 => "checksum failure: the received file differs from the sent one",
-        6 => "file size error: file data passes the end of the file",
-        7 => "NAK limit reached: data is still missing after all allowed requests",
-        8 => "inactivity: no PDU of the transaction arrived in time",
-        10 => "check limit reached: the file is still incomplete",
-        11 => "unsupported checksum type",
-        14 => "suspended by a user",
-        15 => "cancelled by a user",
-        _ => "no meaning in the standard",
     }
 }

@@ -1,4 +1,4 @@
-use Rattle.std.proofs.Common.{rules, ◌≡◌, ℕ, true, false, List, ◌++◌, sym, ap, ap₂, subst, ◌∙◌}
+use Rattle.std.proofs.Common.{refl, rules, ◌≡◌, ℕ, true, false, List, ◌++◌, sym, ap, ap₂, subst, ◌∙◌}
 use denote.Enum.Bare.{same_true, sameb}
 use Rattle.std.proofs.lemmas.Result.{err_from_is_err_and}
 use Rattle.any_order.specs.contracts.answers.Restarted.{the_type}
@@ -6,8 +6,8 @@ use Rattle.any_order.specs.declared.answers.Restarted.{Restarted}
 use Rattle.any_order.specs.declared.answers.Restarted.TheVariants as restarted
 use Rattle.any_order.specs.World.{Happened, WorldKept, restart_calls, side_of}
 use Rattle.cfdp_any_order_script.specs.declared.told.Before.{Before}
-use Rattle.cfdp_any_order_script.specs.Told.{IsNoted, kept_of, station_of}
-use Rattle.cfdp_any_order_script.proofs.Noted.{happened_none, not_started, noted_anew, noted_as, sources_on, started, stays_through}
+use Rattle.cfdp_any_order_script.specs.Told.{AnswersRestart, IsNoted, kept_of, station_of}
+use Rattle.cfdp_any_order_script.proofs.Noted.{happened_none, next_first_is, not_started, noted_anew, noted_as, sources_on, started, stays_through}
 use Rattle.cfdp_any_order_script.proofs.told.restart_at.Goals as goal
 use Rattle.cfdp_any_order_script.proofs.told.restart_at.Goals.{then-eq, else-eq}
 
@@ -19,13 +19,26 @@ pub returns-in_err-prepared-clause-happened : goal.returns-in_err-prepared-claus
 returns-in_err-prepared-clause-happened c =
     let p = err_from_is_err_and c.from_residual.result c.from_residual.ensures.1 in
     let w : WorldKept = c.args.world.now in
-    (0, 0, subst (λ r. Happened (side_of c.args.side) (restart_calls 0 0 r) w w) (sym p.1) (happened_none (side_of c.args.side) w))
+    let none = subst (λ r. Happened (side_of c.args.side) (restart_calls 0 0 r) w w × AnswersRestart c.args.side 0 0 r w w) (sym p.1) (happened_none (side_of c.args.side) w, (refl, tt)) in
+    (0, 0, none.0, none.1)
 
 pub returns-in_err-reserve-clause-happened : goal.returns-in_err-reserve-clause-happened
 returns-in_err-reserve-clause-happened c =
     let p = err_from_is_err_and c.from_residual-in_err-reserve.result c.from_residual-in_err-reserve.ensures.1 in
     let w : WorldKept = c.args.world.now in
-    (0, 0, subst (λ r. Happened (side_of c.args.side) (restart_calls 0 0 r) w w) (sym p.1) (happened_none (side_of c.args.side) w))
+    let none = subst (λ r. Happened (side_of c.args.side) (restart_calls 0 0 r) w w × AnswersRestart c.args.side 0 0 r w w) (sym p.1) (happened_none (side_of c.args.side) w, (refl, tt)) in
+    (0, 0, none.0, none.1)
+
+pub returns-clause-happened : goal.returns-clause-happened
+returns-clause-happened c = (
+  c.unwrap_or-first.result,
+  c.unwrap_or-number.result,
+  c.in_ok-answer.ensures.happened,
+  (
+    c.in_ok-answer.ensures.answers,
+    next_first_is (kept_of c.args.side c.args.world.now) c.first_of.result _ c.first_of.ensures c.unwrap_or-first.ensures,
+  ),
+)
 
 pub returns-clause-noted : goal.returns-clause-noted
 returns-clause-noted c = elim c.if-eq.branch [
