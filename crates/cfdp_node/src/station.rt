@@ -9,7 +9,9 @@ pub mod operator;
 pub mod refusals;
 pub mod resuming;
 pub mod setup;
+pub mod unknown_cancels;
 
+use crate::failure::{DEVICE, Failure, FileError, RestartError, SetupError, SocketError};
 use crate::station::console_door::door;
 use crate::station::operation::{Context, SecuredEnds, StationParts, StationSpool, Transfers, ran};
 use crate::station::resuming::{Found, found_journal, held_folder};
@@ -17,33 +19,27 @@ use crate::station::setup::{StationSetup, key_hint};
 use crate::transfers::named_files::{check_file, check_name, folder, folder_outbox, tell_untold};
 use crate::transfers::secured_links::keys_in;
 use crate::transfers::teller::{SpoolNotes, Teller, note};
-use cfdp_command_line::{
-    CarrierKind, StationNumbers, StationRequest, TimeUnit, note_losses, tell_line,
-};
-use cfdp_control::{LineSources, address_cause, is_malformed, remove_socket, socket_path};
-use cfdp_datagrams::{Carrier, Pace, PeerSocket, SharedNumbers, Unit, Unusable};
+use cfdp_command_line::{CarrierKind, StationNumbers, StationRequest, TimeUnit, note_losses};
+use cfdp_control::{LineSources, remove_socket, socket_path};
+use cfdp_datagrams::{Carrier, DatagramWire, Pace, SharedNumbers, UdpTransport, Unit, Unusable};
 use cfdp_exchange::{Beacon, Exchange, NoteTopic};
 use cfdp_files::{
     HeldFolder, Reservation, StateError, Wanted, is_same_folder, lies_in, try_folder,
 };
 use cfdp_journal::SeenPdus;
-use cfdp_report::{Hint, LineError, cause_text, parse_number, parse_setting};
+use cfdp_report::{Hint, parse_number, parse_setting};
 use cfdp_spool::FolderSpool;
 use cfdp_station::StationConfig;
 use cfdp_watch::{Progress, shown_status};
 use frame_security::LinkKeys;
+use host_journal::{HostSetup, TransferJournal, new_journal};
 use station_pair::{Side, WorldConfig};
+use std::alloc::Global;
+use std::borrow::CowStr;
 use std::cell::Cell;
 use std::io::ErrorKind;
 use std::{fs, io};
-use transfer_journal::{JournalSetup, TransferJournal};
 use valid_config::Valid;
-
-/// The exit status of bad arguments.
-const MISTAKE: u8 = 2;
-
-/// The exit status if a folder, a file, a socket or memory failed.
-const DEVICE: u8 = 3;
 
 /// What a station has before it opens its socket.
 #[derive(Drop)]
@@ -68,32 +64,36 @@ struct Prepared<'a> {
 ///
 /// What may be wrong is looked for in this order: the console, the control address, what is set,
 /// the file of keys, the names of files that must be sent, the folders, those files, the file of
-/// reserved numbers,
-/// the addresses.
+/// reserved numbers, the addresses.
 pub fn station_status(rt: &HostRuntime, request: &StationRequest) -> u8 {
-    match started_status(rt, request) {
-        Ok(status) | Err(status) => status,
+    // First of all: a process that was given no standard input has none once a file is opened.
+    let exchange = Exchange::new(rt.alloc());
+    match sources(rt, request, &exchange) {
+        Ok(sources) => {
+            let status = started_status(rt, request, sources, &exchange);
+            remove_control(rt, request);
+            status
+        }
+        Err(failure) => failure.tell(rt),
     }
 }
 
-/// Starts the station, and runs it.
-///
-/// # Errors
-///
-/// The exit status, if something is wrong at its start, as standard error says.
-fn started_status(rt: &HostRuntime, request: &StationRequest) -> Result<u8, u8> {
-    // First of all: a process that was given no standard input has none once a file is opened.
-    let exchange = Exchange::new(rt.alloc());
-    let sources = sources(rt, request, &exchange)?;
-    let status = match prepare(rt, request, &exchange) {
-        Ok(prepared) => bound_status(rt, request, sources, prepared, &exchange),
-        Err(status) => {
+/// Starts the station, and runs it. Answers the exit status. What is wrong at its start is reported
+/// before the sources of commands are released.
+fn started_status<'a>(
+    rt: &'a HostRuntime,
+    request: &'a StationRequest,
+    sources: LineSources<'a>,
+    exchange: &'a Exchange,
+) -> u8 {
+    match prepare(rt, request, exchange) {
+        Ok(prepared) => bound_status(rt, request, sources, prepared, exchange),
+        Err(failure) => {
+            let status = failure.tell(rt);
             drop(sources);
-            Err(status)
+            status
         }
-    };
-    remove_control(rt, request);
-    status
+    }
 }
 
 /// Removes the file of the control address, if that is a Unix socket.
@@ -109,30 +109,27 @@ fn remove_control(rt: &HostRuntime, request: &StationRequest) {
 ///
 /// # Errors
 ///
-/// The exit status, where something is wrong, which was reported on standard error.
+/// What is wrong.
 fn prepare<'a>(
     rt: &'a HostRuntime,
-    request: &StationRequest,
+    request: &'a StationRequest,
     exchange: &'a Exchange,
-) -> Result<Prepared<'a>, u8> {
+) -> Result<Prepared<'a>, Failure<'a>> {
     check_addresses(rt, request)?;
     let setup = set_up(rt, request)?;
-    check_fields(rt, request, &setup)?;
+    check_fields(request, &setup)?;
     begun(rt, request, &setup, exchange)
 }
 
-/// Opens the station's socket, and runs the station.
-///
-/// # Errors
-///
-/// The exit status, if the socket can't be had, as standard error says.
+/// Opens the station's socket, and runs the station. Answers the exit status. If the socket can't
+/// be had, that is reported before the sources of commands are released.
 fn bound_status<'a>(
     rt: &'a HostRuntime,
     request: &'a StationRequest,
     sources: LineSources<'a>,
     prepared: Prepared<'a>,
     exchange: &'a Exchange,
-) -> Result<u8, u8> {
+) -> u8 {
     let Prepared {
         config,
         carrier,
@@ -164,12 +161,13 @@ fn bound_status<'a>(
             };
             let status = ran_status(rt, request, parts, (spool, found), exchange);
             let _ = numbers.settles();
-            Ok(status)
+            status
         }
-        Err(status) => {
+        Err(error) => {
+            let status = Failure::Socket(error).tell(rt);
             drop(sources);
             drop(spool);
-            Err(status)
+            status
         }
     }
 }
@@ -194,13 +192,15 @@ fn secured_ends(
 ///
 /// # Errors
 ///
-/// The exit status, if both are one, as standard error says.
-fn check_addresses(rt: &HostRuntime, request: &StationRequest) -> Result<(), u8> {
+/// `OneAddress` if both are one.
+fn check_addresses<'a>(
+    rt: &HostRuntime,
+    request: &'a StationRequest,
+) -> Result<(), SetupError<'a>> {
     note_losses(rt, request.numbers.losses);
     let to = request.to.as_str();
     if to == request.listen.as_str() {
-        let _ = eprintln!(rt; "error: --listen and --to must differ (both are {to})");
-        return Err(MISTAKE);
+        return Err(SetupError::OneAddress(to));
     }
     Ok(())
 }
@@ -209,13 +209,12 @@ fn check_addresses(rt: &HostRuntime, request: &StationRequest) -> Result<(), u8>
 ///
 /// # Errors
 ///
-/// The exit status, where the control address or the console can't be had, which was reported on
-/// standard error.
+/// Why the control address or the console can't be had.
 fn sources<'a>(
     rt: &'a HostRuntime,
-    request: &StationRequest,
+    request: &'a StationRequest,
     exchange: &Exchange,
-) -> Result<LineSources<'a>, u8> {
+) -> Result<LineSources<'a>, Failure<'a>> {
     let control = match &request.control {
         Some(address) => Some(address.as_str()),
         None => None,
@@ -225,8 +224,7 @@ fn sources<'a>(
         Ok(sources) => sources,
         Err(error) => {
             let address = control.unwrap_or("");
-            let _ = eprintln!(rt; "error: --control {address}: {error}");
-            return Err(if error.is_mistake() { MISTAKE } else { DEVICE });
+            return Err(Failure::Socket(SocketError::Control(address, error)));
         }
     };
     if has_any_port(control)
@@ -262,24 +260,30 @@ fn has_any_port(address: Option<&str>) -> bool {
 ///
 /// # Errors
 ///
-/// The exit status, if something is wrong, as standard error says.
+/// What is wrong.
 fn begun<'a>(
     rt: &'a HostRuntime,
-    request: &StationRequest,
+    request: &'a StationRequest,
     setup: &StationSetup,
     exchange: &'a Exchange,
-) -> Result<Prepared<'a>, u8> {
-    let (config, _) = configuration(rt, request, setup)?;
+) -> Result<Prepared<'a>, Failure<'a>> {
+    let config = match configuration(request, setup) {
+        Ok((config, _)) => config,
+        Err(error) => return Err(Failure::Setup(error)),
+    };
     let keys = keys(rt, request)?;
     let found = found_journal(rt, request, setup, config, exchange)?;
     let held = held_inbox(rt, request, &found)?;
     check_outbox(rt, request)?;
     let spool = spool(rt, request, exchange)?;
     let reservation = reserved(rt, request, setup, &found)?;
-    check_kept(rt, request, &reservation)?;
-    found.check_number(rt, request, reservation.number())?;
+    check_kept(request, &reservation)?;
+    found.check_number(request, reservation.number())?;
     let setup = setup.beginning_at(reservation.number());
-    let (config, carrier) = configuration(rt, request, &setup)?;
+    let (config, carrier) = match configuration(request, &setup) {
+        Ok(configured) => configured,
+        Err(error) => return Err(Failure::Setup(error)),
+    };
     Ok(Prepared {
         config,
         carrier,
@@ -296,8 +300,11 @@ fn begun<'a>(
 ///
 /// # Errors
 ///
-/// The exit status, if they can't be read, which was reported on standard error.
-fn keys(rt: &HostRuntime, request: &StationRequest) -> Result<Option<LinkKeys>, u8> {
+/// Why they can't be read.
+fn keys<'a>(
+    rt: &HostRuntime,
+    request: &'a StationRequest,
+) -> Result<Option<LinkKeys>, Failure<'a>> {
     let Some(path) = &request.keys else {
         return Ok(None);
     };
@@ -310,17 +317,17 @@ fn keys(rt: &HostRuntime, request: &StationRequest) -> Result<Option<LinkKeys>, 
 ///
 /// # Errors
 ///
-/// The exit status, if it is, which was reported on standard error.
-fn check_keys_place(rt: &HostRuntime, request: &StationRequest, path: &str) -> Result<(), u8> {
+/// `KeysPlace` if it is.
+fn check_keys_place<'a>(
+    rt: &HostRuntime,
+    request: &'a StationRequest,
+    path: &'a str,
+) -> Result<(), SetupError<'a>> {
     for folder in [&request.inbox, &request.outbox, &request.spool] {
         if let Some(folder) = folder
             && lies_in(rt, path, folder.as_str())
         {
-            let _ = eprintln!(rt;
-                "error: {path}: lies in the folder {folder}, whose files are sent or received: \
-                 move it elsewhere"
-            );
-            return Err(MISTAKE);
+            return Err(SetupError::KeysPlace(path, folder.as_str()));
         }
     }
     Ok(())
@@ -330,35 +337,33 @@ fn check_keys_place(rt: &HostRuntime, request: &StationRequest, path: &str) -> R
 ///
 /// # Errors
 ///
-/// The exit status, if they aren't, which was reported on standard error.
-fn check_kept(
-    rt: &HostRuntime,
-    request: &StationRequest,
+/// `KeysWithoutState` if they aren't.
+fn check_kept<'a>(
+    request: &'a StationRequest,
     reservation: &Reservation<'_>,
-) -> Result<(), u8> {
+) -> Result<(), SetupError<'a>> {
     if request.keys.is_none() || reservation.has_file() {
-        return Ok(());
+        Ok(())
+    } else {
+        Err(SetupError::KeysWithoutState)
     }
-    let _ = eprintln!(rt; "error: --keys needs a state file: name one with --state");
-    Err(MISTAKE)
 }
 
 /// Takes the folder of the spool, if there is one.
 ///
 /// # Errors
 ///
-/// The exit status, if it can't be had, as standard error says.
+/// Why it can't be had.
 fn spool<'a>(
     rt: &'a HostRuntime,
-    request: &StationRequest,
+    request: &'a StationRequest,
     exchange: &'a Exchange,
-) -> Result<Option<StationSpool<'a>>, u8> {
+) -> Result<Option<StationSpool<'a>>, Failure<'a>> {
     let Some(path) = &request.spool else {
         return Ok(None);
     };
     if request.outbox.is_some() {
-        let _ = eprintln!(rt; "error: --spool and --outbox exclude each other");
-        return Err(MISTAKE);
+        return Err(Failure::Setup(SetupError::SpoolAndOutbox));
     }
     folder(rt, path.as_str())?;
     check_apart(rt, request, path.as_str())?;
@@ -375,16 +380,16 @@ fn spool<'a>(
 ///
 /// # Errors
 ///
-/// The exit status, if it is, as standard error says.
-fn check_apart(rt: &HostRuntime, request: &StationRequest, spool: &str) -> Result<(), u8> {
+/// `OneFolder` if it is.
+fn check_apart<'a>(
+    rt: &HostRuntime,
+    request: &StationRequest,
+    spool: &'a str,
+) -> Result<(), SetupError<'a>> {
     if let Some(inbox) = &request.inbox
         && matches!(is_same_folder(rt, inbox.as_str(), spool), Ok(true))
     {
-        let _ = eprintln!(rt;
-            "error: --inbox and --spool must differ (both are the folder {spool}): the station \
-             would send what it receives"
-        );
-        return Err(MISTAKE);
+        return Err(SetupError::OneFolder(spool));
     }
     Ok(())
 }
@@ -393,19 +398,18 @@ fn check_apart(rt: &HostRuntime, request: &StationRequest, spool: &str) -> Resul
 ///
 /// # Errors
 ///
-/// The exit status, if they can't be, as standard error says.
-fn configuration(
-    rt: &HostRuntime,
-    request: &StationRequest,
+/// `OutOfRange` or `Misfit` if they can't be.
+fn configuration<'a>(
+    request: &'a StationRequest,
     setup: &StationSetup,
-) -> Result<(Valid<WorldConfig>, Carrier), u8> {
+) -> Result<(Valid<WorldConfig>, Carrier), SetupError<'a>> {
     let StationNumbers { id, peer, .. } = request.numbers;
     match (setup.config(id, peer), setup.carrier(request.carrier)) {
         (Some(config), Some(carrier)) => Ok((config, carrier)),
-        (None, _) | (_, None) => {
-            tell_bad(rt, setup, id, peer);
-            Err(MISTAKE)
-        }
+        (None, _) | (_, None) => Err(match setup.out_of_range() {
+            Some((setting, value)) => SetupError::OutOfRange(setting, value),
+            None => SetupError::Misfit(setup.misfit(id, peer)),
+        }),
     }
 }
 
@@ -414,45 +418,33 @@ fn configuration(
 ///
 /// # Errors
 ///
-/// The exit status, if not, which was reported on standard error.
-fn check_fields(
-    rt: &HostRuntime,
-    request: &StationRequest,
+/// `FieldsWithoutFrames`, `KeysWithoutFrames` or `MacWithoutKeys` if not.
+fn check_fields<'a>(
+    request: &'a StationRequest,
     setup: &StationSetup,
-) -> Result<(), u8> {
+) -> Result<(), SetupError<'a>> {
     let has_frames = request.carrier == CarrierKind::Frames;
-    let _ = if !has_frames && !setup.has_bare_frames() {
-        eprintln!(rt; "error: insert_zone, control_field and error_control need --carrier frames")
+    if !has_frames && !setup.has_bare_frames() {
+        Err(SetupError::FieldsWithoutFrames)
     } else if !has_frames && request.keys.is_some() {
-        eprintln!(rt; "error: --keys needs --carrier frames")
+        Err(SetupError::KeysWithoutFrames)
     } else if setup.has_idle_mac() {
-        eprintln!(rt; "error: --set mac needs --keys FILE")
+        Err(SetupError::MacWithoutKeys)
     } else {
-        return Ok(());
-    };
-    Err(MISTAKE)
-}
-
-/// Says why a station can't be set up so.
-fn tell_bad(rt: &HostRuntime, setup: &StationSetup, id: u64, peer: u64) {
-    match setup.out_of_range() {
-        Some((setting, value)) => {
-            let (key, range) = (setting.key(), setting.range());
-            let _ = eprintln!(rt; "error: {key} must be {range} (got {value})");
-            tell_line(rt, key);
-        }
-        None => {
-            let misfit = setup.misfit(id, peer);
-            let _ = eprintln!(rt; "error: {misfit}");
-            if let Some(key) = misfit.key() {
-                tell_line(rt, key);
-            }
-        }
+        Ok(())
     }
 }
 
 /// What is set.
-fn set_up(rt: &HostRuntime, request: &StationRequest) -> Result<StationSetup, u8> {
+///
+/// # Errors
+///
+/// What can't be set, or the number of the first transaction if it doesn't fit its octets, and
+/// these are so many as may be.
+fn set_up<'a>(
+    rt: &HostRuntime,
+    request: &'a StationRequest,
+) -> Result<StationSetup, SetupError<'a>> {
     let StationNumbers {
         id,
         peer,
@@ -471,24 +463,10 @@ fn set_up(rt: &HostRuntime, request: &StationRequest) -> Result<StationSetup, u8
             words[2 * pair + 1].as_str(),
         )?;
     }
-    check_number(rt, &setup)?;
-    Ok(setup)
-}
-
-/// Looks whether the number of the first transaction fits its octets, if these are so many as
-/// may be.
-///
-/// # Errors
-///
-/// The exit status, if it doesn't, as standard error says.
-fn check_number(rt: &HostRuntime, setup: &StationSetup) -> Result<(), u8> {
-    if setup.out_of_range().is_none()
-        && let Some(misfit) = setup.number_misfit()
-    {
-        let _ = eprintln!(rt; "error: {misfit}");
-        return Err(MISTAKE);
+    if setup.out_of_range().is_none() && !setup.fits_first_number() {
+        return Err(SetupError::WideNumber(setup.number_width()));
     }
-    Ok(())
+    Ok(setup)
 }
 
 /// Which values this key takes, if it is one of a script.
@@ -500,65 +478,92 @@ fn value_hint(key: &str) -> Hint {
 }
 
 /// Sets one value.
-fn set_one(rt: &HostRuntime, setup: &mut StationSetup, key: &str, word: &str) -> Result<(), u8> {
+///
+/// # Errors
+///
+/// `BadNumber` if it is no number; `UnknownKey` if there is no such key.
+fn set_one<'a>(
+    rt: &HostRuntime,
+    setup: &mut StationSetup,
+    key: &'a str,
+    word: &'a str,
+) -> Result<(), SetupError<'a>> {
     let Some(value) = parse_number(word.as_bytes()) else {
         let hint = value_hint(key);
-        let _ = eprintln!(rt; "error: --set {key} {word}: {}{hint}", LineError::BadNumber);
-        tell_line(rt, key);
-        return Err(MISTAKE);
+        return Err(SetupError::BadNumber { key, word, hint });
     };
     if !setup.set(key, value) {
         let hint = key_hint(rt.alloc(), key);
-        let _ = eprintln!(rt; "error: --set {key} {word}: unknown key{hint}");
-        tell_line(rt, key);
-        return Err(MISTAKE);
+        return Err(SetupError::UnknownKey { key, word, hint });
     }
     Ok(())
 }
 
 /// Reserves numbers in the file that is said; or, if none is and the first number isn't said
 /// either, in the one beside the outbox, or beside the inbox if there is no outbox. Without that
-/// file a station that puts nothing goes by the clock.
+/// file a station that puts nothing goes by the clock; so it does if the system refuses a file that
+/// nobody has named.
 ///
 /// # Errors
 ///
-/// The exit status, if that file can't be used, as standard error says.
+/// Why that file can't be used.
 fn reserved<'a>(
     rt: &'a HostRuntime,
-    request: &StationRequest,
+    request: &'a StationRequest,
     setup: &StationSetup,
     found: &Found,
-) -> Result<Reservation<'a>, u8> {
+) -> Result<Reservation<'a>, RestartError<'a>> {
     let (number, width) = (setup.first_number(), setup.number_width());
     let said = if number == 0 { None } else { Some(number) };
+    let Some(path) = numbers_path(rt, request, said)? else {
+        return Ok(Reservation::by_clock(rt, said));
+    };
+    if let Some(inbox) = &request.inbox
+        && lies_in(rt, path.as_str(), inbox.as_str())
+    {
+        return Err(RestartError::StateInInbox(path, inbox.as_str()));
+    }
     // Each put is two words: its source and its destination.
     let puts = request.puts.len() as u64 / 2;
-    let mut wanted = Wanted {
-        said,
+    let wanted = Wanted {
+        said: said.or(number_after(rt, request, found, path.as_str())),
         width,
         puts,
         is_secured: request.keys.is_some(),
     };
+    let is_needed = request.state.is_some()
+        || puts > 0
+        || request.spool.is_some()
+        || wanted.is_secured;
+    match Reservation::take(rt, path.as_str(), wanted) {
+        Ok(reservation) => Ok(reservation),
+        Err(StateError::System(_)) if !is_needed => Ok(Reservation::by_clock(rt, None)),
+        Err(error) => Err(RestartError::State(path, error)),
+    }
+}
+
+/// Returns the path of the file of reserved numbers, if there must be one.
+///
+/// # Errors
+///
+/// `State` if the folder beside which it lies can't be found.
+fn numbers_path<'a>(
+    rt: &HostRuntime,
+    request: &'a StationRequest,
+    said: Option<u64>,
+) -> Result<Option<CowStr<'a, Global>>, RestartError<'a>> {
     if let Some(path) = &request.state {
-        check_state_place(rt, request, path.as_str())?;
-        wanted.said = said.or(number_after(rt, request, found, path.as_str()));
-        return match Reservation::take(rt, path.as_str(), wanted) {
-            Ok(reservation) => Ok(reservation),
-            Err(error) => Err(tell_state(rt, path.as_str(), &error)),
-        };
+        return Ok(Some(CowStr::Borrowed(path.as_str())));
     }
-    if said.is_some() {
-        return Ok(Reservation::by_clock(rt, said));
-    }
-    match numbers_folder(request) {
-        Some(folder) => {
-            let is_needed = puts > 0 || request.spool.is_some() || wanted.is_secured;
-            let path = beside_told(rt, folder)?;
-            check_state_place(rt, request, path.as_str())?;
-            wanted.said = number_after(rt, request, found, path.as_str());
-            reserved_in(rt, path.as_str(), is_needed, wanted)
-        }
-        None => Ok(Reservation::by_clock(rt, None)),
+    match (said, numbers_folder(request)) {
+        (None, Some(folder)) => match beside(rt, folder) {
+            Ok(path) => Ok(Some(CowStr::Owned(path))),
+            Err(error) => {
+                let folder = CowStr::Borrowed(folder);
+                Err(RestartError::State(folder, StateError::System(error)))
+            }
+        },
+        (Some(_), _) | (None, None) => Ok(None),
     }
 }
 
@@ -588,64 +593,6 @@ fn numbers_folder(request: &StationRequest) -> Option<&str> {
     }
 }
 
-/// Reserves numbers in the file at a path that nobody has named.
-///
-/// # Errors
-///
-/// The exit status, if that file can't be used, as standard error says. If it is
-/// the system that refuses it, a station that puts nothing does without.
-fn reserved_in<'a>(
-    rt: &'a HostRuntime,
-    path: &str,
-    is_needed: bool,
-    wanted: Wanted,
-) -> Result<Reservation<'a>, u8> {
-    match Reservation::take(rt, path, wanted) {
-        Ok(reservation) => Ok(reservation),
-        Err(StateError::System(_)) if !is_needed => Ok(Reservation::by_clock(rt, None)),
-        Err(error) => Err(tell_state(rt, path, &error)),
-    }
-}
-
-/// The path of the file beside a folder.
-///
-/// # Errors
-///
-/// The exit status, if the folder can't be found, as standard error says.
-fn beside_told(rt: &HostRuntime, folder: &str) -> Result<String, u8> {
-    match beside(rt, folder) {
-        Ok(path) => Ok(path),
-        Err(error) => Err(tell_state(rt, folder, &StateError::System(error))),
-    }
-}
-
-/// Looks whether the file of reserved numbers lies out of the peer's reach.
-///
-/// # Errors
-///
-/// The exit status, if it lies in the inbox, as standard error says.
-fn check_state_place(rt: &HostRuntime, request: &StationRequest, path: &str) -> Result<(), u8> {
-    if let Some(inbox) = &request.inbox
-        && lies_in(rt, path, inbox.as_str())
-    {
-        let _ = eprintln!(rt;
-            "error: {path}: lies in the inbox {inbox}, where the peer can replace it: choose \
-             another file with --state"
-        );
-        return Err(MISTAKE);
-    }
-    Ok(())
-}
-
-/// Says why the file of reserved numbers can't be used. Answers the exit status.
-fn tell_state(rt: &HostRuntime, path: &str, error: &StateError) -> u8 {
-    let _ = eprintln!(rt;
-        "error: {path}: {error} (used transaction numbers are kept there; choose another file with \
-         --state)"
-    );
-    DEVICE
-}
-
 /// The path of the file beside a folder.
 fn beside(rt: &HostRuntime, folder: &str) -> io::Result<String> {
     let path = fs::canonicalize(rt, folder)?;
@@ -665,14 +612,14 @@ pub fn state_path(rt: &HostRuntime, request: &StationRequest) -> Option<String> 
 ///
 /// # Errors
 ///
-/// The exit status, if something is wrong, as standard error says.
-fn held_inbox(
+/// What is wrong.
+fn held_inbox<'a>(
     rt: &HostRuntime,
-    request: &StationRequest,
+    request: &'a StationRequest,
     found: &Found,
-) -> Result<Option<HeldFolder>, u8> {
+) -> Result<Option<HeldFolder>, Failure<'a>> {
     for put in 0..request.puts.len() / 2 {
-        check_name(rt, request.names, request.puts[2 * put].as_str())?;
+        check_name(request.names, request.puts[2 * put].as_str())?;
     }
     match &request.inbox {
         Some(path) => {
@@ -690,17 +637,16 @@ fn held_inbox(
 ///
 /// # Errors
 ///
-/// The exit status, if something is wrong, as standard error says.
-fn check_outbox(rt: &HostRuntime, request: &StationRequest) -> Result<(), u8> {
+/// What is wrong.
+fn check_outbox<'a>(rt: &HostRuntime, request: &'a StationRequest) -> Result<(), Failure<'a>> {
     let Some(path) = outbox_of(request) else {
         if request.puts.is_empty() {
             return Ok(());
         }
-        let _ = eprintln!(rt; "error: --put needs --outbox FOLDER or --spool FOLDER");
-        return Err(MISTAKE);
+        return Err(Failure::Setup(SetupError::PutWithoutFolder));
     };
     folder(rt, path)?;
-    check_files(rt, path, request)
+    Ok(check_files(rt, path, request)?)
 }
 
 /// Returns the folder that files are sent from: the outbox, or the spool.
@@ -715,12 +661,15 @@ pub fn outbox_of(request: &StationRequest) -> Option<&str> {
 ///
 /// # Errors
 ///
-/// The exit status, if one can't be sent, as standard error says.
-fn check_files(rt: &HostRuntime, path: &str, request: &StationRequest) -> Result<(), u8> {
+/// Why one can't be sent.
+fn check_files<'a>(
+    rt: &HostRuntime,
+    path: &'a str,
+    request: &'a StationRequest,
+) -> Result<(), FileError<'a>> {
     let words = request.puts.as_slice();
     let Ok(mut outbox) = folder_outbox(rt, path, request.names) else {
-        let _ = eprintln!(rt; "error: {path}: {}", cause_text(ErrorKind::OutOfMemory));
-        return Err(DEVICE);
+        return Err(FileError::Folder(path, ErrorKind::OutOfMemory));
     };
     for put in 0..words.len() / 2 {
         check_file(rt, &mut outbox, path, words[2 * put].as_str())?;
@@ -745,19 +694,19 @@ fn pace_of(request: &StationRequest, config: &StationConfig, carrier: Carrier) -
 ///
 /// # Errors
 ///
-/// The exit status, if an address can't be used, as standard error says.
+/// `Datagrams` if an address can't be used.
 fn socket<'a, 'n>(
     rt: &'a HostRuntime,
-    request: &StationRequest,
+    request: &'a StationRequest,
     pace: Pace,
     numbers: &'a SharedNumbers<'n>,
     exchange: &'a Exchange,
-) -> Result<PeerSocket<'a, 'n>, u8> {
+) -> Result<DatagramWire<'a, 'n, UdpTransport>, SocketError<'a>> {
     let (listen, to) = (request.listen.as_str(), request.to.as_str());
-    match PeerSocket::bind(rt, listen, to, pace, numbers, exchange) {
+    match bound(rt, listen, to, pace, numbers, exchange) {
         Ok(socket) => {
             if has_any_port(Some(listen))
-                && let Ok(address) = socket.local_address()
+                && let Ok(address) = socket.transport().local_address()
             {
                 let text = format!(in rt.alloc(); "listening at {address}");
                 note(rt, &exchange.notes, NoteTopic::Listening, text);
@@ -769,10 +718,30 @@ fn socket<'a, 'n>(
                 Unusable::Own(error) => ("listen", listen, error.kind()),
                 Unusable::Peer(error) => ("to", to, error.kind()),
             };
-            let _ = eprintln!(rt; "error: --{option} {address}: {}", address_cause(kind));
-            Err(if is_malformed(kind) { MISTAKE } else { DEVICE })
+            Err(SocketError::Datagrams {
+                option,
+                address,
+                kind,
+            })
         }
     }
+}
+
+/// The wire over a socket at the first address, whose peer is at the second one.
+///
+/// # Errors
+///
+/// `Unusable`, with what stands against one of both addresses.
+fn bound<'a, 'n>(
+    rt: &'a HostRuntime,
+    listen: &str,
+    to: &str,
+    pace: Pace,
+    numbers: &'a SharedNumbers<'n>,
+    exchange: &'a Exchange,
+) -> Result<DatagramWire<'a, 'n, UdpTransport>, Unusable> {
+    let transport = UdpTransport::bind(rt, listen, to, pace.room())?;
+    DatagramWire::new(rt, transport, pace, numbers, exchange).map_err(Unusable::Own)
 }
 
 /// The unit of times that are set.
@@ -803,13 +772,13 @@ fn journal_of<'a>(
         Some(folder) => Some(folder.as_str()),
         None => None,
     };
-    let setup = JournalSetup {
+    let setup = HostSetup {
         path,
         inbox,
         owner: found.owner,
         every: request.limits.journal_every,
     };
-    Some(TransferJournal::new(rt, setup))
+    Some(new_journal(rt, setup))
 }
 
 /// Runs the station, shows what is seen of that, and answers the exit status.

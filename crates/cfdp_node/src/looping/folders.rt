@@ -2,18 +2,17 @@
 ghost use Rattle.std.specs.Prelude.{IfOk};
 ghost use Rattle.cfdp_node.specs.Looping.Asked.{AreAsked, AreFor};
 
+use crate::failure::{Failure, FileError, MISTAKE, SocketError};
 use crate::looping::security::{LoopSecurity, secured};
 use crate::looping::udp::UdpWire;
 use crate::looping::{LoopEnds, LoopOptions, run_loop};
-use crate::transfers::named_files::{
-    check_file, check_name, folder, folder_outbox, tell_of_file, tell_untold,
-};
+use crate::transfers::named_files::{check_file, check_name, folder, folder_outbox, tell_untold};
 use crate::transfers::teller::Teller;
 use crate::transfers::telling::{InboxRules, LoopLookout, TellingInbox, TellingOutbox};
 use cfdp_command_line::{LoopRequest, frame_losses, note_losses};
 use cfdp_files::HeldFolder;
 use cfdp_port::{FrameLosses, Lookout, LossyWire, Wire};
-use cfdp_report::{Exit, Fault, cause_text};
+use cfdp_report::{Exit, Fault, Name};
 use cfdp_store::{FolderError, FolderOutbox, Inbox, NameRule, Outbox};
 use cfdp_watch::{Onlooker, Progress, Ran, Screen, shown_status};
 use station_pair::WorldConfig;
@@ -23,12 +22,6 @@ use std::fs::File;
 use std::io;
 use std::io::{BufWriter, ErrorKind};
 use valid_config::Valid;
-
-/// The exit status of bad arguments.
-const MISTAKE: u8 = 2;
-
-/// The exit status if a folder, a file, a socket or memory failed.
-const DEVICE: u8 = 3;
 
 /// The most turns that may be asked for, by the grammar of `loop`.
 const MOST_TURNS: u64 = 1_000_000;
@@ -47,46 +40,33 @@ const RULES: InboxRules = InboxRules {
 /// folder and the file that must be sent, the other folder, the sockets.
 pub fn loop_status(rt: &HostRuntime, request: &LoopRequest) -> u8 {
     let (told, progress) = (Cell::new(false), Progress::new(rt));
-    match prepared(rt, request) {
-        Ok(prepared) => from_folder(rt, request, &prepared, &told, &progress),
-        Err(status) => status,
+    match from_folder(rt, request, &told, &progress) {
+        Ok(status) => status,
+        Err(failure) => failure.tell(rt),
     }
 }
 
 /// What must be sent and how, and how frames are authenticated, if they are.
 type Prepared = (LoopOptions, Option<LoopSecurity>);
 
-/// Looks at what is set and at the keys.
+/// Sends the file of its folder. Answers the exit status.
 ///
 /// # Errors
 ///
-/// The exit status, if something is wrong, as standard error says.
-fn prepared(rt: &HostRuntime, request: &LoopRequest) -> Result<Prepared, u8> {
-    let options = options(rt, request)?;
-    secured(rt, request, options)
-}
-
-/// Sends the file of its folder.
+/// Why it can't be sent.
 fn from_folder<'a>(
     rt: &'a HostRuntime,
     request: &'a LoopRequest,
-    prepared: &Prepared,
     told: &'a Cell<bool>,
     progress: &'a Progress<'a>,
-) -> u8 {
-    match found(rt, request) {
-        Ok(outbox) => {
-            let from = request.from.as_str();
-            let outbox = TellingOutbox::over(
-                rt,
-                from,
-                outbox,
-                Teller::new(rt, progress, told, None),
-            );
-            sent_status(rt, request, prepared, outbox, told, progress)
-        }
-        Err(status) => status,
-    }
+) -> Result<u8, Failure<'a>> {
+    let prepared = secured(rt, request, options(rt, request)?)?;
+    let outbox = found(rt, request)?;
+    let losses = Cell::new(frame_losses(request.losses));
+    let way = way(rt, request, &losses)?;
+    let teller = Teller::new(rt, progress, told, None);
+    let outbox = TellingOutbox::over(rt, request.from.as_str(), outbox, teller);
+    Ok(sent_status(rt, request, &prepared, (outbox, way), told, progress))
 }
 
 /// The wire of a station, which loses frames by a count that both stations share.
@@ -100,12 +80,12 @@ type Way<'a> = ((SharedWire<'a>, SharedWire<'a>), HeldFolder);
 ///
 /// # Errors
 ///
-/// The exit status, if something is wrong, as standard error says.
-fn way<'a>(
+/// `File` or `Reported` if the folder can't be had; `Socket` if the wires can't.
+fn way<'a, 'r>(
     rt: &HostRuntime,
-    request: &LoopRequest,
+    request: &'r LoopRequest,
     losses: &'a Cell<FrameLosses>,
-) -> Result<Way<'a>, u8> {
+) -> Result<Way<'a>, Failure<'r>> {
     folder(rt, request.to.as_str())?;
     note_losses(rt, request.losses);
     let held = HeldFolder::take(rt, request.to.as_str())?;
@@ -114,13 +94,7 @@ fn way<'a>(
             let wires = (LossyWire::new(one, losses), LossyWire::new(two, losses));
             Ok((wires, held))
         }
-        Err(error) => {
-            let _ = eprintln!(rt;
-                "error: cannot open a socket at 127.0.0.1: {}",
-                cause_text(error.kind())
-            );
-            Err(DEVICE)
-        }
+        Err(error) => Err(Failure::Socket(SocketError::Loop(error.kind()))),
     }
 }
 
@@ -128,30 +102,34 @@ fn way<'a>(
 ///
 /// # Errors
 ///
-/// The exit status, if it can't be sent, as standard error says.
+/// Why it can't be sent.
 fn found<'a>(
     rt: &'a HostRuntime,
-    request: &LoopRequest,
-) -> Result<FolderOutbox<&'a HostRuntime>, u8> {
+    request: &'a LoopRequest,
+) -> Result<FolderOutbox<&'a HostRuntime>, FileError<'a>> {
     let (path, name) = (request.from.as_str(), request.source.as_str());
-    check_name(rt, NameRule::Portable, name)?;
-    check_name(rt, NameRule::Portable, request.destination.as_str())?;
+    check_name(NameRule::Portable, name)?;
+    check_name(NameRule::Portable, request.destination.as_str())?;
     folder(rt, path)?;
     let Ok(mut outbox) = folder_outbox(rt, path, NameRule::Portable) else {
-        tell_of_file(rt, path, name, FolderError::System(ErrorKind::OutOfMemory));
-        return Err(DEVICE);
+        return Err(refused(path, name, ErrorKind::OutOfMemory));
     };
     check_file(rt, &mut outbox, path, name)?;
     check_open(rt, path, name)?;
     Ok(outbox)
 }
 
+/// Returns that the system refuses a file of a folder.
+fn refused<'a>(folder: &'a str, name: &'a str, kind: ErrorKind) -> FileError<'a> {
+    FileError::File(folder, Name(name.as_bytes()), FolderError::System(kind))
+}
+
 /// Looks whether a plain file of a folder can be opened, if it is there.
 ///
 /// # Errors
 ///
-/// The exit status if it can't be, as standard error says.
-fn check_open(rt: &HostRuntime, path: &str, name: &str) -> Result<(), u8> {
+/// `File` if it can't be.
+fn check_open<'a>(rt: &HostRuntime, path: &'a str, name: &'a str) -> Result<(), FileError<'a>> {
     let kind = match format!(in rt.alloc(); "{path}/{name}") {
         Ok(file) => match File::open(rt, file.as_str()) {
             Ok(_) => return Ok(()),
@@ -159,11 +137,10 @@ fn check_open(rt: &HostRuntime, path: &str, name: &str) -> Result<(), u8> {
         },
         Err(_) => ErrorKind::OutOfMemory,
     };
-    if kind == ErrorKind::NotFound {
-        return Ok(());
+    match kind {
+        ErrorKind::NotFound => Ok(()),
+        kind => Err(refused(path, name, kind)),
     }
-    tell_of_file(rt, path, name, FolderError::System(kind));
-    Err(DEVICE)
 }
 
 /// Sends the file, shows what is seen of that, and answers the exit status.
@@ -171,27 +148,22 @@ fn sent_status<'a, O: Outbox>(
     rt: &'a HostRuntime,
     request: &'a LoopRequest,
     prepared: &Prepared,
-    outbox: O,
+    ends: (O, Way<'a>),
     told: &'a Cell<bool>,
     progress: &'a Progress<'a>,
 ) -> u8 {
-    let losses = Cell::new(frame_losses(request.losses));
     let (options, security) = prepared;
-    match way(rt, request, &losses) {
-        Ok((wires, held)) => {
-            let ran = match security {
-                Some(security) => match security.wires(rt.alloc(), wires) {
-                    Ok(wires) => sent(rt, request, options, outbox, wires, told, progress),
-                    Err(AllocError) => Ran::unseen(Exit::Device(Fault::NoMemoryAtStart)),
-                },
-                None => sent(rt, request, options, outbox, wires, told, progress),
-            };
-            held.clear(rt, request.to.as_str());
-            tell_untold(rt, ran.exit, told);
-            shown_status(rt, &request.shown, &ran)
-        }
-        Err(status) => status,
-    }
+    let (outbox, (wires, held)) = ends;
+    let ran = match security {
+        Some(security) => match security.wires(rt.alloc(), wires) {
+            Ok(wires) => sent(rt, request, options, outbox, wires, told, progress),
+            Err(AllocError) => Ran::unseen(Exit::Device(Fault::NoMemoryAtStart)),
+        },
+        None => sent(rt, request, options, outbox, wires, told, progress),
+    };
+    held.clear(rt, request.to.as_str());
+    tell_untold(rt, ran.exit, told);
+    shown_status(rt, &request.shown, &ran)
 }
 
 /// Sends the file into the folder that is asked for.
@@ -284,19 +256,18 @@ fn reported<O: Outbox, I: Inbox, W: Wire, L: Lookout>(
 ///
 /// # Errors
 ///
-/// The exit status, if what is set can't be, as standard error says, or if there is
-/// no memory.
-fn options(rt: &HostRuntime, request: &LoopRequest) -> Result<LoopOptions, u8>
+/// `Reported` if what is set can't be; `Memory` if there is no memory.
+fn options<'a>(rt: &HostRuntime, request: &'a LoopRequest) -> Result<LoopOptions, Failure<'a>>
     ensures { IfOk result (AreAsked request.now) }
 {
     match request.config() {
         Ok(config) => match named(rt.alloc(), request, config) {
             Ok(options) => Ok(options),
-            Err(AllocError) => Err(DEVICE),
+            Err(error) => Err(Failure::Memory(error)),
         },
         Err(error) => {
             error.tell(rt);
-            Err(MISTAKE)
+            Err(Failure::Reported(MISTAKE))
         }
     }
 }

@@ -1,4 +1,5 @@
 //! A loop whose frames are authenticated.
+use crate::failure::{Failure, SetupError};
 use crate::looping::LoopOptions;
 use crate::transfers::secured_links::{SECURITY_HEADER, bare_link, keys_in};
 use cfdp_command_line::LoopRequest;
@@ -21,9 +22,6 @@ const LEAST_ZONE: u16 = 16;
 /// The longest bare frame: a header and an M_PDU with the longest zone.
 const MOST_FRAME: usize = 2048;
 
-/// The exit status of bad arguments.
-const MISTAKE: u8 = 2;
-
 /// The wires of both stations, secured.
 pub type SecuredWires<W> = (SecuredWire<W, NoKeeper>, SecuredWire<W, NoKeeper>);
 
@@ -43,13 +41,13 @@ pub struct LoopSecurity {
 ///
 /// # Errors
 ///
-/// The exit status, if the keys can't be read, or the frames have no room for a security header and
-/// a MAC, which was reported on standard error.
-pub fn secured(
+/// `File` if the keys can't be read; `Setup` if the frames have no room for a security header and a
+/// MAC.
+pub fn secured<'a>(
     rt: &HostRuntime,
-    request: &LoopRequest,
+    request: &'a LoopRequest,
     options: LoopOptions,
-) -> Result<(LoopOptions, Option<LoopSecurity>), u8> {
+) -> Result<(LoopOptions, Option<LoopSecurity>), Failure<'a>> {
     let Some(path) = &request.keys else {
         return Ok((options, None));
     };
@@ -62,8 +60,7 @@ pub fn secured(
     ) else {
         let least = LEAST_ZONE + SECURITY_HEADER + u16::from(MAC_LEN);
         let zone = on_link.one.sends.zone;
-        let _ = eprintln!(rt; "error: zone must be {least} to 2040 with --keys (got {zone})");
-        return Err(MISTAKE);
+        return Err(Failure::Setup(SetupError::ShortZone(least, zone)));
     };
     // Numbers never come back under a key, if the clock isn't set back.
     let next = Reservation::by_clock(rt, None)

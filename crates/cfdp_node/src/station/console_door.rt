@@ -1,29 +1,21 @@
 //! The console's address, and the token that it asks for.
+use crate::failure::{Failure, FileError, LEAST_TOKEN, MOST_TOKEN, SetupError, SocketError};
 use cfdp_command_line::StationRequest;
-use cfdp_control::{DoorError, WebDoor, is_malformed};
+use cfdp_control::WebDoor;
 use cfdp_files::{SecretError, read_secret};
-
-/// The exit status of bad arguments.
-const MISTAKE: u8 = 2;
-
-/// The exit status if a file, a socket or memory failed.
-const DEVICE: u8 = 3;
-
-/// The fewest and the most characters of a token.
-const LEAST_TOKEN: usize = 16;
-
-const MOST_TOKEN: usize = 256;
 
 /// Opens the console, if one is asked for.
 ///
 /// # Errors
 ///
-/// The exit status, if its address or its token can't be had, as standard error says.
-pub fn door<'a>(rt: &'a HostRuntime, request: &StationRequest) -> Result<Option<WebDoor<'a>>, u8> {
+/// Why its address or its token can't be had.
+pub fn door<'a>(
+    rt: &'a HostRuntime,
+    request: &'a StationRequest,
+) -> Result<Option<WebDoor<'a>>, Failure<'a>> {
     let Some(address) = &request.console else {
         if request.console_token.is_some() {
-            let _ = eprintln!(rt; "error: --console-token needs --console ADDR");
-            return Err(MISTAKE);
+            return Err(Failure::Setup(SetupError::TokenWithoutConsole));
         }
         return Ok(None);
     };
@@ -31,12 +23,9 @@ pub fn door<'a>(rt: &'a HostRuntime, request: &StationRequest) -> Result<Option<
         Some(path) => Some(token_in(rt, path.as_str())?),
         None => None,
     };
-    match WebDoor::new(rt, address.as_str(), token, proxy_host(rt, request)?) {
+    match WebDoor::new(rt, address.as_str(), token, proxy_host(request)?) {
         Ok(door) => Ok(Some(door)),
-        Err(error) => {
-            let _ = eprintln!(rt; "error: --console {address}: {error}");
-            Err(status_of(&error))
-        }
+        Err(error) => Err(Failure::Socket(SocketError::Console(address.as_str(), error))),
     }
 }
 
@@ -44,25 +33,12 @@ pub fn door<'a>(rt: &'a HostRuntime, request: &StationRequest) -> Result<Option<
 ///
 /// # Errors
 ///
-/// The exit status, if no token is asked of those who come through the proxy, which was reported on
-/// standard error.
-fn proxy_host<'a>(rt: &HostRuntime, request: &'a StationRequest) -> Result<&'a str, u8> {
+/// `HostWithoutToken` if no token is asked of those who come through the proxy.
+fn proxy_host(request: &StationRequest) -> Result<&str, SetupError<'_>> {
     match (&request.console_host, &request.console_token) {
         (None, _) => Ok(""),
         (Some(host), Some(_)) => Ok(host.as_str()),
-        (Some(_), None) => {
-            let _ = eprintln!(rt; "error: --console-host needs --console-token FILE");
-            Err(MISTAKE)
-        }
-    }
-}
-
-/// The exit status if a console can't be had for this reason.
-fn status_of(error: &DoorError) -> u8 {
-    match error {
-        DoorError::WantsToken => MISTAKE,
-        DoorError::System(error) if is_malformed(error.kind()) => MISTAKE,
-        DoorError::System(_) => DEVICE,
+        (Some(_), None) => Err(SetupError::HostWithoutToken),
     }
 }
 
@@ -71,47 +47,26 @@ fn status_of(error: &DoorError) -> u8 {
 ///
 /// # Errors
 ///
-/// The exit status, if it can't be read or is none, as standard error says.
-fn token_in(rt: &HostRuntime, path: &str) -> Result<String, u8> {
+/// `File` if it can't be read or is none; `Memory` if there is none for it.
+fn token_in<'a>(rt: &HostRuntime, path: &'a str) -> Result<String, Failure<'a>> {
     let text = match read_secret(rt, path) {
         Ok(text) => text,
-        Err(error) => return Err(tell_secret(rt, path, &error)),
+        Err(error) => return Err(Failure::File(no_token(path, &error))),
     };
     let token = text.as_str().trim();
     if !is_token(token.as_bytes()) {
-        tell_length(rt, path);
-        return Err(MISTAKE);
+        return Err(Failure::File(FileError::NoToken(path)));
     }
-    String::from_str(rt.alloc(), token).map_err(|_| DEVICE)
+    Ok(String::from_str(rt.alloc(), token)?)
 }
 
-/// Says why the file of a token can't be read. Returns the exit status.
-fn tell_secret(rt: &HostRuntime, path: &str, error: &SecretError) -> u8 {
+/// Returns why the file of a token can't be read.
+fn no_token<'a>(path: &'a str, error: &SecretError) -> FileError<'a> {
     match error {
-        SecretError::System(_) => {
-            let _ = eprintln!(rt; "error: --console-token {path}: {error}");
-            DEVICE
-        }
-        SecretError::Open(mode) => {
-            let _ = eprintln!(rt;
-                "error: --console-token {path}: other users have access to it (mode {mode:04o}): \
-                 run chmod 600 {path}"
-            );
-            MISTAKE
-        }
-        SecretError::TooLong | SecretError::Keys(_) => {
-            tell_length(rt, path);
-            MISTAKE
-        }
+        SecretError::System(error) => FileError::TokenFile(path, error.kind()),
+        SecretError::Open(mode) => FileError::OpenToken(path, *mode),
+        SecretError::TooLong | SecretError::Keys(_) => FileError::NoToken(path),
     }
-}
-
-/// Says how long a token must be.
-fn tell_length(rt: &HostRuntime, path: &str) {
-    let _ = eprintln!(rt;
-        "error: --console-token {path}: a token must be {LEAST_TOKEN} to {MOST_TOKEN} visible \
-         ASCII characters"
-    );
 }
 
 /// Whether these octets can be a token: hard to guess, and sent in one word of a header.

@@ -1,5 +1,6 @@
 //! What a station reports to its operator while it runs.
 use crate::station::operation::unit_word;
+use crate::station::unknown_cancels::UnknownCancels;
 use crate::transfers::teller::Teller;
 use crate::transfers::telling::LoopLookout;
 use cfdp_command_line::{CarrierKind, TimeUnit};
@@ -14,13 +15,13 @@ use cfdp_port::{Lookout, Passed};
 use cfdp_report::cause_text;
 use cfdp_station::{EntityDrop, FrameError, LinkDrop, Station, StationConfig};
 use cfdp_store::{Inbox, Outbox};
+use host_journal::{TransferJournal, sees};
 use station_pair::Side;
 use std::alloc::AllocError;
 use std::cell::Cell;
 use std::fmt;
 use std::io::ErrorKind;
 use std::time::Instant;
-use transfer_journal::TransferJournal;
 
 /// For so many seconds a thing that was reported isn't reported again.
 const PAUSE: u64 = 60;
@@ -174,6 +175,11 @@ pub struct Notices<'a> {
     waits_at: Option<u64>,
     order: OrderLook,
     order_at: Option<u64>,
+    // Transactions that were cancelled before anything of them came, which one last, and how many
+    // were reported.
+    cancels: UnknownCancels,
+    cancelled: Option<TransactionId>,
+    cancel_tally: Tally,
     // How many indications were looked at, and whose EOF was sent, as far as they may be open.
     told: u64,
     ended: Vec<TransactionId>,
@@ -228,6 +234,9 @@ impl<'a> Notices<'a> {
                 at: 0,
             },
             order_at: None,
+            cancels: UnknownCancels::new(rt.alloc()),
+            cancelled: None,
+            cancel_tally: Tally::NONE,
             told: 0,
             ended: Vec::new(rt.alloc()),
             monitor: FrameMonitor::new(config.receives, &exchange.gaps),
@@ -276,6 +285,7 @@ impl<'a> Notices<'a> {
         self.tell_datagram_drops(now);
         self.tell_refusals(now);
         self.tell_order(now);
+        self.tell_cancels(now, station);
         self.tell_waiting(now, station);
     }
 
@@ -473,7 +483,7 @@ impl<'a> Notices<'a> {
         if let Some(journal) = self.journal
             && let Some(kind) = journal.take_fault()
         {
-            let (path, cause) = (journal.path(), cause_text(kind));
+            let (path, cause) = (journal.place().full_path(), cause_text(kind));
             let text = if journal.is_stuck() {
                 format!(in self.rt.alloc();
                     "{path}: {cause}, and it can't be removed: the station stops"
@@ -506,6 +516,26 @@ impl<'a> Notices<'a> {
                 late: gaps.late(),
                 at: now,
             };
+        }
+    }
+
+    /// Counts and reports the transactions that were cancelled before anything of them arrived.
+    fn tell_cancels<O: Outbox, I: Inbox>(&mut self, now: u64, station: &Station<O, I>) {
+        let total = &self.exchange.unknown_cancels;
+        if let Some((count, id)) = self.cancels.looks(station) {
+            total.set(total.get().saturating_add(count));
+            self.cancelled = Some(id);
+        }
+        let _ = self.cancel_tally.grows(total.get());
+        if let Some(id) = self.cancelled
+            && let Some(count) = self.cancel_tally.news(now)
+        {
+            let TransactionId { source, number } = id;
+            let text = format!(in self.rt.alloc();
+                "{count} cancelled by the peer before anything of them arrived, {source}:{number} \
+                 last: what arrives of them later is refused"
+            );
+            self.teller.notes(NoteTopic::UnknownCancel, text);
         }
     }
 
@@ -635,7 +665,7 @@ impl Lookout for Notices<'_> {
         station: &Station<O, I>,
     ) {
         if let Some(journal) = self.journal {
-            journal.sees(passed, station);
+            sees(journal, passed, station);
         }
         self.note_ended(station);
         match passed {

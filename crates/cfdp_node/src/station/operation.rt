@@ -13,7 +13,9 @@ use crate::transfers::telling::{
 use cfdp_command_line::{CarrierKind, StationRequest, TimeUnit, VERSION, frame_losses};
 use cfdp_console::LogLines;
 use cfdp_control::LineSources;
-use cfdp_datagrams::{Carrier, CarrierWire, PeerSocket, SharedNumbers, StationKeeper, frame_len};
+use cfdp_datagrams::{
+    Carrier, CarrierWire, DatagramWire, SharedNumbers, StationKeeper, UdpTransport, frame_len,
+};
 use cfdp_exchange::Exchange;
 use cfdp_journal::{
     Board, BoardSetup, Form, Journal, JournalSetup, KeptLog, Log, LossyLog, PduWatch, SeenPdus,
@@ -29,10 +31,11 @@ use cfdp_station::{Limits, StationConfig};
 use cfdp_store::{ResumingInbox, SeekingOutbox};
 use cfdp_watch::{Onlooker, Progress, Ran, Screen, Shown};
 use frame_security::{Opener, Sealer};
+use host_journal::TransferJournal;
 use secured_wire::SecuredWire;
 use station_pair::WorldConfig;
 use std::alloc::{AllocError, Global};
-use transfer_journal::{Survey, TransferJournal};
+use transfer_journal::Survey;
 use valid_config::Valid;
 
 /// The longest frame over which a wire can be secured.
@@ -44,7 +47,7 @@ pub type StationSpool<'a> = FolderSpool<'a, SpoolNotes<'a>>;
 /// What a station needs to run.
 #[derive(Drop)]
 pub struct StationParts<'a, 'n> {
-    pub socket: PeerSocket<'a, 'n>,
+    pub socket: DatagramWire<'a, 'n, UdpTransport>,
     /// The count of its first frame in either lane.
     pub frame_count: u32,
     /// Where commands come from.
@@ -357,7 +360,11 @@ fn operated<'a, O: SeekingOutbox, I: ResumingInbox, W: PeerWire, S: Spool, L: Lo
         Form::Text
     };
     let own_policy = options.config.get().entity.policy;
-    let board = has_console.then(|| Board::new(board_setup(context, own_policy.limits)));
+    let board = if has_console {
+        Some(Board::new(board_setup(context, own_policy.limits)))
+    } else {
+        None
+    };
     let post = OperatorPost {
         sources,
         journal,
@@ -379,7 +386,20 @@ fn operated<'a, O: SeekingOutbox, I: ResumingInbox, W: PeerWire, S: Spool, L: Lo
     let console = OperatorConsole::new(rt, post, exchange, progress);
     let own = request.numbers.id;
     let most_gaps = own_policy.most_gaps.unwrap_or(0);
-    let mut clerk = Clerk::new(rt.alloc(), own, limits(request, most_gaps), spool, console);
+    let clerk = Clerk::new(rt.alloc(), own, limits(request, most_gaps), spool, console);
+    run_by_clerk(context, options, ends, clerk, lookout)
+}
+
+/// Runs the station as its clerk wishes, and writes the rest of its log.
+fn run_by_clerk<'a, O: SeekingOutbox, I: ResumingInbox, W: PeerWire, S: Spool, L: Lookout>(
+    context: Context<'a>,
+    options: ServiceOptions,
+    ends: ServiceEnds<O, I, W>,
+    mut clerk: Clerk<S, OperatorConsole<'a>>,
+    lookout: &mut L,
+) -> Exit {
+    let (rt, request, teller) = (context.rt, context.request, context.teller);
+    let transfers = context.transfers;
     let survey = transfers.and_then(|it| it.found.take());
     if add_puts(
         rt.alloc(),
@@ -392,8 +412,8 @@ fn operated<'a, O: SeekingOutbox, I: ResumingInbox, W: PeerWire, S: Spool, L: Lo
         return Exit::Device(Fault::NoMemoryAtStart);
     }
     let ran = match transfers {
-        Some(Transfers { journal, .. }) => {
-            let journal = (journal, survey);
+        Some(it) => {
+            let journal = (it.journal, survey);
             run_resumed(rt, teller, options, ends, journal, &mut clerk, lookout)
         }
         None => {
@@ -405,6 +425,11 @@ fn operated<'a, O: SeekingOutbox, I: ResumingInbox, W: PeerWire, S: Spool, L: Lo
         Ok(ended) => clerk.console().exit(ended.is_short, ended.has_failed),
         Err(AllocError) => Exit::Device(Fault::NoMemoryAtStart),
     };
+    finished(clerk, exit)
+}
+
+/// Writes the rest of the log, and returns how the station ended.
+fn finished<S: Spool>(clerk: Clerk<S, OperatorConsole<'_>>, exit: Exit) -> Exit {
     let mut log = clerk.into_console().into_writer().into_inner();
     if log.finish() {
         exit

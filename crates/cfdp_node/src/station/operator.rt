@@ -17,10 +17,10 @@ use cfdp_service::{Command, Console, Outcome, PutNames, Reply};
 use cfdp_station::{Phase, Request, Station};
 use cfdp_store::{Inbox, NameRule, Outbox};
 use cfdp_watch::Progress;
+use host_journal::TransferJournal;
 use std::alloc::AllocError;
 use std::fmt;
 use std::io::Write;
-use transfer_journal::TransferJournal;
 
 /// The most lines that are answered before one turn.
 const MOST_LINES: u32 = 64;

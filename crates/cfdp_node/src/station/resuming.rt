@@ -1,36 +1,32 @@
 //! Transfers that go on after a restart, by the journal of the station.
+use crate::failure::{Failure, JournalFault, RestartError, SetupError};
 use crate::station::setup::StationSetup;
 use crate::station::{outbox_of, side_of, state_path};
 use crate::transfers::teller::{Teller, note};
 use cfdp_command_line::{StationNumbers, StationRequest};
 use cfdp_directives::{Addressing, Indication};
 use cfdp_exchange::{Exchange, NoteTopic};
-use cfdp_files::{HeldFolder, LockError, is_same_folder, lies_in};
+use cfdp_files::{HeldFolder, is_same_folder, lies_in};
 use cfdp_header::TransactionId;
 use cfdp_port::{Lookout, PeerWire, Port};
-use cfdp_report::{Name, cause_text};
+use cfdp_report::Name;
 use cfdp_service::{
     Clerk, Console, Ended, PutNames, ServiceEnds, ServiceOptions, Spool, User, run_restored,
 };
 use cfdp_station::RestoreError;
 use cfdp_store::{ResumingInbox, SeekingOutbox};
+use host_journal::{PublishRules, TransferJournal, publish_again, read_survey};
 use station_pair::WorldConfig;
-use std::alloc::AllocError;
+use std::alloc::{AllocError, Global};
+use std::borrow::CowStr;
 use std::cell::Cell;
 use std::collections::BTreeSet;
 use std::os::unix::fs::MetadataExt;
 use std::{fmt, fs};
 use transfer_journal::{
-    KeptEnd, Owner, PublishRules, Restored, Resumed, Survey, SurveyError, TransferJournal,
-    publish_again, read_survey, restore,
+    JournalError, KeptEnd, Owner, Restored, Resumed, Survey, SurveyError, restore,
 };
 use valid_config::Valid;
-
-/// The exit status of bad arguments.
-const MISTAKE: u8 = 2;
-
-/// The exit status if a folder, a file, a socket or memory failed.
-const DEVICE: u8 = 3;
 
 /// What a journal says, until the station is there on which that is restored.
 #[derive(Drop)]
@@ -67,22 +63,15 @@ impl Found {
     ///
     /// # Errors
     ///
-    /// The exit status if it doesn't, as standard error says.
-    pub fn check_number(
+    /// `UsedNumber` if it doesn't.
+    pub fn check_number<'a>(
         &self,
-        rt: &HostRuntime,
-        request: &StationRequest,
+        request: &'a StationRequest,
         number: u64,
-    ) -> Result<(), u8> {
+    ) -> Result<(), SetupError<'a>> {
         let own = request.numbers.id;
         match self.greatest_number(own) {
-            Some(used) if used >= number => {
-                let _ = eprintln!(rt;
-                    "error: transaction number {number} was used: the journal has {own}:{used} \
-                     (leave --first-number out, or name the state file of that journal)"
-                );
-                Err(MISTAKE)
-            }
+            Some(used) if used >= number => Err(SetupError::UsedNumber { number, own, used }),
             Some(_) | None => Ok(()),
         }
     }
@@ -130,19 +119,18 @@ fn unnamed_journal(
     Some(path)
 }
 
-/// Reads the journal of the station, if it keeps one. A damaged one is set aside, and nothing goes
-/// on.
+/// Reads the journal of the station, if it keeps one.
 ///
 /// # Errors
 ///
-/// The exit status if it can't be used, as standard error says.
-pub fn found_journal(
+/// `Journal` if it can't be used.
+pub fn found_journal<'a>(
     rt: &HostRuntime,
-    request: &StationRequest,
+    request: &'a StationRequest,
     setup: &StationSetup,
     config: Valid<WorldConfig>,
     exchange: &Exchange,
-) -> Result<Found, u8> {
+) -> Result<Found, RestartError<'a>> {
     let mut owner = Owner {
         entity: request.numbers.id,
         peer: request.numbers.peer,
@@ -150,20 +138,12 @@ pub fn found_journal(
     };
     let unnamed = unnamed_journal(rt, request, setup);
     let survey = match journal_path(request, &unnamed) {
-        Some(path) => {
-            check_place(rt, request, path)?;
-            let addressing = addressing_of(request, config);
-            match read_survey(rt, path, owner, addressing) {
-                Ok(survey) => with_changes(rt, request, path, survey),
-                Err(SurveyError::Damaged) => {
-                    tell_damaged(rt, path, exchange);
-                    None
-                }
-                // Who has that has the inbox or the state file too, which refuse this station.
-                Err(SurveyError::File(LockError::InUse)) if request.journal.is_none() => None,
-                Err(error) => return Err(tell_unusable(rt, path, &error)),
+        Some(path) => match survey_at(rt, request, path, (owner, config), exchange) {
+            Ok(survey) => survey,
+            Err(fault) => {
+                return Err(RestartError::Journal(own_path(request, unnamed), fault));
             }
-        }
+        },
         None => None,
     };
     if let Some(found) = survey.as_ref().and_then(|survey| survey.owner()) {
@@ -174,6 +154,46 @@ pub fn found_journal(
         owner,
         unnamed,
     })
+}
+
+/// Returns the path of a journal that is named in the request or isn't.
+fn own_path(request: &StationRequest, unnamed: Option<String>) -> CowStr<'_, Global> {
+    match (&request.journal, unnamed) {
+        (Some(path), _) => CowStr::Borrowed(path.as_str()),
+        (None, Some(path)) => CowStr::Owned(path),
+        (None, None) => CowStr::Borrowed(""),
+    }
+}
+
+/// Returns what the journal at a path says, which must be of this owner; `None` if there is none.
+/// A damaged one is set aside, and nothing goes on.
+///
+/// # Errors
+///
+/// Why it can't be used.
+fn survey_at<'a>(
+    rt: &HostRuntime,
+    request: &'a StationRequest,
+    path: &str,
+    station: (Owner, Valid<WorldConfig>),
+    exchange: &Exchange,
+) -> Result<Option<Survey>, JournalFault<'a>> {
+    let (owner, config) = station;
+    check_place(rt, request, path)?;
+    match read_survey(rt, path, owner, addressing_of(request, config)) {
+        Ok(survey) => Ok(with_changes(rt, request, path, survey)),
+        Err(SurveyError::Damaged) => {
+            tell_damaged(rt, path, exchange);
+            Ok(None)
+        }
+        Err(SurveyError::OfOthers(entity, peer)) => Err(JournalFault::OfOthers(entity, peer)),
+        // Who has that has the inbox or the state file too, which refuse this station.
+        Err(SurveyError::File(JournalError::InUse)) if request.journal.is_none() => Ok(None),
+        Err(SurveyError::File(JournalError::InUse)) => Err(JournalFault::InUse),
+        Err(SurveyError::File(JournalError::System(error))) => {
+            Err(JournalFault::System(error.kind()))
+        }
+    }
 }
 
 /// Notes in what a journal says which files to send changed after it was written last: the station
@@ -232,30 +252,27 @@ fn addressing_of(request: &StationRequest, config: Valid<WorldConfig>) -> Addres
 }
 
 /// Looks whether the journal lies out of the peer's reach, isn't sent, and isn't the state file.
-fn check_place(rt: &HostRuntime, request: &StationRequest, path: &str) -> Result<(), u8> {
+///
+/// # Errors
+///
+/// `IsState`, `InSpool` or `InInbox` if not.
+fn check_place<'a>(
+    rt: &HostRuntime,
+    request: &'a StationRequest,
+    path: &str,
+) -> Result<(), JournalFault<'a>> {
     if is_state_file(rt, request, path) {
-        let _ = eprintln!(rt;
-            "error: {path}: the state file of this station: choose another file with --journal"
-        );
-        return Err(MISTAKE);
+        return Err(JournalFault::IsState);
     }
     if let Some(spool) = &request.spool
         && lies_in(rt, path, spool.as_str())
     {
-        let _ = eprintln!(rt;
-            "error: {path}: lies in the spool {spool}, whose files are sent: choose another file \
-             with --journal"
-        );
-        return Err(MISTAKE);
+        return Err(JournalFault::InSpool(spool.as_str()));
     }
     if let Some(inbox) = &request.inbox
         && lies_in(rt, path, inbox.as_str())
     {
-        let _ = eprintln!(rt;
-            "error: {path}: lies in the inbox {inbox}, where the peer can replace it: choose \
-             another file with --journal"
-        );
-        return Err(MISTAKE);
+        return Err(JournalFault::InInbox(inbox.as_str()));
     }
     Ok(())
 }
@@ -278,42 +295,20 @@ fn tell_damaged(rt: &HostRuntime, path: &str, exchange: &Exchange) {
     note(rt, &exchange.notes, NoteTopic::Journal, text);
 }
 
-/// Says why a journal can't be used. Answers the exit status.
-fn tell_unusable(rt: &HostRuntime, path: &str, error: &SurveyError) -> u8 {
-    match error {
-        SurveyError::OfOthers(entity, peer) => {
-            let _ = eprintln!(rt;
-                "error: {path}: the journal of entity {entity} with peer {peer}: choose another \
-                 file with --journal"
-            );
-            MISTAKE
-        }
-        SurveyError::File(LockError::InUse) => {
-            let _ = eprintln!(rt; "error: {path}: in use by another station");
-            DEVICE
-        }
-        SurveyError::File(LockError::System(error)) => {
-            let _ = eprintln!(rt; "error: {path}: {}", cause_text(error.kind()));
-            DEVICE
-        }
-        SurveyError::Damaged => DEVICE,
-    }
-}
-
 /// Takes the folder of the inbox, without what earlier runs left there, except for the parts of
 /// files that go on. Files that were about to be published are published.
 ///
 /// # Errors
 ///
-/// The exit status if it can't be had, as standard error says.
-pub fn held_folder(
+/// `Reported` if it can't be had.
+pub fn held_folder<'a>(
     rt: &HostRuntime,
-    request: &StationRequest,
+    request: &'a StationRequest,
     path: &str,
     found: &Found,
-) -> Result<HeldFolder, u8> {
+) -> Result<HeldFolder, Failure<'a>> {
     let Some(mut survey) = found.take() else {
-        return HeldFolder::take(rt, path);
+        return Ok(HeldFolder::take(rt, path)?);
     };
     let held = HeldFolder::take_with(rt, path, &kept_parts(rt, &survey))?;
     let rules = PublishRules {

@@ -14,6 +14,7 @@ use space_packet::PacketType;
 use station_pair::WorldConfig;
 use std::alloc::{AllocError, Global};
 use std::fmt;
+use thiserror::Error;
 use valid_config::{Config, Valid};
 
 /// The frames of one direction, as numbers that may fit no frame.
@@ -100,24 +101,29 @@ struct PacketNumbers {
 }
 
 /// What is wrong with the ids of a station and its peer, and with their link.
-#[derive(Clone, Copy)]
+#[derive(Clone, Copy, Debug, Error)]
 pub enum Misfit {
     /// Both ids are this one.
+    #[error("--id and --peer must differ (both are {0})")]
     OneId(u64),
     /// The id of this option doesn't fit the octets that `id_width` sets.
+    #[error("--{0} does not fit into {1} octets: set id_width, 1 to 8")]
     WideId(&'static str, u64),
-    /// The number of the first transaction doesn't fit the octets that `number_width` sets.
-    WideNumber(u64),
     /// The value of this key is the first number, which is greater than the second.
+    #[error("{0} must be 0 to {2} (got {1})")]
     TooGreat(&'static str, u64, u64),
     /// The octets of a MAC are so many.
+    #[error("mac must be {SHORT_MAC} or {LONG_MAC} (got {0})")]
     Mac(u64),
     /// The zone has the second number of octets, and must have at least the first: the security
     /// header and a MAC of the third number are taken of it.
+    #[error("zone must be {0} to 2040 with --keys and mac {2} (got {1})")]
     ShortZone(u64, u64, u64),
     /// Both lanes of a direction have this channel, by these keys.
+    #[error("{0} and {1} must differ (both are {2})")]
     OneChannel(&'static str, &'static str, u64),
     /// Something else is.
+    #[error("these settings do not fit together")]
     Other,
 }
 
@@ -127,42 +133,11 @@ impl Misfit {
         match self {
             Misfit::OneId(_) => Some("id"),
             Misfit::WideId(option, _) => Some(*option),
-            Misfit::WideNumber(_) => Some("first-number"),
             Misfit::TooGreat(key, _, _) => Some(*key),
             Misfit::Mac(_) => Some("mac"),
             Misfit::ShortZone(..) => Some("zone"),
             Misfit::OneChannel(key, _, _) => Some(*key),
             Misfit::Other => None,
-        }
-    }
-}
-
-impl fmt::Display for Misfit {
-    fn fmt<W: fmt::Write>(&self, f: &mut fmt::Formatter<W>) -> fmt::Result {
-        match self {
-            Misfit::OneId(id) => write!(f, "--id and --peer must differ (both are {id})"),
-            Misfit::WideId(option, width) => write!(
-                f,
-                "--{option} does not fit into {width} octets: set id_width, 1 to 8"
-            ),
-            Misfit::WideNumber(width) => write!(
-                f,
-                "--first-number does not fit into {width} octets: set number_width, 1 to 8"
-            ),
-            Misfit::TooGreat(key, value, most) => {
-                write!(f, "{key} must be 0 to {most} (got {value})")
-            }
-            Misfit::Mac(value) => {
-                write!(f, "mac must be {SHORT_MAC} or {LONG_MAC} (got {value})")
-            }
-            Misfit::ShortZone(least, value, mac) => write!(
-                f,
-                "zone must be {least} to 2040 with --keys and mac {mac} (got {value})"
-            ),
-            Misfit::OneChannel(one, other, value) => {
-                write!(f, "{one} and {other} must differ (both are {value})")
-            }
-            Misfit::Other => f.write_str("these settings do not fit together"),
         }
     }
 }
@@ -458,18 +433,9 @@ impl StationSetup {
         }
     }
 
-    /// Returns what is wrong with the number of the first transaction, if something is.
-    pub fn number_misfit(&self) -> Option<Misfit> {
-        let Settings {
-            first_number,
-            number_width,
-            ..
-        } = self.settings;
-        if fits(first_number, number_width) {
-            None
-        } else {
-            Some(Misfit::WideNumber(number_width))
-        }
+    /// Returns `true` if the number of the first transaction fits its octets.
+    pub fn fits_first_number(&self) -> bool {
+        fits(self.settings.first_number, self.settings.number_width)
     }
 
     /// The first field of the frames that come whose value is out of its range.

@@ -1,53 +1,38 @@
 //! The folders and files that a command line names, looked at before anything is sent.
-use crate::transfers::fault::fault_text;
-use cfdp_report::{Exit, Input, Name, cause_text};
-use cfdp_spool::rule_text;
+use crate::failure::FileError;
+use cfdp_report::{Exit, Input, Name};
 use cfdp_store::{FolderError, FolderOutbox, NameRule, SeekingOutbox};
 use past::Past;
 use std::alloc::AllocError;
 use std::cell::Cell;
 use std::fs;
+use std::io::ErrorKind;
 use std::snapshot::Snapshot;
-
-/// The exit status of bad arguments.
-const MISTAKE: u8 = 2;
-
-/// The exit status if a folder, a file, a socket or memory failed.
-const DEVICE: u8 = 3;
 
 /// Looks whether a file in a folder may have this name by a rule.
 ///
 /// # Errors
 ///
-/// The exit status, if it may not, as standard error says.
-pub fn check_name(rt: &HostRuntime, rule: NameRule, name: &str) -> Result<(), u8> {
+/// `Name` if it may not.
+pub fn check_name(rule: NameRule, name: &str) -> Result<(), FileError<'_>> {
     if rule.allows(name.as_bytes()) {
-        return Ok(());
+        Ok(())
+    } else {
+        Err(FileError::Name(rule, Name(name.as_bytes())))
     }
-    let _ = eprintln!(rt;
-        "error: a file name must be {}, no leading dot (got {})",
-        rule_text(rule),
-        Name(name.as_bytes())
-    );
-    Err(MISTAKE)
 }
 
 /// Looks whether this is a folder.
 ///
 /// # Errors
 ///
-/// The exit status, if it is none, as standard error says.
-pub fn folder(rt: &HostRuntime, path: &str) -> Result<(), u8> {
+/// `NotFolder` if it is none; `Folder` if the system refuses it.
+pub fn folder<'a>(rt: &HostRuntime, path: &'a str) -> Result<(), FileError<'a>> {
     match fs::metadata(rt, path) {
-        Ok(found) if found.is_dir() => return Ok(()),
-        Ok(_) => {
-            let _ = eprintln!(rt; "error: {path}: not a folder");
-        }
-        Err(error) => {
-            let _ = eprintln!(rt; "error: {path}: {}", cause_text(error.kind()));
-        }
+        Ok(found) if found.is_dir() => Ok(()),
+        Ok(_) => Err(FileError::NotFolder(path)),
+        Err(error) => Err(FileError::Folder(path, error.kind())),
     }
-    Err(DEVICE)
 }
 
 /// Returns an outbox over this folder, which must be there, of files whose names a rule allows.
@@ -70,35 +55,26 @@ pub fn folder_outbox<'a>(
 ///
 /// # Errors
 ///
-/// The exit status, if it can't be sent, as standard error says.
-pub fn check_file(
+/// `File` if it can't be sent.
+pub fn check_file<'a>(
     rt: &HostRuntime,
     outbox: &mut FolderOutbox<&HostRuntime>,
-    path: &str,
-    name: &str,
-) -> Result<(), u8> {
-    match outbox.look_for(name.as_bytes()) {
+    folder: &'a str,
+    name: &'a str,
+) -> Result<(), FileError<'a>> {
+    let name = Name(name.as_bytes());
+    match outbox.look_for(name.0) {
         Ok(true) => Ok(()),
         Ok(false) => {
-            let _ = eprintln!(rt; "note: {path}/{}: no such file", Name(name.as_bytes()));
+            let _ = eprintln!(rt; "note: {folder}/{name}: no such file");
             Ok(())
         }
         Err(_) => {
-            if let Some(fault) = outbox.fault() {
-                tell_of_file(rt, path, name, fault);
-            }
-            Err(DEVICE)
+            let unknown = FolderError::System(ErrorKind::Other);
+            let fault = outbox.fault().unwrap_or(unknown);
+            Err(FileError::File(folder, name, fault))
         }
     }
-}
-
-/// Says on standard error what is wrong with a file of a folder.
-pub fn tell_of_file(rt: &HostRuntime, path: &str, name: &str, fault: FolderError) {
-    let _ = eprintln!(rt;
-        "error: {path}/{}: {}",
-        Name(name.as_bytes()),
-        fault_text(fault)
-    );
 }
 
 /// Says on standard error what failed, unless that was said.

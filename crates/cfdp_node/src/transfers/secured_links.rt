@@ -2,19 +2,14 @@
 ghost use Rattle.std.specs.Prelude.{◌≡◌, ◌+◌, IfSome};
 ghost use Rattle.frame_fields.specs.Fields.{no_fields};
 
-use cfdp_files::{SecretError, read_keys};
+use crate::failure::FileError;
+use cfdp_files::read_keys;
 use cfdp_station::LinkConfig;
 use frame_fields::FrameFields;
 use frame_security::LinkKeys;
 
 /// The octets of a frame that its security header has.
 pub const SECURITY_HEADER: u16 = 10;
-
-/// The exit status of bad arguments.
-const MISTAKE: u8 = 2;
-
-/// The exit status if a file failed.
-const DEVICE: u8 = 3;
 
 /// Returns the frames that a station makes for a direction of a link whose frames are these: with
 /// their fields, security header and MAC they are as long. `None` if there is no room for these.
@@ -36,16 +31,10 @@ pub fn bare_link(link: LinkConfig, mac_len: u16) -> Option<LinkConfig>
 ///
 /// # Errors
 ///
-/// The exit status, if they can't be read, which was reported on standard error.
-pub fn keys_in(rt: &HostRuntime, path: &str) -> Result<LinkKeys, u8> {
+/// `Keys` if they can't be read.
+pub fn keys_in<'a>(rt: &HostRuntime, path: &'a str) -> Result<LinkKeys, FileError<'a>> {
     match read_keys(rt, path) {
         Ok(keys) => Ok(keys),
-        Err(error) => {
-            let _ = eprintln!(rt; "error: {path}: {error}");
-            match error {
-                SecretError::System(_) => Err(DEVICE),
-                SecretError::Open(_) | SecretError::TooLong | SecretError::Keys(_) => Err(MISTAKE),
-            }
-        }
+        Err(error) => Err(FileError::Keys(path, error)),
     }
 }

@@ -12,10 +12,10 @@ use cfdp_store::{
     StoreError,
 };
 use cfdp_watch::{Onlooker, Progress, Reception};
+use host_journal::TransferJournal;
 use station_pair::Side;
 use std::alloc::AllocError;
 use std::collections::BTreeSet;
-use transfer_journal::TransferJournal;
 
 /// One who looks on at the turns, and says how far the transfer is.
 #[derive(Drop)]
