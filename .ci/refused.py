@@ -3,8 +3,9 @@
 A line of .ci/refused-edits is `CRATE/NAME.edit SUM`. It says that `.ci/edits` tried this edit, and
 that the prover refused it over contents with this checksum. The checksum is of the edit's own file;
 of the sources, specs, proofs and line of crates.txt of its crate and of each crate below that; and
-of what the verdicts on all edits rest on, which `.ci/edits` passes (the kit, and how it judges). A
-checksum doesn't depend on lines that are comments, on the folder's path or on the files' times.
+of what the verdicts on all edits rest on, which `.ci/edits` passes (the kit's logic, and how it
+judges). A checksum doesn't depend on lines that are comments, on the folder's path, on the files'
+times, or on which kit of this logic is there.
 """
 import datetime
 import glob

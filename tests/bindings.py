@@ -61,6 +61,7 @@ STRUCTS |= {"cfdp_pdu_drops": ("CfdpPduDrops", "PduDrops")}
 STRUCTS |= {"cfdp_sent_pdus": ("CfdpSentPdus", "SentPdus")}
 STRUCTS |= {"cfdp_counts": ("CfdpCounters", "Counters")}
 STRUCTS |= {"cfdp_security": ("CfdpSecurity", "Security")}
+STRUCTS |= {"cfdp_journal_info": ("CfdpJournal", "JournalInfo")}
 
 
 def plain(text):
@@ -311,7 +312,7 @@ def name_mistakes(archive):
 def uncalled_mistakes():
     """Exports that none of these programs calls."""
     files = (f"{TESTS}/c/calls.c", f"{C}/tests/forgetting.c", f"{C}/tests/folders.c")
-    files = (*files, f"{C}/tests/securing.c")
+    files = (*files, f"{C}/tests/securing.c", f"{C}/tests/resuming.c")
     text = "".join(map(text_of, files))
     for name in in_header(0)[0]:
         if not re.search(rf"\b{name}\(", text):
@@ -462,6 +463,7 @@ class Bindings:
         guide = [f"{C}/tests/guide.c", f"{C}/pool.c"]
         folders = [f"{C}/tests/folders.c", f"{C}/heap.c"]
         securing = [f"{C}/tests/securing.c", f"{C}/heap.c"]
+        resuming = [f"{C}/tests/resuming.c", f"{C}/heap.c"]
         for name, flags, front in checkers(self.room):
             for octets in ("0", "1", "100000"):
                 what = f"transfer.c, {octets} octets{name}"
@@ -478,6 +480,8 @@ class Bindings:
             words = [self.empty_folder()]
             yield f"folders.c{name}", self.c_mistakes(C99, folders, flags, front, words)
             yield f"securing.c{name}", self.c_mistakes(C99, securing, flags, front, [])
+            words = [self.empty_folder(), *(["60"] if front else [])]
+            yield f"resuming.c{name}", self.c_mistakes(C99, resuming, flags, front, words)
             words = [self.empty_folder()]
             yield f"guide.c{name}", self.c_mistakes(C99, guide, flags, front, words)
         yield "the example folders.c", self.folders_mistakes()
@@ -490,6 +494,8 @@ class Bindings:
             words = [self.empty_folder()]
             yield "folders.c as C++", self.c_mistakes(CPP, folders, [], [], words)
             yield "securing.c as C++", self.c_mistakes(CPP, securing, [], [], [])
+            words = [self.empty_folder(), "60"]
+            yield "resuming.c as C++", self.c_mistakes(CPP, resuming, [], [], words)
             yield "forgetting.c as C++", self.c_mistakes(CPP, forgetting, [], [], [])
             yield "in_a_pool.c as C++", self.c_mistakes(CPP, pool, [], [], ["200"])
             yield "pools.c as C++", self.c_mistakes(CPP, pools, ["-DCFDP_POOL=16"], [], [])
@@ -537,7 +543,7 @@ class Bindings:
         if not shutil.which("rustc"):
             print("no rustc: the wrapper, its tests and its example aren't compiled")
             return
-        for name in ("fields", "folders", "forgetting", "lists", "securing", "threads"):
+        for name in ("fields", "folders", "forgetting", "lists", "resuming", "securing", "threads"):
             builds, made = self.rust_program(f"tests/{name}.rs", f"{name}_rs", "--test")
             yield f"{name}.rs", run_mistakes(*builds, [made])
             if name == "threads" and shutil.which("valgrind"):

@@ -9,7 +9,7 @@ import time
 from lib.control import asked, controlled
 from lib.frames import FILE_DATA
 from lib.links import Link, Relay, deaf_to_answers
-from lib.pdus import ACK, FINISHED
+from lib.pdus import ACK, FINISHED, WHOLE
 from lib.peers import Peer
 from lib.processes import PATIENT, read, refused_mistakes, unheard
 from lib.spools import INBOX, SPOOL, Spool, drop, names_in, spool_of
@@ -82,6 +82,34 @@ def damaged_mistakes(program):
         peer.close()
     if len(peer.closed & peer.refused) != 2 or list(peer.files.values()) != [b"hello"]:
         yield f"{len(peer.refused)} were refused, and {len(peer.files)} came"
+    yield from peer.faults
+
+
+class Silent(Peer):
+    """A peer that takes a file whole, and leaves its status unreported (CCSDS 727.0-B-5, 5.2.3)."""
+
+    def answer(self, number, body):
+        super().answer(number, bytes([FINISHED, 3]) if body == WHOLE else body)
+
+    def hear_as_receiver(self, number, body):
+        if body[0] == ACK:
+            self.closed.add(number)
+        else:
+            super().hear_as_receiver(number, body)
+
+
+def unreported_mistakes(program):
+    """What is wrong where the peer has a file whole and doesn't report that it keeps it: the file
+    isn't taken for sent, and the log says why."""
+    with spool_of(program) as (link, spool):
+        spool.drops({"a": b"hello"})
+        peer = Silent("pdus", 2, link.ports)
+        sender = link.starts(1, ["--spool", "from", "--json", "--carrier", "pdus"], PATIENT)
+        if not peer.serve(SECONDS, lambda: spool.in_folder(".failed") == {"a": b"hello"}):
+            yield f"it isn't in .failed: {sender.text('stdout')!r}, {sender.text('stderr')!r}"
+        if sender.comes_to('"meaning":"no error, but the peer did not report') is None:
+            yield f"the log doesn't say why: {sender.text('stdout')!r}"
+        peer.close()
     yield from peer.faults
 
 
@@ -419,6 +447,7 @@ def all_mistakes(program):
     retries = in_one_of(TRIALS, lambda: retries_mistakes(program))
     yield "how often a file is sent again", retries
     yield "a file whose size or checksum type was damaged", damaged_mistakes(program)
+    yield "a file of which the peer reports no status", unreported_mistakes(program)
     yield "a file whose sending is cancelled", once_mistakes(program)
     yield "how many puts are open at once", at_once_mistakes(program)
     yield "the most octets that are taken", size_mistakes(program)

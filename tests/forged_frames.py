@@ -2,7 +2,7 @@
 forgery does is the table of docs/SECURITY.md."""
 from lib import forging
 from lib.choices import chance_of
-from lib.forging import finished, frames_of, nak
+from lib.forging import eof, finished, frames_of, metadata, nak
 from lib.frames import FILE_DATA, filled, frame_of
 from lib.links import Link, answered
 from lib.processes import files_at
@@ -123,6 +123,25 @@ def between_mistakes(program):
         yield from it.differs(Outcome(SENT, sizes + TAKEN[1:], {NAME: content}))
 
 
+def cancel_mistakes(program):
+    """What is wrong where EOFs cancel transactions of which nothing came: each is counted once,
+    however often its EOF comes, and a note says so. One that cancels a known file isn't counted."""
+    with scene(program) as it:
+        unknown = [eof(number, b"", 15) for number in range(OTHER, OTHER + 3)]
+        for _ in range(2):
+            it.relay.forge(2, frames_of(1, unknown))
+        yield from it.counts(2, {"unknown_cancels": 3})
+        said = r"note: [1-3] cancelled by the peer before anything of them arrived, 1:\d+ last"
+        if it.stations[2].comes_to(said) is None:
+            yield f"no note says so: {it.stations[2].text('stderr')!r}"
+        known = [metadata(it.number, len(FILE), b"a"), eof(it.number, b"", 15)]
+        it.relay.forge(2, frames_of(1, known))
+        if it.stations[2].comes_to(f"finished 1:{it.number} 15") is None:
+            yield f"the file isn't given up: {it.stations[2].text('stdout')!r}"
+        it.relay.forge(2, frames_of(1, [eof(OTHER + 3, b"", 15)]))
+        yield from it.counts(2, {"unknown_cancels": 4})
+
+
 def replay_mistakes(program):
     """What is wrong where the frames of an older file are sent once more to a receiver that was
     started anew, without a journal: the older file replaces the newer one."""
@@ -153,4 +172,5 @@ def all_mistakes(program):
     yield "frames on the other channel", lane_mistakes(program)
     yield "each bit of a frame turned", bit_mistakes(program)
     yield "a forged frame between two of one PDU", between_mistakes(program)
+    yield "EOFs that cancel what is unknown", cancel_mistakes(program)
     yield "frames of an older file, once more", replay_mistakes(program)

@@ -4,6 +4,7 @@
  * tests/bindings.py builds and runs it. */
 #include "cfdp.h"
 #include "cfdp_hooks.h"
+#include "tests/checks.h"
 
 #include <stdio.h>
 #include <stdlib.h>
@@ -46,37 +47,8 @@ void rattle_dealloc(void *at)
     free(at);
 }
 
-/* ---- what is wrong */
-
-static int mistakes;
-
-static void check(int line, const char *what, unsigned long long told, unsigned long long wanted)
-{
-    if (told != wanted) {
-        printf("line %d: %s is %llu, not %llu\n", line, what, told, wanted);
-        mistakes++;
-    }
-}
-
-#define IS(call, wanted) \
-    check(__LINE__, #call, (unsigned long long)(call), (unsigned long long)(wanted))
-
 static const uint8_t NAME_A[] = {'a'}, NAME_B[] = {'b'}, NAME_C[] = {'c'};
 static const uint8_t OCTETS[] = "hello, hello, hello, hello, hello";
-
-static cfdp_config config_of(int number)
-{
-    cfdp_config config;
-    cfdp_defaults(&config);
-    if (number == 2) {
-        const cfdp_link sends = config.sends;
-        config.sends = config.receives;
-        config.receives = sends;
-        config.entity = 2;
-        config.peer = 1;
-    }
-    return config;
-}
 
 static void defaults(void)
 {
@@ -133,12 +105,16 @@ static void on_a_closed_handle(void)
     cfdp_file_info info = {7, 8};
     cfdp_transaction listed = {{7, 8}, 9};
     cfdp_counts counts;
+    cfdp_journal_info journal = {7, 8, 9, 10};
     uint64_t deadline = 9;
     uint32_t control = 9;
     size_t cursor = 0;
     uint8_t room[16] = {1};
 
     memset(&told, 0x5A, sizeof told);
+    IS(cfdp_journal_state(&s, &journal), CFDP_CLOSED);
+    IS(cfdp_next_unheard(&s, &told), CFDP_CLOSED);
+    IS(journal.state, 9);
     IS(cfdp_add(&s, NAME_A, 1, OCTETS, 5), CFDP_CLOSED);
     IS(cfdp_remove_source(&s, NAME_A, 1), CFDP_CLOSED);
     IS(cfdp_put(&s, NAME_A, 1, NAME_B, 1, &id), CFDP_CLOSED);
@@ -182,14 +158,14 @@ static void on_a_closed_handle(void)
 
 #define REFUSES(change, field)                   \
     do {                                         \
-        cfdp_config c = config_of(1);            \
+        cfdp_config c = defaults_of(1);            \
         change;                                  \
         IS(cfdp_open(&s, &c), CFDP_BAD_##field); \
     } while (0)
 
 #define ACCEPTS(change)                \
     do {                               \
-        cfdp_config c = config_of(1);  \
+        cfdp_config c = defaults_of(1);  \
         change;                        \
         IS(cfdp_open(&s, &c), CFDP_OK); \
         cfdp_close(&s);                \
@@ -250,7 +226,7 @@ static void opened_at_limits(void)
 static void opened_so(void)
 {
     cfdp_station s = CFDP_STATION_INIT;
-    cfdp_config c = config_of(1);
+    cfdp_config c = defaults_of(1);
 
     REFUSES(c.size = 0, SIZE);
     REFUSES(c.size = 88, SIZE);
@@ -319,7 +295,7 @@ static void opened_so(void)
 static void numbered_past_its_width(void)
 {
     cfdp_station s = CFDP_STATION_INIT;
-    cfdp_config c = config_of(1);
+    cfdp_config c = defaults_of(1);
     cfdp_id id;
 
     c.number_width = 1;
@@ -474,7 +450,7 @@ static cfdp_counts counted(cfdp_station *station)
 static void transferred(void)
 {
     cfdp_station one = CFDP_STATION_INIT, two = CFDP_STATION_INIT;
-    const cfdp_config first = config_of(1), second = config_of(2);
+    const cfdp_config first = defaults_of(1), second = defaults_of(2);
     uint8_t junk[264];
     uint64_t deadline = 0;
     cfdp_id id = {1, 1};
@@ -517,7 +493,7 @@ static void transferred(void)
 static void at_the_limits(void)
 {
     cfdp_station one = CFDP_STATION_INIT, two = CFDP_STATION_INIT;
-    cfdp_config first = config_of(1), second = config_of(2);
+    cfdp_config first = defaults_of(1), second = defaults_of(2);
     static uint8_t octets[(1 << 20) + 1], came[sizeof octets];
     uint8_t names[2][CFDP_NAME], name[CFDP_NAME];
     cfdp_file_info info = {0, 0};
@@ -552,7 +528,7 @@ static void transmitted(void)
 {
     static const uint8_t channels[] = {5, 7};
     cfdp_station one = CFDP_STATION_INIT, two = CFDP_STATION_INIT;
-    const cfdp_config first = config_of(1), second = config_of(2);
+    const cfdp_config first = defaults_of(1), second = defaults_of(2);
     uint8_t frame[264];
     cfdp_id id;
     size_t at;
@@ -579,7 +555,7 @@ static void transmitted(void)
 static void gives_files_up(void)
 {
     cfdp_station one = CFDP_STATION_INIT;
-    const cfdp_config c = config_of(1);
+    const cfdp_config c = defaults_of(1);
     cfdp_id ids[2];
     long before, asked_before;
     int at;
@@ -654,7 +630,7 @@ static void counts_of_causes(void)
 static void listed(void)
 {
     cfdp_station one = CFDP_STATION_INIT, two = CFDP_STATION_INIT;
-    const cfdp_config first = config_of(1), second = config_of(2);
+    const cfdp_config first = defaults_of(1), second = defaults_of(2);
     cfdp_transaction it = {{0, 0}, 0};
     cfdp_id id;
     size_t cursor = 0;
@@ -702,7 +678,7 @@ static void overtaken(void)
 {
     static const uint8_t channels[] = {5, 7};
     cfdp_station one = CFDP_STATION_INIT, two = CFDP_STATION_INIT;
-    const cfdp_config first = config_of(1), second = config_of(2);
+    const cfdp_config first = defaults_of(1), second = defaults_of(2);
     uint8_t frames[2][264];
     cfdp_id id;
     size_t at;
@@ -742,7 +718,7 @@ static void overtaken(void)
  * many times more. */
 static void open_filled(cfdp_station *s, const uint8_t *octets, unsigned more)
 {
-    const cfdp_config c = config_of(1);
+    const cfdp_config c = defaults_of(1);
     cfdp_id id;
     cfdp_answer answer = CFDP_OK;
     unsigned polls = 0;
@@ -803,7 +779,7 @@ static void filled(void)
 static void strayed(void)
 {
     cfdp_station one = CFDP_STATION_INIT, two = CFDP_STATION_INIT, other = CFDP_STATION_INIT;
-    const cfdp_config first = config_of(1), second = config_of(2);
+    const cfdp_config first = defaults_of(1), second = defaults_of(2);
     cfdp_id id;
 
     IS(cfdp_open(&one, &first), CFDP_OK);
@@ -910,7 +886,7 @@ enum { FIELDS = 3 + 4 + 2, GUARDED = 264 + FIELDS };
 
 static cfdp_config guarded_config(int number, uint8_t checksum)
 {
-    cfdp_config config = config_of(number);
+    cfdp_config config = defaults_of(number);
     cfdp_link *links[2];
     int at;
 
@@ -1039,8 +1015,8 @@ static void guarded(uint8_t checksum)
 static void guarded_alone(void)
 {
     cfdp_station one = CFDP_STATION_INIT, two = CFDP_STATION_INIT;
-    cfdp_config first = config_of(1);
-    const cfdp_config second = config_of(2);
+    cfdp_config first = defaults_of(1);
+    const cfdp_config second = defaults_of(2);
     uint8_t frame[264], came[sizeof OCTETS];
     cfdp_id id;
 
@@ -1071,7 +1047,7 @@ static void guarded_alone(void)
 static void unguarded(void)
 {
     cfdp_station one = CFDP_STATION_INIT, two = CFDP_STATION_INIT;
-    const cfdp_config first = config_of(1), second = config_of(2);
+    const cfdp_config first = defaults_of(1), second = defaults_of(2);
     uint32_t control = 9;
     cfdp_id id;
 
@@ -1151,7 +1127,7 @@ static void left_without_memory(cfdp_station *from, cfdp_station *to, unsigned l
 static void sent_without_memory(void)
 {
     cfdp_station one = CFDP_STATION_INIT, two = CFDP_STATION_INIT;
-    const cfdp_config first = config_of(1), second = config_of(2);
+    const cfdp_config first = defaults_of(1), second = defaults_of(2);
     uint8_t *octets = (uint8_t *)calloc(10, 1024);
     cfdp_id id;
     int round;
@@ -1181,7 +1157,7 @@ static void sent_without_memory(void)
 static void short_of_memory(void)
 {
     cfdp_station one = CFDP_STATION_INIT, two = CFDP_STATION_INIT;
-    const cfdp_config first = config_of(1), second = config_of(2);
+    const cfdp_config first = defaults_of(1), second = defaults_of(2);
     uint8_t frame[264], names[CFDP_NAMES];
     cfdp_indication told;
     cfdp_id id;

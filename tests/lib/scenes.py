@@ -138,7 +138,7 @@ FORGERIES = (
         Outcome(UNHEARD, (TAKEN[0], "finished ID 15 incomplete discarded"), {}),
     ),
     Forgery(
-        "an EOF that cancels, ahead of the file: it is refused without a line",
+        "an EOF that cancels, ahead of the file: it is refused, and a note says so",
         lambda number: [eof(number, b"", 15)], 2, True,
         Outcome(UNHEARD, (), {}),
     ),
