@@ -24,7 +24,7 @@ use cfdp_journal::{
 use cfdp_port::{Lookout, LossyWire, PeerWire};
 use cfdp_report::{Exit, Fault};
 use cfdp_service::{
-    Clerk, ClerkLimits, NoSpool, PutNames, ServiceEnds, ServiceOptions, Spool, run,
+    Clerk, ClerkLimits, Ended, NoSpool, PutNames, ServiceEnds, ServiceOptions, Spool, run,
 };
 use cfdp_spool::FolderSpool;
 use cfdp_station::{Limits, StationConfig};
@@ -34,7 +34,7 @@ use frame_security::{Opener, Sealer};
 use host_journal::TransferJournal;
 use secured_wire::SecuredWire;
 use station_pair::WorldConfig;
-use std::alloc::{AllocError, Global};
+use std::alloc::AllocError;
 use transfer_journal::Survey;
 use valid_config::Valid;
 
@@ -325,15 +325,6 @@ fn operated<'a, O: SeekingOutbox, I: ResumingInbox, W: PeerWire, S: Spool, L: Lo
     wire: W,
     lookout: &mut L,
 ) -> Exit {
-    let Context {
-        rt,
-        request,
-        exchange,
-        pdus,
-        transfers,
-        progress,
-        teller,
-    } = context;
     let Served {
         stores,
         spool,
@@ -345,32 +336,51 @@ fn operated<'a, O: SeekingOutbox, I: ResumingInbox, W: PeerWire, S: Spool, L: Lo
         inbox,
         wire,
     };
+    let Ok(journal) = begun_journal(context, sources.door().is_some()) else {
+        return Exit::Device(Fault::NoMemoryAtStart);
+    };
+    let own = options.config.get();
+    let post = operator_post(context, &own, sources, journal);
+    let (rt, request) = (context.rt, context.request);
+    let console = OperatorConsole::new(rt, post, context.exchange, context.progress);
+    let limits = limits(request, own.entity.policy.most_gaps.unwrap_or(0));
+    let mut clerk = Clerk::new(rt.alloc(), request.numbers.id, limits, spool, console);
+    let exit = match run_by_clerk(context, options, ends, &mut clerk, lookout) {
+        Ok(ended) => clerk.console().exit(ended.is_short, ended.has_failed),
+        Err(AllocError) => Exit::Device(Fault::NoMemoryAtStart),
+    };
+    finished(clerk, exit)
+}
+
+/// Returns the journal of what happens, before the first line. If there is a console, it keeps the
+/// last lines.
+fn begun_journal<'a>(
+    context: Context<'a>,
+    has_console: bool,
+) -> Result<Journal<'a, KeptLog<LossyLog<'a>>>, AllocError> {
+    let rt = context.rt;
     let setup = journal_setup(context);
-    let Ok(out) = LossyLog::new(setup.log) else {
-        return Exit::Device(Fault::NoMemoryAtStart);
-    };
-    let has_console = sources.door().is_some();
-    let out = KeptLog::new(out, has_console.then(|| LogLines::new(rt.alloc())));
-    let Ok(journal) = Journal::new(setup, out) else {
-        return Exit::Device(Fault::NoMemoryAtStart);
-    };
-    let form = if request.flags.json {
-        Form::Json
-    } else {
-        Form::Text
-    };
-    let own_policy = options.config.get().entity.policy;
-    let board = if has_console {
-        Some(Board::new(board_setup(context, own_policy.limits)))
-    } else {
-        None
-    };
-    let post = OperatorPost {
+    let out = LossyLog::new(setup.log)?;
+    let lines = has_console.then(|| LogLines::new(rt.alloc()));
+    Journal::new(setup, KeptLog::new(out, lines))
+}
+
+/// Returns what the operator of a station has before the first command.
+fn operator_post<'a>(
+    context: Context<'a>,
+    own: &StationConfig,
+    sources: LineSources<'a>,
+    journal: Journal<'a, KeptLog<LossyLog<'a>>>,
+) -> OperatorPost<'a> {
+    let request = context.request;
+    let policy = own.entity.policy;
+    let board = board_at(context, policy.limits, sources.door().is_some());
+    OperatorPost {
         sources,
         journal,
         board,
-        pdus,
-        form,
+        pdus: context.pdus,
+        form: form_of(request),
         keys: keys_of(request),
         outbox: outbox_of(request),
         names: request.names,
@@ -378,54 +388,55 @@ fn operated<'a, O: SeekingOutbox, I: ResumingInbox, W: PeerWire, S: Spool, L: Lo
             most_size: request.limits.most_size,
             most_open: request.limits.most_open,
         },
-        inactivity: u64::from(own_policy.times.inactivity),
+        inactivity: u64::from(policy.times.inactivity),
         unit: unit_word(request.unit),
-        transfers: transfers.map(|it| it.journal),
-        teller,
-    };
-    let console = OperatorConsole::new(rt, post, exchange, progress);
-    let own = request.numbers.id;
-    let most_gaps = own_policy.most_gaps.unwrap_or(0);
-    let clerk = Clerk::new(rt.alloc(), own, limits(request, most_gaps), spool, console);
-    run_by_clerk(context, options, ends, clerk, lookout)
+        transfers: context.transfers.map(|it| it.journal),
+        teller: context.teller,
+    }
 }
 
-/// Runs the station as its clerk wishes, and writes the rest of its log.
+/// Returns what the console shows, if there is one.
+fn board_at(context: Context<'_>, limits: Limits, has_console: bool) -> Option<Board<'_>> {
+    if has_console {
+        Some(Board::new(board_setup(context, limits)))
+    } else {
+        None
+    }
+}
+
+/// Returns how questions are answered.
+fn form_of(request: &StationRequest) -> Form {
+    if request.flags.json {
+        Form::Json
+    } else {
+        Form::Text
+    }
+}
+
+/// Runs the station as its clerk wishes. If there is a journal, what that says goes on.
+///
+/// # Errors
+///
+/// `AllocError` if there is no memory for the station, for what it must send, or for what goes on.
 fn run_by_clerk<'a, O: SeekingOutbox, I: ResumingInbox, W: PeerWire, S: Spool, L: Lookout>(
     context: Context<'a>,
     options: ServiceOptions,
     ends: ServiceEnds<O, I, W>,
-    mut clerk: Clerk<S, OperatorConsole<'a>>,
+    clerk: &mut Clerk<S, OperatorConsole<'a>>,
     lookout: &mut L,
-) -> Exit {
-    let (rt, request, teller) = (context.rt, context.request, context.teller);
-    let transfers = context.transfers;
-    let survey = transfers.and_then(|it| it.found.take());
-    if add_puts(
-        rt.alloc(),
-        &mut clerk,
-        request.puts.as_slice(),
-        survey.as_ref(),
-    )
-    .is_err()
-    {
-        return Exit::Device(Fault::NoMemoryAtStart);
-    }
-    let ran = match transfers {
-        Some(it) => {
-            let journal = (it.journal, survey);
-            run_resumed(rt, teller, options, ends, journal, &mut clerk, lookout)
+) -> Result<Ended, AllocError> {
+    match context.transfers {
+        Some(transfers) => {
+            let (journal, survey) = (transfers.journal, transfers.found.take());
+            add_puts(context, clerk, survey.as_ref())?;
+            let (rt, teller) = (context.rt, context.teller);
+            run_resumed(rt, teller, options, ends, (journal, survey), clerk, lookout)
         }
         None => {
-            drop(survey);
-            run(rt.alloc(), options, ends, &mut clerk, lookout)
+            add_puts(context, clerk, None)?;
+            run(context.rt.alloc(), options, ends, clerk, lookout)
         }
-    };
-    let exit = match ran {
-        Ok(ended) => clerk.console().exit(ended.is_short, ended.has_failed),
-        Err(AllocError) => Exit::Device(Fault::NoMemoryAtStart),
-    };
-    finished(clerk, exit)
+    }
 }
 
 /// Writes the rest of the log, and returns how the station ended.
@@ -516,11 +527,12 @@ fn limits(request: &StationRequest, most_gaps: u64) -> ClerkLimits {
 /// Asks for the files that must be sent, by pairs of words, except for those that an earlier run
 /// began to send.
 fn add_puts<S: Spool>(
-    alloc: Global,
+    context: Context<'_>,
     clerk: &mut Clerk<S, OperatorConsole<'_>>,
-    words: &[String],
     survey: Option<&Survey>,
 ) -> Result<(), AllocError> {
+    let alloc = context.rt.alloc();
+    let words = context.request.puts.as_slice();
     for pair in 0..words.len() / 2 {
         let (source, destination) = (words[2 * pair].as_bytes(), words[2 * pair + 1].as_bytes());
         if !survey.is_some_and(|it| it.sends(source, destination)) {
