@@ -34,6 +34,7 @@ RUNNING = (
     "cfdp_control",
     "cfdp_datagrams",
     "cfdp_journal",
+    "cfdp_operator",
     "cfdp_service",
     "cfdp_spool",
     "cfdp_watch",

@@ -3,13 +3,9 @@ ghost use Rattle.std.specs.Prelude.{IfOk};
 
 pub mod console_door;
 pub mod earlier;
-pub mod notices;
 pub mod operation;
-pub mod operator;
-pub mod refusals;
 pub mod resuming;
 pub mod setup;
-pub mod unknown_cancels;
 
 use crate::failure::{DEVICE, Failure, FileError, RestartError, SetupError, SocketError};
 use crate::station::console_door::door;
@@ -18,7 +14,6 @@ use crate::station::resuming::{Found, found_journal, held_folder};
 use crate::station::setup::{StationSetup, key_hint};
 use crate::transfers::named_files::{check_file, check_name, folder, folder_outbox, tell_untold};
 use crate::transfers::secured_links::keys_in;
-use crate::transfers::teller::{SpoolNotes, Teller, note};
 use cfdp_command_line::{CarrierKind, StationNumbers, StationRequest, TimeUnit, note_losses};
 use cfdp_control::{LineSources, remove_socket, socket_path};
 use cfdp_datagrams::{Carrier, DatagramWire, Pace, SharedNumbers, UdpTransport, Unit, Unusable};
@@ -27,6 +22,7 @@ use cfdp_files::{
     HeldFolder, Reservation, StateError, Wanted, is_same_folder, lies_in, try_folder,
 };
 use cfdp_journal::SeenPdus;
+use cfdp_operator::{SpoolNotes, Teller, note};
 use cfdp_report::{Hint, parse_number, parse_setting};
 use cfdp_spool::FolderSpool;
 use cfdp_station::StationConfig;

@@ -1,7 +1,4 @@
 //! What the commands that transfer files between folders (`loop`, `station`) share.
 
-pub mod fault;
 pub mod named_files;
 pub mod secured_links;
-pub mod teller;
-pub mod telling;

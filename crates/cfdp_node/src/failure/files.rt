@@ -1,6 +1,6 @@
 //! Why a folder or a file that a command line names can't be used.
-use crate::transfers::fault::fault_text;
 use cfdp_files::SecretError;
+use cfdp_operator::fault_text;
 use cfdp_report::{Name, cause_text};
 use cfdp_spool::rule_text;
 use cfdp_store::{FolderError, NameRule};

@@ -1,16 +1,9 @@
 //! A station that serves its operator over its stores, from its first turn to its last.
 use crate::station::earlier::keep_earlier;
-use crate::station::notices::{Notices, tell_authentication, tell_timers};
-use crate::station::operator::{OperatorConsole, OperatorPost};
-use crate::station::refusals::FileLimits;
 use crate::station::resuming::{Found, run_resumed};
 use crate::station::{outbox_of, side_of, state_path};
 use crate::transfers::named_files::folder_outbox;
-use crate::transfers::teller::{SpoolNotes, Teller};
-use crate::transfers::telling::{
-    InboxRules, LoopLookout, TellingInbox, TellingNoInbox, TellingOutbox,
-};
-use cfdp_command_line::{CarrierKind, StationRequest, TimeUnit, VERSION, frame_losses};
+use cfdp_command_line::{CarrierKind, StationRequest, VERSION, frame_losses};
 use cfdp_console::LogLines;
 use cfdp_control::LineSources;
 use cfdp_datagrams::{
@@ -20,6 +13,10 @@ use cfdp_exchange::Exchange;
 use cfdp_journal::{
     Board, BoardSetup, Form, Journal, JournalSetup, KeptLog, Log, LossyLog, PduWatch, SeenPdus,
     Style,
+};
+use cfdp_operator::{
+    FileLimits, InboxRules, LoopLookout, Notices, OperatorConsole, OperatorPost, SpoolNotes,
+    Teller, TellingInbox, TellingNoInbox, TellingOutbox, tell_authentication, tell_timers,
 };
 use cfdp_port::{Lookout, LossyWire, PeerWire};
 use cfdp_report::{Exit, Fault};
@@ -389,7 +386,7 @@ fn operator_post<'a>(
             most_open: request.limits.most_open,
         },
         inactivity: u64::from(policy.times.inactivity),
-        unit: unit_word(request.unit),
+        unit: request.unit,
         transfers: context.transfers.map(|it| it.journal),
         teller: context.teller,
     }
@@ -493,14 +490,6 @@ fn board_setup(context: Context<'_>, limits: Limits) -> BoardSetup<'_> {
         is_authenticated: request.keys.is_some(),
         limits,
         exchange,
-    }
-}
-
-/// Returns the word for a unit of times.
-pub fn unit_word(unit: TimeUnit) -> &'static str {
-    match unit {
-        TimeUnit::Seconds => "s",
-        TimeUnit::Milliseconds => "ms",
     }
 }
 

@@ -2,12 +2,12 @@
 use crate::failure::{Failure, JournalFault, RestartError, SetupError};
 use crate::station::setup::StationSetup;
 use crate::station::{outbox_of, side_of, state_path};
-use crate::transfers::teller::{Teller, note};
 use cfdp_command_line::{StationNumbers, StationRequest};
 use cfdp_directives::{Addressing, Indication};
 use cfdp_exchange::{Exchange, NoteTopic};
 use cfdp_files::{HeldFolder, is_same_folder, lies_in};
 use cfdp_header::TransactionId;
+use cfdp_operator::{Teller, note};
 use cfdp_port::{Lookout, PeerWire, Port};
 use cfdp_report::Name;
 use cfdp_service::{

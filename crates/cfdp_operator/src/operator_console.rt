@@ -1,6 +1,8 @@
 //! Where the operator of a station stands: the lines of commands, the console, and the log.
-use crate::station::refusals::{FileLimits, Refusing, put_fault, sendable_names};
-use crate::transfers::teller::Teller;
+use crate::refusals::{FileLimits, Refusing, put_fault, sendable_names};
+use crate::teller::Teller;
+use crate::unit::unit_word;
+use cfdp_command_line::TimeUnit;
 use cfdp_console::{Answer, Ask, Look, Shown};
 use cfdp_control::{
     Asked, CommandHelp, LineFault, LineSources, Speaker, parse_command, printed_names, split_form,
@@ -46,9 +48,9 @@ pub struct OperatorPost<'a> {
     pub names: NameRule,
     /// What limits the files that are received.
     pub limits: FileLimits,
-    /// After how many units of time without a PDU a transaction is given up, and the unit's name.
+    /// After how many units of time without a PDU a transaction is given up, and the unit.
     pub inactivity: u64,
-    pub unit: &'static str,
+    pub unit: TimeUnit,
     /// The journal by which transfers go on, if there is one.
     pub transfers: Option<&'a TransferJournal<'a>>,
     /// Who reports to the operator what is wrong.
@@ -364,7 +366,7 @@ impl<'a> OperatorConsole<'a> {
 
     /// Answers that a transaction is suspended, and after how long the peer gives it up.
     fn is_suspended(&mut self, speaker: Speaker) {
-        let (inactivity, unit) = (self.post.inactivity, self.post.unit);
+        let (inactivity, unit) = (self.post.inactivity, unit_word(self.post.unit));
         let text = format!(in self.rt.alloc();
             "the peer gives the transaction up after {inactivity} {unit}, as inactivity_time says, \
              unless it is resumed before\n"

@@ -1,6 +1,6 @@
 //! Stores in folders that say on standard error why a call failed, and one who looks on at turns.
-use crate::transfers::fault::fault_text;
-use crate::transfers::teller::Teller;
+use crate::fault::fault_text;
+use crate::teller::Teller;
 use cfdp_exchange::NoteTopic;
 use cfdp_files::InboxFiles;
 use cfdp_header::TransactionId;

@@ -1,6 +1,6 @@
 //! The files that a station refuses: those that its operator asks for and that can't be sent, and
 //! the peer's files that are beyond its limits; and the files that may be sent.
-use crate::transfers::fault::fault_text;
+use crate::fault::fault_text;
 use cfdp_directives::{Condition, Indication};
 use cfdp_header::TransactionId;
 use cfdp_report::{Name, cause_text};

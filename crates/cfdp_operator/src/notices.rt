@@ -1,8 +1,8 @@
 //! What a station reports to its operator while it runs.
-use crate::station::operation::unit_word;
-use crate::station::unknown_cancels::UnknownCancels;
-use crate::transfers::teller::Teller;
-use crate::transfers::telling::LoopLookout;
+use crate::teller::Teller;
+use crate::telling::LoopLookout;
+use crate::unit::unit_word;
+use crate::unknown_cancels::UnknownCancels;
 use cfdp_command_line::{CarrierKind, TimeUnit};
 use cfdp_datagrams::frame_len;
 use cfdp_directives::{Handler, Indication, Phase, Policy};
