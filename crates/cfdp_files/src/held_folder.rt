@@ -4,14 +4,10 @@ ghost use Rattle.std.specs.Prelude.{◌≡◌, IfOk, true};
 ghost use Rattle.cfdp_files.specs.InboxFolder.{IsPartName};
 
 use crate::locks::{LockError, LockedFile};
-use cfdp_report::cause_text;
 use std::collections::BTreeSet;
 use std::fs::{DirEntry, FileType};
 use std::marker::Model;
 use std::{fs, io};
-
-/// The exit status if a folder failed.
-const DEVICE: u8 = 3;
 
 /// What the name of a part file begins with. After it come the two numbers of its transaction.
 const PART: &str = ".part-";
@@ -36,8 +32,8 @@ impl HeldFolder {
     ///
     /// # Errors
     ///
-    /// The exit status if it can't be had; standard error says why.
-    pub fn take(rt: &HostRuntime, path: &str) -> Result<HeldFolder, u8>
+    /// `InUse` if another process holds it; `System` if the system refuses it.
+    pub fn take(rt: &HostRuntime, path: &str) -> Result<HeldFolder, LockError>
         ensures { IfOk result (λ held. held ≡ path.now) }
     {
         HeldFolder::take_with(rt, path, &BTreeSet::new(rt.alloc()))
@@ -48,39 +44,23 @@ impl HeldFolder {
     ///
     /// # Errors
     ///
-    /// The exit status if it can't be had; standard error says why.
+    /// `InUse` if another process holds it; `System` if the system refuses it.
     pub fn take_with(
         rt: &HostRuntime,
         path: &str,
         kept: &BTreeSet<String>,
-    ) -> Result<HeldFolder, u8>
+    ) -> Result<HeldFolder, LockError>
         ensures { IfOk result (λ held. held ≡ path.now) }
     {
-        match LockedFile::open(rt, path) {
-            Ok(folder) => {
-                remove_parts(rt, path, kept);
-                Ok(HeldFolder { folder })
-            }
-            Err(error) => {
-                tell(rt, path, &error);
-                Err(DEVICE)
-            }
-        }
+        let folder = LockedFile::open(rt, path)?;
+        remove_parts(rt, path, kept);
+        Ok(HeldFolder { folder })
     }
 
     /// Removes the part files of this folder, whose path this is: of files that never came whole.
     pub fn clear(&self, rt: &HostRuntime, path: &str) {
         remove_parts(rt, path, &BTreeSet::new(rt.alloc()));
     }
-}
-
-fn tell(rt: &HostRuntime, path: &str, error: &LockError) {
-    let _ = match error {
-        LockError::InUse => eprintln!(rt;
-            "error: {path}: another station or loop is receiving into this folder"
-        ),
-        LockError::System(error) => eprintln!(rt; "error: {path}: {}", cause_text(error.kind())),
-    };
 }
 
 /// Removes the part files of a folder, as far as they can be removed, except for those with these

@@ -22,4 +22,4 @@ pub use locks::{LockError, LockedFile, lock};
 pub use plain_file::{Use, folder_of, is_same_folder, lies_in, open_plain};
 pub use secret_file::{SecretError, read_keys, read_secret};
 pub use state_file::{Reservation, StateError, Wanted};
-pub use trial::try_folder;
+pub use trial::{TrialError, try_folder};

@@ -1,14 +1,25 @@
 //! A folder is tried before it is needed.
-use cfdp_report::cause_text;
 use std::fs::File;
 use std::io::{ErrorKind, Write};
 use std::{fs, io};
 
-/// The exit status if a folder failed.
-const DEVICE: u8 = 3;
-
 /// What the trial writes: a block of most file systems.
 const TRIAL: [u8; 4096] = [0; 4096];
+
+/// Why files can't be written into a folder.
+#[derive(Drop)]
+pub enum TrialError {
+    /// Its file system has no hard links.
+    NoLinks,
+    /// The system refused.
+    System(io::Error),
+}
+
+impl From<io::Error> for TrialError {
+    fn from(error: io::Error) -> TrialError {
+        TrialError::System(error)
+    }
+}
 
 /// Tries whether files can be written into the folder of an inbox: makes one in it, under a name
 /// that begins with a point, writes and flushes it, gives it a link if the inbox keeps files
@@ -16,15 +27,11 @@ const TRIAL: [u8; 4096] = [0; 4096];
 ///
 /// # Errors
 ///
-/// The exit status if that can't be done; standard error says why.
-pub fn try_folder(rt: &HostRuntime, path: &str, replaces: bool) -> Result<(), u8> {
-    if let Err(error) = written(rt, path) {
-        let _ = eprintln!(rt; "error: {path}: {}", cause_text(error.kind()));
-        return Err(DEVICE);
-    }
+/// `NoLinks` if the link can't be made; `System` if anything else can't be done.
+pub fn try_folder(rt: &HostRuntime, path: &str, replaces: bool) -> Result<(), TrialError> {
+    written(rt, path)?;
     if !replaces && linked(rt, path).is_err() {
-        let _ = eprintln!(rt; "error: {path}: --no-overwrite needs a file system with hard links");
-        return Err(DEVICE);
+        return Err(TrialError::NoLinks);
     }
     Ok(())
 }

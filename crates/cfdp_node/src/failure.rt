@@ -5,21 +5,23 @@ mod restart;
 mod setup;
 mod sockets;
 
+use cfdp_command_line::SetError;
 pub use files::{FileError, LEAST_TOKEN, MOST_TOKEN};
 pub use restart::{JournalFault, RestartError};
 pub use setup::SetupError;
 pub use sockets::SocketError;
 use std::alloc::AllocError;
+use std::fmt;
 use thiserror::Error;
 
 /// The exit status of bad arguments.
-pub const MISTAKE: u8 = 2;
+const MISTAKE: u8 = 2;
 
 /// The exit status if a folder, a file, a socket or memory failed.
 pub const DEVICE: u8 = 3;
 
 /// Why a command isn't done.
-#[derive(Debug, Drop, Error)]
+#[derive(Drop, Error)]
 pub enum Failure<'a> {
     /// A folder or a file can't be used.
     #[error(transparent)]
@@ -33,23 +35,22 @@ pub enum Failure<'a> {
     /// The station can't go on from its last run.
     #[error(transparent)]
     Restart(#[from] RestartError<'a>),
-    /// Memory ran out. Nothing is reported.
-    #[error(transparent)]
+    /// Memory ran out.
+    #[error("out of memory")]
     Memory(#[from] AllocError),
-    /// What failed is reported already, and the exit status is this one.
-    #[error("exit status {0}")]
-    Reported(#[from] u8),
+    /// What is set of both stations of a loop can't be. It is reported in words of its own.
+    #[error("--set sets no loop")]
+    Set(SetError<'a>),
 }
 
 impl Failure<'_> {
     /// Reports it on standard error, with the line of the settings file that it comes from, and
     /// returns the exit status.
     pub fn tell(&self, rt: &HostRuntime) -> u8 {
-        match self {
-            Failure::Memory(_) | Failure::Reported(_) => {}
-            Failure::File(_) | Failure::Setup(_) | Failure::Socket(_) | Failure::Restart(_) => {
-                let _ = eprintln!(rt; "error: {self}");
-            }
+        if let Failure::Set(error) = self {
+            error.tell(rt);
+        } else {
+            let _ = eprintln!(rt; "error: {self}");
         }
         if let Failure::Setup(error) = self {
             error.tell_line(rt);
@@ -61,12 +62,17 @@ impl Failure<'_> {
     fn status(&self) -> u8 {
         let is_mistake = match self {
             Failure::File(error) => error.is_mistake(),
-            Failure::Setup(_) => true,
+            Failure::Setup(_) | Failure::Set(_) => true,
             Failure::Socket(error) => error.is_mistake(),
             Failure::Restart(error) => error.is_mistake(),
             Failure::Memory(_) => false,
-            Failure::Reported(status) => return *status,
         };
         if is_mistake { MISTAKE } else { DEVICE }
+    }
+}
+
+impl fmt::Debug for Failure<'_> {
+    fn fmt<W: fmt::Write>(&self, f: &mut fmt::Formatter<W>) -> fmt::Result {
+        write!(f, "{self}")
     }
 }

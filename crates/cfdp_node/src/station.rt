@@ -368,8 +368,10 @@ fn spool<'a>(
         notes: &exchange.notes,
     };
     let (names, removes_sent) = (request.names, request.flags.remove_sent);
-    let spool = FolderSpool::open(rt, path.as_str(), names, removes_sent, teller)?;
-    Ok(Some(spool))
+    match FolderSpool::open(rt, path.as_str(), names, removes_sent, teller) {
+        Ok(spool) => Ok(Some(spool)),
+        Err(error) => Err(Failure::File(FileError::spool(path.as_str(), &error))),
+    }
 }
 
 /// Looks whether what arrives isn't sent again at once: by a spool that is the inbox too.
@@ -621,8 +623,10 @@ fn held_inbox<'a>(
         Some(path) => {
             folder(rt, path.as_str())?;
             let held = held_folder(rt, request, path.as_str(), found)?;
-            try_folder(rt, path.as_str(), !request.flags.no_overwrite)?;
-            Ok(Some(held))
+            match try_folder(rt, path.as_str(), !request.flags.no_overwrite) {
+                Ok(()) => Ok(Some(held)),
+                Err(error) => Err(Failure::File(FileError::trial(path.as_str(), &error))),
+            }
         }
         None => Ok(None),
     }

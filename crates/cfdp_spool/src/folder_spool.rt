@@ -12,16 +12,14 @@ mod queue;
 mod scan;
 mod stamp;
 
+use cfdp_files::LockError;
 use cfdp_service::Spool;
 use cfdp_store::NameRule;
-pub use folder::{SpoolFolder, tell_spool};
+pub use folder::SpoolFolder;
 pub use notice::{SpoolNews, SpoolNotice, SpoolTeller, StandardErrorTeller, rule_text};
 use place::Way;
 use queue::Queue;
 use std::marker::Model;
-
-/// The exit status if a folder failed.
-const DEVICE: u8 = 3;
 
 /// A spool over a folder. The plain files in it that can be sent are given in the order in which
 /// they were written last, and then in the order of their names; a file can be sent if a rule
@@ -61,29 +59,24 @@ impl<'a, T: SpoolTeller> FolderSpool<'a, T> {
     ///
     /// # Errors
     ///
-    /// The exit status, if the folder can't be had, or its files can't be moved, as standard error
-    /// says then.
+    /// `InUse` if another process holds the folder; `System` if the system refuses it, or that its
+    /// files are moved.
     pub fn open(
         rt: &'a HostRuntime,
         path: &str,
         names: NameRule,
         removes_sent: bool,
         teller: T,
-    ) -> Result<FolderSpool<'a, T>, u8>
+    ) -> Result<FolderSpool<'a, T>, LockError>
         ensures path { IfOk result (λ spool. spool.path ≡ path.now) }
         ensures names { IfOk result (λ spool. spool.names ≡ names) }
         ensures removes { IfOk result (λ spool. spool.removes ≡ removes_sent) }
         ensures told { IfOk result (λ spool. spool.told ≡ []) }
     {
-        match SpoolFolder::take(rt, path, names, removes_sent) {
-            Ok(folder) => Ok(FolderSpool {
-                queue: Queue::new(rt, folder, teller),
-            }),
-            Err(error) => {
-                tell_spool(rt, path, &error);
-                Err(DEVICE)
-            }
-        }
+        let folder = SpoolFolder::take(rt, path, names, removes_sent)?;
+        Ok(FolderSpool {
+            queue: Queue::new(rt, folder, teller),
+        })
     }
 }
 

@@ -1,5 +1,5 @@
 //! Why a folder or a file that a command line names can't be used.
-use cfdp_files::SecretError;
+use cfdp_files::{LockError, SecretError, TrialError};
 use cfdp_operator::fault_text;
 use cfdp_report::{Name, cause_text};
 use cfdp_spool::rule_text;
@@ -26,6 +26,15 @@ pub enum FileError<'a> {
     /// The system refuses the folder of this path.
     #[error("{0}: {cause}", cause = cause_text(*.1))]
     Folder(&'a str, ErrorKind),
+    /// Another process receives into the folder of this path.
+    #[error("{0}: another station or loop is receiving into this folder")]
+    InboxInUse(&'a str),
+    /// Another process sends from the spool of this path.
+    #[error("{0}: another station is sending the files of this folder")]
+    SpoolInUse(&'a str),
+    /// Files of the folder of this path can't be kept from being replaced.
+    #[error("{0}: --no-overwrite needs a file system with hard links")]
+    NoLinks(&'a str),
     /// The file of this name in a folder can't be read.
     #[error("{0}/{1}: {cause}", cause = fault_text(*.2))]
     File(&'a str, Name<'a>, FolderError),
@@ -44,7 +53,31 @@ pub enum FileError<'a> {
     NoToken(&'a str),
 }
 
-impl FileError<'_> {
+impl<'a> FileError<'a> {
+    /// Returns why the folder of an inbox at this path can't be held.
+    pub fn inbox(path: &'a str, error: &LockError) -> FileError<'a> {
+        match error {
+            LockError::InUse => FileError::InboxInUse(path),
+            LockError::System(error) => FileError::Folder(path, error.kind()),
+        }
+    }
+
+    /// Returns why the folder of a spool at this path can't be held.
+    pub fn spool(path: &'a str, error: &LockError) -> FileError<'a> {
+        match error {
+            LockError::InUse => FileError::SpoolInUse(path),
+            LockError::System(error) => FileError::Folder(path, error.kind()),
+        }
+    }
+
+    /// Returns why nothing can be written into the folder at this path.
+    pub fn trial(path: &'a str, error: &TrialError) -> FileError<'a> {
+        match error {
+            TrialError::NoLinks => FileError::NoLinks(path),
+            TrialError::System(error) => FileError::Folder(path, error.kind()),
+        }
+    }
+
     /// Returns `true` if it is a mistake of whoever asked, and stays one however often it is tried.
     pub fn is_mistake(&self) -> bool {
         match self {
@@ -55,6 +88,9 @@ impl FileError<'_> {
             | FileError::NoToken(_) => true,
             FileError::NotFolder(_)
             | FileError::Folder(..)
+            | FileError::InboxInUse(_)
+            | FileError::SpoolInUse(_)
+            | FileError::NoLinks(_)
             | FileError::File(..)
             | FileError::TokenFile(..) => false,
         }

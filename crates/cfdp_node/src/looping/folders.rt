@@ -2,7 +2,7 @@
 ghost use Rattle.std.specs.Prelude.{IfOk};
 ghost use Rattle.cfdp_node.specs.Looping.Asked.{AreAsked, AreFor};
 
-use crate::failure::{Failure, FileError, MISTAKE, SocketError};
+use crate::failure::{Failure, FileError, SocketError};
 use crate::looping::security::{LoopSecurity, secured};
 use crate::looping::udp::UdpWire;
 use crate::looping::{LoopEnds, LoopOptions, run_loop};
@@ -79,7 +79,7 @@ type Way<'a> = ((SharedWire<'a>, SharedWire<'a>), HeldFolder);
 ///
 /// # Errors
 ///
-/// `File` or `Reported` if the folder can't be had; `Socket` if the wires can't.
+/// `File` if the folder can't be had; `Socket` if the wires can't.
 fn way<'a, 'r>(
     rt: &HostRuntime,
     request: &'r LoopRequest,
@@ -87,13 +87,25 @@ fn way<'a, 'r>(
 ) -> Result<Way<'a>, Failure<'r>> {
     folder(rt, request.to.as_str())?;
     note_losses(rt, request.losses);
-    let held = HeldFolder::take(rt, request.to.as_str())?;
+    let held = held(rt, request.to.as_str())?;
     match UdpWire::pair(rt) {
         Ok((one, two)) => {
             let wires = (LossyWire::new(one, losses), LossyWire::new(two, losses));
             Ok((wires, held))
         }
         Err(error) => Err(Failure::Socket(SocketError::Loop(error.kind()))),
+    }
+}
+
+/// Takes the folder that the file goes into.
+///
+/// # Errors
+///
+/// Why it can't be had.
+fn held<'a>(rt: &HostRuntime, path: &'a str) -> Result<HeldFolder, FileError<'a>> {
+    match HeldFolder::take(rt, path) {
+        Ok(held) => Ok(held),
+        Err(error) => Err(FileError::inbox(path, &error)),
     }
 }
 
@@ -255,7 +267,7 @@ fn reported<O: Outbox, I: Inbox, W: Wire, L: Lookout>(
 ///
 /// # Errors
 ///
-/// `Reported` if what is set can't be; `Memory` if there is no memory.
+/// `Set` if what is set can't be; `Memory` if there is no memory.
 fn options<'a>(rt: &HostRuntime, request: &'a LoopRequest) -> Result<LoopOptions, Failure<'a>>
     ensures { IfOk result (AreAsked request.now) }
 {
@@ -264,10 +276,7 @@ fn options<'a>(rt: &HostRuntime, request: &'a LoopRequest) -> Result<LoopOptions
             Ok(options) => Ok(options),
             Err(error) => Err(Failure::Memory(error)),
         },
-        Err(error) => {
-            error.tell(rt);
-            Err(Failure::Reported(MISTAKE))
-        }
+        Err(error) => Err(Failure::Set(error)),
     }
 }
 

@@ -1,5 +1,5 @@
 //! Transfers that go on after a restart, by the journal of the station.
-use crate::failure::{Failure, JournalFault, RestartError, SetupError};
+use crate::failure::{FileError, JournalFault, RestartError, SetupError};
 use crate::station::setup::StationSetup;
 use crate::station::{outbox_of, side_of, state_path};
 use cfdp_command_line::{StationNumbers, StationRequest};
@@ -300,17 +300,17 @@ fn tell_damaged(rt: &HostRuntime, path: &str, exchange: &Exchange) {
 ///
 /// # Errors
 ///
-/// `Reported` if it can't be had.
+/// `InboxInUse` or `Folder` if it can't be had.
 pub fn held_folder<'a>(
     rt: &HostRuntime,
     request: &'a StationRequest,
-    path: &str,
+    path: &'a str,
     found: &Found,
-) -> Result<HeldFolder, Failure<'a>> {
+) -> Result<HeldFolder, FileError<'a>> {
     let Some(mut survey) = found.take() else {
-        return Ok(HeldFolder::take(rt, path)?);
+        return held_without(rt, path, &BTreeSet::new(rt.alloc()));
     };
-    let held = HeldFolder::take_with(rt, path, &kept_parts(rt, &survey))?;
+    let held = held_without(rt, path, &kept_parts(rt, &survey))?;
     let rules = PublishRules {
         folder: path,
         replaces: !request.flags.no_overwrite,
@@ -320,6 +320,22 @@ pub fn held_folder<'a>(
     publish_again(rt, &mut survey, rules);
     found.survey.set(Some(survey));
     Ok(held)
+}
+
+/// Takes the folder of the inbox, without the parts of files that aren't kept.
+///
+/// # Errors
+///
+/// `InboxInUse` or `Folder` if it can't be had.
+fn held_without<'a>(
+    rt: &HostRuntime,
+    path: &'a str,
+    kept: &BTreeSet<String>,
+) -> Result<HeldFolder, FileError<'a>> {
+    match HeldFolder::take_with(rt, path, kept) {
+        Ok(held) => Ok(held),
+        Err(error) => Err(FileError::inbox(path, &error)),
+    }
 }
 
 /// Returns the names of the parts that are still needed; none if there is no memory for them.

@@ -8,7 +8,6 @@ use crate::folder_spool::notes::{Done, Told};
 use crate::folder_spool::place::{Place, Way};
 use crate::folder_spool::stamp::FileStamp;
 use cfdp_files::{LockError, LockedFile};
-use cfdp_report::cause_text;
 use cfdp_store::NameRule;
 use past::Past;
 use std::fs::{File, ReadDir};
@@ -394,16 +393,6 @@ impl<'a> SpoolFolder<'a> {
         self.flush(Place::Spool)?;
         fs::remove_file(rt, left.as_str())
     }
-}
-
-/// Says on standard error why the folder of a spool can't be had.
-pub fn tell_spool(rt: &HostRuntime, path: &str, error: &LockError) {
-    let _ = match error {
-        LockError::InUse => eprintln!(rt;
-            "error: {path}: another station is sending the files of this folder"
-        ),
-        LockError::System(error) => eprintln!(rt; "error: {path}: {}", cause_text(error.kind())),
-    };
 }
 
 fn text_of(name: &[u8]) -> io::Result<&str>
