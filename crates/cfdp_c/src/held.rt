@@ -11,6 +11,7 @@ use cfdp_station::{Station, StationConfig, Valid};
 use cfdp_store::{FolderOutbox, MemoryInbox, MemoryOutbox};
 use past::Past;
 use std::alloc::{AllocError, Global};
+use std::collections::BTreeSet;
 use std::snapshot::Snapshot;
 
 /// A station with its stores in folders, which may have a journal.
@@ -126,6 +127,14 @@ impl Held {
             resumption,
             unheard: Vec::new(alloc),
             inbox: Some(inbox),
+        }
+    }
+
+    /// Removes the part files of the folder at this path, which it receives into, except for those
+    /// with these names.
+    pub fn clears(&self, alloc: Global, path: &str, kept: &BTreeSet<String>) {
+        if let Some(folder) = &self.inbox {
+            folder.clear(alloc, path, kept);
         }
     }
 }

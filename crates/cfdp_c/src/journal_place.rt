@@ -107,13 +107,25 @@ impl Republisher for LibraryPlace {
         match SystemFiles.symlink_metadata(part.as_str()) {
             Ok(found) if found.is_file() => {}
             Ok(_) => return Err(io::Error::from(ErrorKind::InvalidInput)),
-            // It was renamed before the station was killed.
-            Err(error) if error.kind() == ErrorKind::NotFound => return Ok(()),
+            // It was renamed before the station was killed, or removed since it couldn't be.
+            Err(error) if error.kind() == ErrorKind::NotFound => {
+                return find_published(path.as_str(), file.size);
+            }
             Err(error) => return Err(error),
         }
         cut(part.as_str(), file.size)?;
         SystemFiles.rename(part.as_str(), path.as_str())?;
         opened(folder)?.sync_all()
+    }
+}
+
+/// Looks whether a plain file of this size has the path of a file whose part is gone.
+fn find_published(path: &str, size: u64) -> io::Result<()> {
+    let found = SystemFiles.symlink_metadata(path)?;
+    if found.is_file() && found.len() == size {
+        Ok(())
+    } else {
+        Err(io::Error::from(ErrorKind::NotFound))
     }
 }
 

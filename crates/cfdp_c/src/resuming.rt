@@ -98,15 +98,11 @@ impl Held {
         let place = journal_place(alloc, paths.journal, inbox)?;
         let entity = config.get().entity;
         let found = found_at(alloc, &place, &entity)?;
-        folder.clear(alloc, inbox, &found.survey.part_names()?);
-        held_over(
-            alloc,
-            config,
-            (outbox, inbox),
-            folder,
-            (place, found),
-            every,
-        )
+        let kept = found.survey.part_names()?;
+        let (folders, journal) = ((outbox, inbox), (place, found));
+        let held = held_over(alloc, config, folders, folder, journal, every)?;
+        held.clears(alloc, inbox, &kept);
+        Ok(held)
     }
 }
 

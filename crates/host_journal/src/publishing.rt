@@ -40,7 +40,7 @@ pub fn publish_again(rt: &HostRuntime, survey: &mut Survey, rules: PublishRules<
     transfer_journal::publish_again(&InboxFolder { rt, rules }, survey);
 }
 
-/// Publishes a file, unless its part has its name already.
+/// Publishes a file, unless its part is gone and a file of its size has its name.
 fn try_to_publish(
     rt: &HostRuntime,
     id: TransactionId,
@@ -62,13 +62,25 @@ fn try_to_publish(
     match fs::symlink_metadata(rt, part.as_str()) {
         Ok(found) if found.is_file() => {}
         Ok(_) => return Err(io::Error::from(ErrorKind::InvalidInput)),
-        // It was renamed before the station was killed.
-        Err(error) if error.kind() == ErrorKind::NotFound => return Ok(()),
+        // It was renamed before the station was killed, or removed since it couldn't be.
+        Err(error) if error.kind() == ErrorKind::NotFound => {
+            return find_published(rt, path.as_str(), file.size);
+        }
         Err(error) => return Err(error),
     }
     cut(rt, part.as_str(), file.size)?;
     name_part(rt, part.as_str(), path.as_str(), rules.replaces)?;
     File::open(rt, folder_of(path.as_str()))?.sync_all()
+}
+
+/// Looks whether a plain file of this size has the path of a file whose part is gone.
+fn find_published(rt: &HostRuntime, path: &str, size: u64) -> io::Result<()> {
+    let found = fs::symlink_metadata(rt, path)?;
+    if found.is_file() && found.len() == size {
+        Ok(())
+    } else {
+        Err(io::Error::from(ErrorKind::NotFound))
+    }
 }
 
 /// Cuts a part to the size of its file.

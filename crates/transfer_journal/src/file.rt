@@ -4,7 +4,7 @@ ghost use Rattle.std.specs.Prelude.{◌≡◌, ◌+◌, ◌<◌, ◌≤◌, leng
 use crate::place::{JournalError, JournalPlace};
 use batches::{HEAD_LEN, first_batch};
 use journal_records::{JournalRecord, batch_of};
-use std::alloc::Global;
+use std::alloc::{AllocError, Global};
 use std::fs::OpenFile;
 use std::io;
 use std::io::{ErrorKind, Read, Write};
@@ -17,6 +17,33 @@ const MOST_OCTETS: u64 = 1 << 28;
 pub struct JournalFile<F: Write + OpenFile + Drop> {
     file: F,
     len: u64,
+}
+
+/// Why a new journal can't be begun.
+#[derive(Drop)]
+pub enum BeginError {
+    /// What was there stays so.
+    Unchanged(JournalError),
+    /// It has its name, but the device may not keep that. What was there isn't written any more.
+    Unsynced(io::Error),
+}
+
+impl From<JournalError> for BeginError {
+    fn from(error: JournalError) -> BeginError {
+        BeginError::Unchanged(error)
+    }
+}
+
+impl From<io::Error> for BeginError {
+    fn from(error: io::Error) -> BeginError {
+        BeginError::Unchanged(JournalError::System(error))
+    }
+}
+
+impl From<AllocError> for BeginError {
+    fn from(error: AllocError) -> BeginError {
+        BeginError::Unchanged(JournalError::from(error))
+    }
 }
 
 /// Returns what the file of a journal has; `None` if there is none.
@@ -57,13 +84,13 @@ pub fn set_aside<P: JournalPlace>(alloc: Global, place: &P) -> io::Result<()> {
 ///
 /// # Errors
 ///
-/// `InUse` if another process writes it; `System` with what the system says, or with `FileTooLarge`
-/// if it would have more than 2^28 octets. What was there stays so.
+/// `Unchanged` with `InUse` if another process writes it, with what the system says, or with
+/// `FileTooLarge` if it would have more than 2^28 octets; `Unsynced` with what the system says.
 pub fn begin<P: JournalPlace>(
     alloc: Global,
     place: &P,
     records: &[JournalRecord],
-) -> Result<JournalFile<P::File>, JournalError> {
+) -> Result<JournalFile<P::File>, BeginError> {
     let path = place.path();
     let part = format!(in alloc; "{path}.new")?;
     let batch = batch_of(alloc, records)?;
@@ -72,9 +99,12 @@ pub fn begin<P: JournalPlace>(
     let mut file = place.make(part.as_str())?;
     file.write_all(batch.as_slice())?;
     file.sync_all()?;
+    let folder = place.open(folder_of(path))?;
     place.rename(part.as_str(), path)?;
-    sync_folder(place)?;
-    Ok(JournalFile { file, len })
+    match folder.sync_all() {
+        Ok(()) => Ok(JournalFile { file, len }),
+        Err(error) => Err(BeginError::Unsynced(error)),
+    }
 }
 
 impl<F: Write + OpenFile + Drop> JournalFile<F> {

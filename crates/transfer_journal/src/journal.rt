@@ -5,7 +5,7 @@ ghost use Rattle.std.specs.Option.{option_to_list};
 ghost use Rattle.transfer_journal.specs.Pending.{pending_by};
 
 use crate::facts::{note_facts, note_progress, push_some};
-use crate::file::{JournalFile, begin, remove};
+use crate::file::{BeginError, JournalFile, begin, remove};
 use crate::noted::Noted;
 use crate::place::{JournalError, JournalPlace};
 use crate::ranges::lacks_some;
@@ -111,7 +111,8 @@ impl<P: JournalPlace> TransferJournal<P> {
     }
 
     /// Writes all that the station has as a new journal. If that fails, the one before it goes on,
-    /// if this run wrote one. One of an earlier run is removed: it says what isn't so any more.
+    /// if this run wrote one and the new one didn't take its place. Otherwise what is there is
+    /// removed: it says what isn't so any more.
     ///
     /// `pending` are ends that the user heard beside the station, or hears from elsewhere: if the
     /// station is killed, the user may not have heard them.
@@ -121,13 +122,17 @@ impl<P: JournalPlace> TransferJournal<P> {
             return;
         };
         match begun(self.alloc, &self.place, &self.setup, station, pending) {
-            Ok(writing) => *slot = Some(writing),
-            Err(error) => {
+            Ok(writing) => {
+                *slot = Some(writing);
+                self.is_stuck.set(false);
+            }
+            Err(BeginError::Unsynced(error)) => {
+                *slot = None;
+                self.gives_up(error.kind());
+            }
+            Err(BeginError::Unchanged(error)) => {
                 if slot.is_none() {
-                    self.fault.set(Some(error.kind()));
-                    if remove(&self.place).is_err() {
-                        self.is_stuck.set(true);
-                    }
+                    self.gives_up(error.kind());
                 }
             }
         }
@@ -137,13 +142,18 @@ impl<P: JournalPlace> TransferJournal<P> {
     ///
     /// # Errors
     ///
-    /// Why it can't be written. The journal of an earlier run stays then, and this one isn't begun.
+    /// Why it can't be written. It isn't begun then: the journal of an earlier run stays, or the new
+    /// one, which says the same.
     pub fn starts<O: Outbox, I: Inbox>(
         &self,
         station: &Station<O, I>,
         pending: &[Indication],
     ) -> Result<(), JournalError> {
-        let writing = begun(self.alloc, &self.place, &self.setup, station, pending)?;
+        let writing = match begun(self.alloc, &self.place, &self.setup, station, pending) {
+            Ok(writing) => writing,
+            Err(BeginError::Unchanged(error)) => return Err(error),
+            Err(BeginError::Unsynced(error)) => return Err(JournalError::System(error)),
+        };
         self.tried.set(self.place.now());
         if let Ok(mut slot) = self.writing.try_borrow_mut() {
             *slot = Some(writing);
@@ -182,7 +192,7 @@ impl<P: JournalPlace> TransferJournal<P> {
         if let Some(writing) = slot.as_mut()
             && let Err(error) = intend(self.alloc, &self.place, &mut writing.file, id, name, size)
         {
-            self.gives_up(&error);
+            self.gives_up(error.kind());
             *slot = None;
         }
     }
@@ -213,7 +223,7 @@ impl<P: JournalPlace> TransferJournal<P> {
         if let Some(writing) = slot.as_mut()
             && let Err(error) = writing.commits(self.alloc, &self.place, station, is_due)
         {
-            self.gives_up(&error);
+            self.gives_up(error.kind());
             *slot = None;
         }
     }
@@ -259,9 +269,9 @@ impl<P: JournalPlace> TransferJournal<P> {
         }
     }
 
-    /// Removes the journal, since it can't be written.
-    fn gives_up(&self, error: &io::Error) {
-        self.fault.set(Some(error.kind()));
+    /// Removes the journal, since it can't be written for this cause.
+    fn gives_up(&self, cause: ErrorKind) {
+        self.fault.set(Some(cause));
         self.tried.set(self.place.now());
         if remove(&self.place).is_err() {
             self.is_stuck.set(true);
@@ -276,7 +286,7 @@ fn begun<P: JournalPlace, O: Outbox, I: Inbox>(
     setup: &JournalSetup,
     station: &Station<O, I>,
     pending: &[Indication],
-) -> Result<Writing<P::File>, JournalError> {
+) -> Result<Writing<P::File>, BeginError> {
     let mut noted = BTreeMap::new(alloc);
     let mut out = Vec::new(alloc);
     let told = station.indications_gone();

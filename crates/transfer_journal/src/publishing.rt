@@ -7,7 +7,8 @@ use std::io;
 
 /// The folder of an inbox, in which a file that came whole is published.
 pub trait Republisher {
-    /// Publishes the file of a transaction, unless its part has its name already.
+    /// Publishes the file of a transaction, unless its part is gone and a file of its size has its
+    /// name: it was published then.
     ///
     /// # Errors
     ///
