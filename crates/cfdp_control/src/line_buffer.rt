@@ -148,12 +148,20 @@ impl LineBuffer {
         }
     }
 
-    /// Drops what lies here.
+    /// Drops what lies here. If the beginning of a line is dropped, its rest is dropped as it comes.
     pub fn clear(&mut self)
         ensures none { self.new.octets.items ≡ [] }
         ensures all { came_to self.new ≡ came_to self.old }
     {
         self.gone.put_all(self.octets.as_slice());
+        if self
+            .octets
+            .as_slice()
+            .last()
+            .is_some_and(|octet| *octet != b'\n')
+        {
+            self.is_skipping = true;
+        }
         self.octets.clear();
     }
 }
