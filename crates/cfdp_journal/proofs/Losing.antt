@@ -81,14 +81,15 @@ ends_line came new old queue is_whole kept begun now cleared was is keeps takes 
 }
 
 pub tells_lost : (came : List ℕ) (old new : QueueState) (is_whole : Bool) (begun line : List ℕ)
-    → LogsLines came old is_whole begun → TellsLost line old new → SaysLost old.lost line → LogsLines came new is_whole begun
-tells_lost came old new is_whole begun line was tells says = record {
+    → LogsLines came old is_whole begun → TellsLost line old new → old.lost ≢ 0 → SaysLost old.lost line
+    → LogsLines came new is_whole begun
+tells_lost came old new is_whole begun line was tells some says = record {
   whole = was.whole;
   line = was.line;
   is = was.is;
   ends = was.ends;
   kept = was.kept;
-  logged = same_logged was.whole _ _ 0 _ (waits_more old new line tells.written tells.waits) tells.lost (Says was.whole (logged_by old) line old.lost was.logged says);
+  logged = same_logged was.whole _ _ 0 _ (waits_more old new line tells.written tells.waits) tells.lost (Says was.whole (logged_by old) line old.lost was.logged some says);
 }
 
 pub stays_logged : (came : List ℕ) (old new : QueueState) (is_whole : Bool) (begun : List ℕ)

@@ -1,5 +1,5 @@
 -- What becomes of the lines of a log that loses some.
-use Rattle.std.specs.Prelude.{◌≡◌, ◌≢◌, ◌++◌, ◌∷◌, ℕ, Bool, true, List, [], All, codes, decimal}
+use Rattle.std.specs.Prelude.{◌≡◌, ◌≢◌, ◌⊎◌, ◌++◌, ◌∷◌, ℕ, Bool, true, List, [], All, codes, decimal}
 use Rattle.cfdp_journal.specs.Journal.Totals.{counted}
 use Rattle.cfdp_journal.specs.Queue.{QueueState, logged_by}
 
@@ -7,9 +7,11 @@ use Rattle.cfdp_journal.specs.Queue.{QueueState, logged_by}
 abbrev pub HasNoEnd : List ℕ → Type 0
 HasNoEnd octets = All (λ octet. octet ≢ 10) octets
 
--- It says how many lines were lost.
+-- It ends by words that say how many lines were lost, in plain text or as the end of an object.
 abbrev pub SaysLost : (lost : ℕ) → List ℕ → Type 0
-SaysLost lost line = (front : List ℕ) × (behind : List ℕ) × (line ≡ front ++ decimal lost ++ behind)
+SaysLost lost line = (front : List ℕ)
+    × ((line ≡ front ++ decimal lost ++ (codes " lines of the log were lost" ++ 10 ∷ []))
+    ⊎ (line ≡ front ++ codes ",\"lines\":" ++ decimal lost ++ (codes "}" ++ 10 ∷ [])))
 
 -- What is logged of the lines that came, and how many were lost since the last one that says so.
 pub data IsLoggedAs : (came logged : List ℕ) → (lost : ℕ) → Type 0 where
@@ -21,9 +23,9 @@ pub data IsLoggedAs : (came logged : List ℕ) → (lost : ℕ) → Type 0 where
   -- A line came, and is lost and counted.
   Loses : (came logged line : List ℕ) (lost : ℕ) → IsLoggedAs came logged lost → HasNoEnd line
       → IsLoggedAs (came ++ line ++ 10 ∷ []) logged (counted true lost)
-  -- A line says how many were lost.
-  Says : (came logged line : List ℕ) (lost : ℕ) → IsLoggedAs came logged lost → SaysLost lost line
-      → IsLoggedAs came (logged ++ line) 0
+  -- Some were lost, and a line says how many.
+  Says : (came logged line : List ℕ) (lost : ℕ) → IsLoggedAs came logged lost → lost ≢ 0
+      → SaysLost lost line → IsLoggedAs came (logged ++ line) 0
 
 -- The octets that came are whole lines, which are logged so, and the beginning of one, of which all
 -- is kept or not.

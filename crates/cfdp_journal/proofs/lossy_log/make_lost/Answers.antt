@@ -1,4 +1,4 @@
-use Rattle.std.proofs.Common.{◌++◌, ◌∷◌, []}
+use Rattle.std.proofs.Common.{◌++◌, ◌∷◌, [], inl, inr}
 use Rattle.std.specs.Prelude.{codes, decimal}
 use Rattle.cfdp_journal.proofs.JournalLines.{ok-map}
 use Rattle.cfdp_journal.proofs.Losing.{written_after, written_between}
@@ -10,11 +10,11 @@ returns-in_ok-write-in-Json c =
     let front = codes ",\"lines\":" in
     let behind = codes "}" ++ 10 ∷ [] in
     ok-map c.end_object.result _ _
-    (λ ended. (old ++ front, behind, written_between old front (decimal c.args.lost) behind _ _ c.in_ok-write-in-Json.ensures.bytes ended))
+    (λ ended. (old, inr (written_between old front (decimal c.args.lost) behind _ _ c.in_ok-write-in-Json.ensures.bytes ended)))
     c.end_object.ensures
 
 pub returns-in_ok-add_time-in-Plain : goal.returns-in_ok-add_time-in-Plain
 returns-in_ok-add_time-in-Plain c =
     let front = c.add_time.new.line.items in
     let behind = codes " lines of the log were lost" ++ 10 ∷ [] in
-    ok-map c.writeln.result _ _ (λ written. (front, behind, written_after front (decimal c.args.lost) behind _ written)) c.writeln.ensures.bytes
+    ok-map c.writeln.result _ _ (λ written. (front, inl (written_after front (decimal c.args.lost) behind _ written))) c.writeln.ensures.bytes
