@@ -72,9 +72,9 @@ enum {
 
     /* cfdp_open_folders_journal, which may answer 12 to 14 too */
     CFDP_NO_JOURNAL = 16,        /* the journal can't be read, or none can be written there */
-    CFDP_JOURNAL_IN_USE = 17,    /* another process has it */
+    CFDP_JOURNAL_IN_USE = 17,    /* another station has it */
     CFDP_JOURNAL_OF_OTHERS = 18, /* it is of another entity, or with another peer */
-    CFDP_JOURNAL_MISPLACED = 19, /* it would lie in a folder that a station receives into */
+    CFDP_JOURNAL_MISPLACED = 19, /* it would lie in a folder that an open station receives into */
 
     /* cfdp_put: the first that holds, in the order 22, 24, 25, 26, 21, 23; then CFDP_NO_MEMORY */
     CFDP_NO_SUCH_FILE = 21,  /* the outbox has no file of that name */
@@ -320,13 +320,15 @@ cfdp_answer cfdp_open_folders(cfdp_station *station, const cfdp_config *config,
  * journal in a file. The journal's path is in UTF-8; the file needn't be there, its folder must be.
  * If it is the journal of an earlier run, however that ended, the transactions that were open go on
  * under their numbers, those that were over are refused, and numbers of puts go on after those of
- * the journal, unless first_number is greater. After each `every` units of time, at a tick, the
- * station notes how much of each file was sent and is held: so much of a file passes twice after a
- * kill. All else is on the device before a frame or an indication that rests on it is given out. A
- * damaged journal is renamed, with .damaged after its name, and nothing goes on. CFDP_OK,
- * CFDP_ALREADY_OPEN, 70 to 99 as cfdp_open, 12 to 14 as cfdp_open_folders, CFDP_NO_JOURNAL,
- * CFDP_JOURNAL_IN_USE, CFDP_JOURNAL_OF_OTHERS, CFDP_JOURNAL_MISPLACED or CFDP_NO_MEMORY; unless it
- * is CFDP_OK, what was noted stays, and may go on at the next try. */
+ * the journal, unless first_number is greater. After each `every` units of time, by the next call
+ * that notes something or a tick, the station notes how much of each file was sent and is held: so
+ * much of a file passes twice after a kill. All else is on the device before a frame or an
+ * indication that rests on it is given out. A damaged journal is renamed, with .damaged after its
+ * name, and nothing goes on. If a journal was lost, removed or damaged, give a first_number that
+ * was never used: only the journal knows which numbers were. CFDP_OK, CFDP_ALREADY_OPEN, 70 to 99
+ * as cfdp_open, 12 to 14 as cfdp_open_folders, CFDP_NO_JOURNAL, CFDP_JOURNAL_IN_USE,
+ * CFDP_JOURNAL_OF_OTHERS, CFDP_JOURNAL_MISPLACED or CFDP_NO_MEMORY; unless it is CFDP_OK, what was
+ * noted stays, and may go on at the next try. */
 cfdp_answer cfdp_open_folders_journal(cfdp_station *station, const cfdp_config *config,
                                       const void *outbox, size_t outbox_len, const void *inbox,
                                       size_t inbox_len, const void *journal, size_t journal_len,
@@ -678,8 +680,8 @@ cfdp_answer cfdp_journal_state(const cfdp_station *station, cfdp_journal_info *o
 
 /* Gives the next end of a transaction, of kind CFDP_FINISHED or CFDP_ABANDONED, that the program
  * may not have heard before an earlier run ended, and doesn't give it again before the next
- * opening: after cfdp_forget of its transaction never again. CFDP_OK, CFDP_CLOSED, or CFDP_NOTHING
- * if there are no more. */
+ * opening: after cfdp_forget of its transaction and two ticks never again. CFDP_OK, CFDP_CLOSED, or
+ * CFDP_NOTHING if there are no more. */
 cfdp_answer cfdp_next_unheard(cfdp_station *station, cfdp_indication *out);
 
 /* ---- The published files, if they are in memory; if a station has folders, these calls answer
@@ -792,7 +794,7 @@ static inline const char *cfdp_answer_text(cfdp_answer answer)
     case CFDP_INBOX_IN_USE: text = "another station already receives into that folder"; break;
     case CFDP_SOURCE_IN_USE: text = "a transaction is still sending the file"; break;
     case CFDP_NO_JOURNAL: text = "cannot read or write the journal"; break;
-    case CFDP_JOURNAL_IN_USE: text = "another process has the journal"; break;
+    case CFDP_JOURNAL_IN_USE: text = "another station has the journal"; break;
     case CFDP_JOURNAL_OF_OTHERS: text = "the journal is of another entity or peer"; break;
     case CFDP_JOURNAL_MISPLACED: text = "the journal must not lie in an inbox"; break;
     case CFDP_NAME_TAKEN: text = "a file of that name already exists"; break;

@@ -239,7 +239,7 @@ impl fmt::Display for Error {
             Error::NoInbox => "cannot use the folder to receive into",
             Error::InboxInUse => "another station already receives into that folder",
             Error::NoJournal => "cannot read or write the journal",
-            Error::JournalInUse => "another process has the journal",
+            Error::JournalInUse => "another station has the journal",
             Error::JournalOfOthers => "the journal is of another entity or peer",
             Error::JournalMisplaced => "the journal must not lie in an inbox",
             Error::SourceInUse => "a transaction is still sending the file",

@@ -46,7 +46,7 @@ impl Station {
     /// # Errors
     ///
     /// As [`open_folders`](Station::open_folders); `NoJournal` if the journal can't be read, or
-    /// none can be written there; `JournalInUse` if another process has it; `JournalOfOthers` if it
+    /// none can be written there; `JournalInUse` if another station has it; `JournalOfOthers` if it
     /// is of another entity or peer; `JournalMisplaced` if it would lie in a folder that a station
     /// receives into. What was noted stays then.
     pub fn open_journal(
@@ -86,7 +86,7 @@ impl Station {
 
     /// Returns the next end of a transaction, `Finished` or `Abandoned`, that the program may not
     /// have heard before an earlier run ended; `None` if there are no more. Once its transaction is
-    /// forgotten, no later opening gives it again.
+    /// forgotten and two ticks have passed, no later opening gives it again.
     ///
     /// # Errors
     ///
