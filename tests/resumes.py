@@ -618,6 +618,28 @@ def flag_mistakes(program):
         yield from pair.mistakes()
 
 
+def rejected_mistakes(program):
+    """What is wrong where a file can't be published, since a folder has its name, and the receiver
+    is killed before it notes that: neither station may report that it lies there."""
+    with Link(program, Relay()) as link:
+        pair, spool = Pair(link), Spool(link)
+        os.mkdir(f"{spool.inbox}/a")
+        pair.drops({"a": bytes(2 * SEGMENT)})
+        it = pair.starts(2, faults="order after=unlink:1:.part-")
+        pair.starts(1)
+        if not waits_for(lambda: it.process.poll() is not None):
+            yield "it wasn't killed"
+            return
+        pair.ended(2, it.ended()[1])
+        pair.starts(2)
+        if not waits_for(lambda: "finished" in pair.running[1].text("stdout")):
+            yield "the sender isn't told how it ended"
+        for own in (1, 2):
+            told = pair.running[own].text("stdout")
+            if "retained" in told:
+                yield f"station {own} reported {told!r}"
+
+
 def stale_mistakes(program):
     """What is wrong where a start can write no journal: the one of the run before is removed, since
     it says what isn't so any more, and what went on goes on."""
@@ -749,6 +771,7 @@ def all_mistakes(program):
     yield "a journal that can't grow and can't be removed", stuck_mistakes(program)
     yield "a journal that a start can't write", stale_mistakes(program)
     yield "a journal, and a large file flag that comes late", flag_mistakes(program)
+    yield "a journal, and a file that can't be published", rejected_mistakes(program)
     yield "a cancellation that the journal doesn't have yet", cancel_mistakes(program)
     left = "after=rename:1:.leaving/a"
     yield "a journal, and a file that changes before it goes on", changed_mistakes(program, "")
