@@ -1,11 +1,5 @@
 //! Where the operator of a station stands: the lines of commands, the console, and the log.
-ghost use Rattle.std.specs.Prelude.{◌≡◌, [], IfOk, IfSome};
-ghost use Rattle.cfdp_operator.specs.Commanded.{Asks, AsksFor, Commands, HearsLine, named, octets_of};
-ghost use Rattle.cfdp_operator.specs.Commanded.{wanted_by};
-ghost use Rattle.cfdp_service.specs.Calls.{Gives};
-
 use crate::refusals::{FileLimits, Refusing, put_fault, sendable_names};
-use crate::said::Said;
 use crate::teller::Teller;
 use crate::unit::unit_word;
 use cfdp_command_line::TimeUnit;
@@ -26,11 +20,9 @@ use cfdp_station::{Phase, Request, Station};
 use cfdp_store::{Inbox, NameRule, Outbox};
 use cfdp_watch::Progress;
 use host_journal::TransferJournal;
-use past::Past;
 use std::alloc::AllocError;
 use std::fmt;
 use std::io::Write;
-use std::marker::Model;
 
 /// The most lines that are answered before one turn.
 const MOST_LINES: u32 = 64;
@@ -80,16 +72,6 @@ pub struct OperatorConsole<'a> {
     refusing: Refusing,
     // Whether a file waits for which no number was reserved.
     wants_number: bool,
-    // All that was said, in its order. Only clauses see it.
-    heard: Past<Said>,
-}
-
-impl<'a> Model for OperatorConsole<'a> {
-    ghost use Rattle.cfdp_operator.specs.Commanded.{ConsoleState};
-
-    ghost Value = { ConsoleState };
-
-    ghost view = { λ c. record { heard = c.heard; names = c.post.names } };
 }
 
 impl<'a> OperatorConsole<'a> {
@@ -99,10 +81,7 @@ impl<'a> OperatorConsole<'a> {
         post: OperatorPost<'a>,
         exchange: &'a Exchange,
         progress: &'a Progress<'a>,
-    ) -> Self
-        ensures heard { result.heard ≡ [] }
-        ensures names { result.names ≡ post.entry.names }
-    {
+    ) -> Self {
         OperatorConsole {
             rt,
             post,
@@ -111,7 +90,6 @@ impl<'a> OperatorConsole<'a> {
             asker: None,
             refusing: Refusing::NONE,
             wants_number: false,
-            heard: Past::new(),
         }
     }
 
@@ -131,71 +109,34 @@ impl<'a> OperatorConsole<'a> {
         journal.into_writer()
     }
 
-    /// Takes the next line, and by whom it was sent; what is no line counts as not said.
-    fn next_line(&mut self) -> Option<(Speaker, Result<Said, LineFault>)>
-        ensures { HearsLine self.old result self.new }
-    {
-        let (speaker, line) = self.post.sources.next_line()?;
-        match line {
-            Ok(text) => {
-                let said = Said::Line(text);
-                self.heard.put(&said);
-                Some((speaker, Ok(said)))
-            }
-            Err(fault) => Some((speaker, Err(fault))),
-        }
-    }
-
-    /// Answers the lines that came, up to the first that is a command, which it gives.
-    fn line_command<O: Outbox, I: Inbox>(
-        &mut self,
-        station: &Station<O, I>,
-        waiting: usize,
-    ) -> Option<Command>
-        ensures { Commands self.old (Gives result) self.new }
-    {
-        for _line in 0..MOST_LINES {
-            let (speaker, line) = self.next_line()?;
-            if let Some(command) = self.takes(speaker, &line, station, waiting) {
-                return Some(command);
-            }
-        }
-        None
-    }
-
     /// Answers a line, and gives the command that it is, if it is one.
     fn takes<O: Outbox, I: Inbox>(
         &mut self,
         speaker: Speaker,
-        line: &Result<Said, LineFault>,
+        line: Result<String, LineFault>,
         station: &Station<O, I>,
         waiting: usize,
-    ) -> Option<Command>
-        ensures same { self.new ≡ self.old }
-        ensures asked { IfSome result (λ command. AsksFor self.old.names line.now command) }
-    {
-        match line {
-            Ok(said) => self.obeys(speaker, said, station, waiting),
+    ) -> Option<Command> {
+        let line = match line {
+            Ok(line) => line,
             Err(fault) => {
-                self.refuses(speaker, fault);
-                None
+                self.refuses(speaker, &fault);
+                return None;
             }
-        }
+        };
+        self.obeys(speaker, line.as_bytes(), station, waiting)
     }
 
-    /// Answers what was said, and gives the command that it is, if it is one that changes what the
-    /// station does.
+    /// Answers a line, or a command of the console, and gives the command that it is, if it is one
+    /// that changes what the station does.
     fn obeys<O: Outbox, I: Inbox>(
         &mut self,
         speaker: Speaker,
-        said: &Said,
+        line: &[u8],
         station: &Station<O, I>,
         waiting: usize,
-    ) -> Option<Command>
-        ensures same { self.new ≡ self.old }
-        ensures asked { IfSome result (λ command. Asks self.old.names (octets_of said.now) command) }
-    {
-        let (is_json, line) = split_form(said.octets());
+    ) -> Option<Command> {
+        let (is_json, line) = split_form(line);
         let form = if is_json { Form::Json } else { self.post.form };
         match parse_command(self.rt.alloc(), line) {
             Ok(Asked::Command(command)) => self.commanded(speaker, command),
@@ -215,11 +156,7 @@ impl<'a> OperatorConsole<'a> {
     }
 
     /// Accepts a command, unless it is a put of a file that can't be sent.
-    fn commanded(&mut self, speaker: Speaker, command: Command) -> Option<Command>
-        ensures same { self.new ≡ self.old }
-        ensures given { IfSome result (λ given. wanted_by given
-            ≡ named self.old.names (wanted_by command)) }
-    {
+    fn commanded(&mut self, speaker: Speaker, command: Command) -> Option<Command> {
         let Ok(command) = self.named(command) else {
             self.refuses(speaker, &"out of memory");
             return None;
@@ -236,10 +173,7 @@ impl<'a> OperatorConsole<'a> {
 
     /// Returns a command with the names that its words stand for: if files may have any names, the
     /// words are names as they are printed, otherwise the names themselves.
-    fn named(&self, command: Command) -> Result<Command, AllocError>
-        ensures { IfOk result (λ given. wanted_by given
-            ≡ named self.now.names (wanted_by command)) }
-    {
+    fn named(&self, command: Command) -> Result<Command, AllocError> {
         match (command, self.post.names) {
             (Command::Put { names, is_first }, NameRule::Any) => Ok(Command::Put {
                 names: printed_names(self.rt.alloc(), &names)?,
@@ -249,33 +183,20 @@ impl<'a> OperatorConsole<'a> {
         }
     }
 
-    /// Takes what the console is asked next, and by whom, after the board has noted what happened.
-    fn next_ask<O: Outbox, I: Inbox>(&mut self, station: &Station<O, I>) -> Option<(Speaker, Ask)>
-        ensures { self.new ≡ self.old }
-    {
-        let now = self.post.sources.now();
-        let pdus = self.post.pdus.take();
-        let board = self.post.board.as_mut()?;
-        board.notes_frames(now);
-        board.notes_pdus(pdus.as_slice(), station);
-        self.post.sources.next_ask()
-    }
-
     /// Does what the console is asked next, and gives the command that it is, if it is one.
     fn serves_console<O: Outbox, I: Inbox>(
         &mut self,
         station: &Station<O, I>,
         waiting: usize,
-    ) -> Option<Command>
-        ensures { Commands self.old (Gives result) self.new }
-    {
-        let (speaker, ask) = self.next_ask(station)?;
+    ) -> Option<Command> {
+        let now = self.post.sources.now();
+        let pdus = self.post.pdus.take();
+        let board = self.post.board.as_mut()?;
+        board.notes_frames(now);
+        board.notes_pdus(pdus.as_slice(), station);
+        let (speaker, ask) = self.post.sources.next_ask()?;
         match ask {
-            Ask::Command(line) => {
-                let said = Said::Pressed(line);
-                self.heard.put(&said);
-                self.obeys(speaker, &said, station, waiting)
-            }
+            Ask::Command(line) => self.obeys(speaker, line.as_slice(), station, waiting),
             Ask::Look(look) => {
                 let answer = self.shows(&look, station, waiting);
                 self.post.sources.shows(speaker, answer);
@@ -360,9 +281,7 @@ impl<'a> OperatorConsole<'a> {
     }
 
     /// Answers a command: the change of a transaction once it is made, any other at once.
-    fn accepts(&mut self, speaker: Speaker, command: &Command)
-        ensures { self.new ≡ self.old }
-    {
+    fn accepts(&mut self, speaker: Speaker, command: &Command) {
         match command {
             Command::Change(_, request) => {
                 self.asker = Some((speaker, matches!(request, Request::Suspend)));
@@ -379,9 +298,7 @@ impl<'a> OperatorConsole<'a> {
         form: Form,
         station: &Station<O, I>,
         waiting: usize,
-    )
-        ensures { self.new ≡ self.old }
-    {
+    ) {
         match asked {
             Asked::Freeze => self.exchange.is_frozen.set(true),
             Asked::Thaw => self.exchange.is_frozen.set(false),
@@ -396,9 +313,7 @@ impl<'a> OperatorConsole<'a> {
 
     /// Reads the file of keys again, and has the wire change to its keys in the next turn. If they
     /// can't be read, the keys stay as they are.
-    fn rekeys(&mut self, speaker: Speaker)
-        ensures { self.new ≡ self.old }
-    {
+    fn rekeys(&mut self, speaker: Speaker) {
         let Some(path) = self.post.keys else {
             self.refuses(speaker, &"this station has no --keys");
             return;
@@ -415,9 +330,7 @@ impl<'a> OperatorConsole<'a> {
     }
 
     /// Answers why the keys at this path can't be read.
-    fn refuses_keys(&mut self, speaker: Speaker, path: &str, error: &SecretError)
-        ensures { self.new ≡ self.old }
-    {
+    fn refuses_keys(&mut self, speaker: Speaker, path: &str, error: &SecretError) {
         match format!(in self.rt.alloc(); "{path}: {error}") {
             Ok(why) => self.refuses(speaker, &why),
             Err(AllocError) => self.refuses(speaker, &"out of memory"),
@@ -445,18 +358,14 @@ impl<'a> OperatorConsole<'a> {
     }
 
     /// Answers that it is done, after these lines.
-    fn is_done(&mut self, speaker: Speaker, lines: &str)
-        ensures { self.new ≡ self.old }
-    {
+    fn is_done(&mut self, speaker: Speaker, lines: &str) {
         if let Some(text) = self.post.sources.done(speaker, lines) {
             self.says(text.as_str());
         }
     }
 
     /// Answers that a transaction is suspended, and after how long the peer gives it up.
-    fn is_suspended(&mut self, speaker: Speaker)
-        ensures { self.new ≡ self.old }
-    {
+    fn is_suspended(&mut self, speaker: Speaker) {
         let (inactivity, unit) = (self.post.inactivity, unit_word(self.post.unit));
         let text = format!(in self.rt.alloc();
             "the peer gives the transaction up after {inactivity} {unit}, as inactivity_time says, \
@@ -469,9 +378,7 @@ impl<'a> OperatorConsole<'a> {
     }
 
     /// Gives the log and the counters the notes since the last time.
-    fn takes_notes(&mut self)
-        ensures { self.new ≡ self.old }
-    {
+    fn takes_notes(&mut self) {
         let second = self.post.sources.now() / SECOND;
         let notes = self.exchange.notes.take();
         for note in notes.iter() {
@@ -480,9 +387,7 @@ impl<'a> OperatorConsole<'a> {
     }
 
     /// Says which file was refused, and why, if an indication ends one that was.
-    fn tells_refusal(&mut self, indication: &Indication)
-        ensures { self.new ≡ self.old }
-    {
+    fn tells_refusal(&mut self, indication: &Indication) {
         let Some(id) = self.refusing.ends(self.post.journal.own(), indication) else {
             return;
         };
@@ -501,9 +406,7 @@ impl<'a> OperatorConsole<'a> {
     }
 
     /// Notes on the board that a put was accepted.
-    fn notes_put(&mut self, id: TransactionId, names: &PutNames)
-        ensures { self.new ≡ self.old }
-    {
+    fn notes_put(&mut self, id: TransactionId, names: &PutNames) {
         let size = self.post.journal.size(id);
         if let Some(board) = &mut self.post.board {
             board.put_accepted(id, names, size);
@@ -560,31 +463,8 @@ impl<'a> OperatorConsole<'a> {
         }
     }
 
-    /// Whether the journal can't be written any more by which transfers go on.
-    fn is_stuck(&self) -> bool {
-        self.post
-            .transfers
-            .is_some_and(|journal| journal.is_stuck())
-    }
-
-    /// Gives the log what happened, and has the station know for what it may wait, until the next
-    /// command is looked for.
-    fn rests<O: Outbox, I: Inbox>(&mut self, station: &Station<O, I>)
-        ensures { self.new ≡ self.old }
-    {
-        self.takes_notes();
-        self.shows_sending(station);
-        self.post.journal.looks_at(station);
-        let mut watched = self.post.sources.watched();
-        self.post.journal.writer().inner().watches(&mut watched);
-        self.exchange.watched.set(watched);
-        self.wants_number = false;
-    }
-
     /// Answers why nothing was done.
-    fn refuses<D: fmt::Display>(&mut self, speaker: Speaker, why: &D)
-        ensures { self.new ≡ self.old }
-    {
+    fn refuses<D: fmt::Display>(&mut self, speaker: Speaker, why: &D) {
         if let Some(text) = self.post.sources.refused(speaker, why) {
             self.says(text.as_str());
         }
@@ -592,9 +472,7 @@ impl<'a> OperatorConsole<'a> {
 
     /// Answers a line of standard input on standard output, which nobody waits for: an answer waits
     /// and is lost as lines of the log are.
-    fn says(&mut self, text: &str)
-        ensures { self.new ≡ self.old }
-    {
+    fn says(&mut self, text: &str) {
         self.progress.yields();
         let out = self.post.journal.writer_mut();
         let _ = out.says(text.as_bytes());
@@ -603,23 +481,36 @@ impl<'a> OperatorConsole<'a> {
 }
 
 impl Console for OperatorConsole<'_> {
-    ghost steps = { λ old call new. Commands old call new };
-
     fn next<O: Outbox, I: Inbox>(
         &mut self,
         station: &Station<O, I>,
         waiting: usize,
     ) -> Option<Command> {
-        if let Some(command) = self.line_command(station, waiting) {
-            return Some(command);
+        for _line in 0..MOST_LINES {
+            let Some((speaker, line)) = self.post.sources.next_line() else {
+                break;
+            };
+            if let Some(command) = self.takes(speaker, line, station, waiting) {
+                return Some(command);
+            }
         }
         if let Some(command) = self.serves_console(station, waiting) {
             return Some(command);
         }
-        if self.is_stuck() {
+        if self
+            .post
+            .transfers
+            .is_some_and(|journal| journal.is_stuck())
+        {
             return Some(Command::StopNow);
         }
-        self.rests(station);
+        self.takes_notes();
+        self.shows_sending(station);
+        self.post.journal.looks_at(station);
+        let mut watched = self.post.sources.watched();
+        self.post.journal.writer().inner().watches(&mut watched);
+        self.exchange.watched.set(watched);
+        self.wants_number = false;
         None
     }
 
