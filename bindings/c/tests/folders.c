@@ -324,8 +324,8 @@ static void goes_on(cfdp_station *one, cfdp_station *two)
     IS(is_file("in2/behind", 1, 2), 1);
 }
 
-/* A link in the place of a part file that isn't open any more: its file fails, those beside it don't,
- * and nothing is written behind the link. A station keeps 16 part files open. */
+/* A link in the place of a part file that isn't open any more: its file fails, those beside it
+ * don't, and nothing is written behind the link. A station keeps 16 part files open. */
 static void link_refused(cfdp_station *one, cfdp_station *two)
 {
     enum { FILES = 17, LEN = 4000, KIND = 20 };
