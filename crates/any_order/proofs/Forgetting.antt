@@ -10,8 +10,8 @@ use Rattle.cfdp_header.specs.declared.value.TransactionId.{TransactionId}
 use Rattle.cfdp_header.proofs.Ids.{id_total}
 use Rattle.cfdp_extents.specs.Offsets.{is_within, range, union_of}
 use Rattle.cfdp_extents.proofs.CallerLemmas.{contains-more, contains-range}
-use Rattle.cfdp_forgotten.specs.Forgotten.{IdSet, NumberSet, below_greatest, greatest_number, ids_in, ids_of, is_of}
-use Rattle.cfdp_forgotten.proofs.Sets.{contains-ids, ids-none}
+use Rattle.cfdp_extents.specs.Forgotten.{IdSet, NumberSet, below_greatest, greatest_number, ids_in, ids_of, is_of}
+use Rattle.cfdp_extents.proofs.Sets.{contains-ids, ids-none}
 use Rattle.cfdp_entity.specs.Entity.{EntityState, is_forgotten}
 use Rattle.cfdp_entity.specs.Restoring.{with_forgotten}
 use Rattle.any_order.specs.Restoring.{ForgetsMore, ForgetsOnly}

@@ -34,7 +34,7 @@ use cfdp_header::TransactionId;
 use cfdp_station::{
     Inbox, Lane, Polled, PutError, RequestError, Station, StationConfig, SteadyOutbox,
 };
-use past::Past;
+use ghost_list::GhostList;
 use std::alloc::{AllocError, Global};
 use std::marker::Model;
 use std::mem;
@@ -48,7 +48,7 @@ pub(crate) struct OneEnd<O: SteadyOutbox, I: Inbox> {
     before: Vec<LifeFrames>,
     latest: LifeFrames,
     // the station as each of its lives before ended
-    ended: Past<Snapshot<Station<O, I>>>,
+    ended: GhostList<Snapshot<Station<O, I>>>,
     // the number of the frame of each lane that it took last in this life
     last_directives: Option<u64>,
     last_data: Option<u64>,
@@ -294,7 +294,7 @@ fn close(
 
 /// Notes the station as it is when one of its lives ends.
 fn note_end<O: SteadyOutbox, I: Inbox>(
-    ended: &mut Past<Snapshot<Station<O, I>>>,
+    ended: &mut GhostList<Snapshot<Station<O, I>>>,
     station: &Station<O, I>,
 )
     ensures { flat_map (λ s. s.value.entity.state.table.told) ended.new
@@ -320,7 +320,7 @@ impl<O: SteadyOutbox, I: Inbox> OneEnd<O, I> {
             station,
             before: Vec::new(alloc),
             latest: LifeFrames::new(alloc, 0),
-            ended: Past::new(),
+            ended: GhostList::new(),
             last_directives: None,
             last_data: None,
             next,

@@ -13,7 +13,7 @@ ghost use Rattle.any_order.specs.Restoring.{RestoresKept, goes_on_after};
 
 use cfdp_directives::Octets;
 use cfdp_entity::{CommittedReceiver, CommittedSender, Extents, Record, RestoreError};
-use cfdp_forgotten::Numbers;
+use cfdp_extents::Numbers;
 use cfdp_header::TransactionId;
 use cfdp_receiver::{FileInfo, Receiver};
 use cfdp_sender::{Sender, SenderPhase, Transfer};

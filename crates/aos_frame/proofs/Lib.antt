@@ -1,1 +1,5 @@
 pub mod Spelling
+pub mod RoundTrip
+mod Intact
+mod Bare
+mod Placed

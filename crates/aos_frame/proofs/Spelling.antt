@@ -5,10 +5,10 @@ use Rattle.std.proofs.lemmas.List.{drop_at}
 use Rattle.cfd_bits.specs.Field.{field, octets}
 use Rattle.cfd_bits.proofs.Fields.{length-octets, field_between}
 use Rattle.cfd_bits.proofs.BitFields.{field_of_octets, field-take}
-use Rattle.frame_fields.specs.declared.config.FrameFields.{FrameFields}
-use Rattle.frame_fields.specs.declared.opening.FieldsFault.TheVariants.{Short, Damaged}
-use Rattle.frame_fields.specs.Fields.{behind_insert, extra, is_intact, mpdu_in, mpdu_len, no_fields, sealed}
-use Rattle.frame_fields.proofs.RoundTrip.{opens_sealed}
+use Rattle.aos_frame.specs.declared.fields.FrameFields.{FrameFields}
+use Rattle.aos_frame.specs.declared.opening.FieldsFault.TheVariants.{Short, Damaged}
+use Rattle.aos_frame.specs.LinkFields.{behind_insert, extra, is_intact, mpdu_in, mpdu_len, no_fields, sealed}
+use Rattle.aos_frame.proofs.RoundTrip.{opens_sealed}
 use Rattle.aos_frame.specs.declared.header.FrameHeader.{FrameHeader}
 use Rattle.aos_frame.specs.declared.config.ChannelConfig.{ChannelConfig}
 use Rattle.aos_frame.specs.Counts.{short_counts, counts_of}

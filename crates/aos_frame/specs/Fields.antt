@@ -1,6 +1,6 @@
 -- What each field of a link, or of one of its channels, must be.
 use Rattle.std.specs.Prelude.{◌≢◌, ◌<◌, ◌≤◌}
-use Rattle.frame_fields.specs.Fields.{AreFields}
+use Rattle.aos_frame.specs.LinkFields.{AreFields}
 use Rattle.aos_frame.specs.Frame.{idle_channel}
 use Rattle.aos_frame.specs.declared.config.ChannelConfig.{ChannelConfig}
 use Rattle.aos_frame.specs.declared.config.LinkConfig.{LinkConfig}

@@ -2,7 +2,7 @@
 -- wrong with octets that are none (CCSDS 732.0-B-4, 4.1).
 use Rattle.std.specs.Prelude.{◌≡◌, ◌≢◌, ℕ, ◌+◌, ◌*◌, ◌/◌, ◌%◌, ◌<◌, ◌≤◌, Bool, true, false, List, ◌++◌, codes, length, Option, Some, None, ◌==◌, ◌&&◌, not, if◌then◌else◌}
 use Rattle.cfd_bits.specs.Field.{field, octets}
-use Rattle.frame_fields.specs.Fields.{AreFields, extra, is_intact, no_fields}
+use Rattle.aos_frame.specs.LinkFields.{AreFields, extra, is_intact, no_fields}
 use Rattle.aos_frame.specs.Counts.{short_counts, counts_of}
 use Rattle.aos_frame.specs.declared.count.SeenCount.{SeenCount}
 use Rattle.aos_frame.specs.declared.header.FrameHeader.{FrameHeader}

@@ -1,3 +1,4 @@
 pub mod Counts
 pub mod Frame
 pub mod Fields
+pub mod LinkFields

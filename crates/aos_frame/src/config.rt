@@ -3,9 +3,9 @@ ghost use Rattle.std.specs.Prelude.{◌≡◌};
 ghost use Rattle.aos_frame.specs.Frame.{IsChannel, IsLink, frame_len, lane_channel, other_lane};
 ghost use Rattle.aos_frame.specs.Fields.{FitsChannel, FitsLink};
 
-use crate::header::IDLE_CHANNEL;
-use crate::{HEADER_LEN, MPDU_HEADER_LEN};
-use frame_fields::FrameFields;
+use crate::MPDU_HEADER_LEN;
+use crate::fields::FrameFields;
+use crate::header::{HEADER_LEN, IDLE_CHANNEL};
 use thiserror::Error;
 use valid_config::{Config, Valid};
 

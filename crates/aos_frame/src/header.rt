@@ -9,8 +9,8 @@ ghost use Rattle.aos_frame.specs.Frame.{SpellsFrame, FitsHeader, frame_fault, ow
 use crate::config::ChannelConfig;
 use crate::count::counts_of;
 use crate::error::FrameError;
+use crate::fields::FrameFields;
 use cfd_bits::get;
-use frame_fields::FrameFields;
 
 /// Octets of a frame's primary header (CCSDS 732.0-B-4, 4.1.2).
 pub const HEADER_LEN: usize = 6;

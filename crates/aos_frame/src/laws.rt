@@ -1,6 +1,6 @@
 //! Laws of frames and their spellings, each the contract of a function that does nothing.
 ghost use Rattle.std.specs.Prelude.{◌≡◌, ℕ, ◌+◌, ◌%◌, ◌^◌, ◌<◌, Bool, List, length};
-ghost use Rattle.frame_fields.specs.Fields.{mpdu_in, sealed};
+ghost use Rattle.aos_frame.specs.LinkFields.{mpdu_in, sealed};
 ghost use Rattle.aos_frame.specs.declared.header.FrameHeader.{FrameHeader};
 ghost use Rattle.aos_frame.specs.declared.config.ChannelConfig.{ChannelConfig};
 ghost use Rattle.aos_frame.specs.Counts.{counts_of, compared, AreMissing};

@@ -1,5 +1,6 @@
-//! AOS transfer frames with packet zones (CCSDS 732.0-B-4): their headers, their counts, and the
-//! counts that are missing.
+//! AOS transfer frames with packet zones (CCSDS 732.0-B-4): their headers, their counts, the counts
+//! that are missing, and the fields that they may have beside header and M_PDU: an insert zone, an
+//! operational control field and a frame error control field (4.1.3, 4.1.5, 4.1.6).
 //!
 //! None of these calls takes memory: what stands after a frame's header is borrowed from the octets
 //! that it was read from.
@@ -24,7 +25,20 @@
 //! }
 //! ```
 //!
-//! Tested by `tests/transcripts/frames.txt`.
+//! A bare frame has none of the other fields: it is its header and its M_PDU, as the crates above
+//! make and take it. [`seal`] makes the link's frame of a bare one whose octets must already lie at
+//! their places in it. [`open`] finds the bare frame in a frame that came:
+//!
+//! ```text
+//! seal(fields, control, &mut frame);
+//!
+//! match open(fields, &frame) {
+//!     Ok(opened) => {} // the bare frame is `opened.header`, and `opened.mpdu` after it
+//!     Err(fault) => {} // the frame was damaged on the way, or is too short
+//! }
+//! ```
+//!
+//! Tested by `tests/transcripts/frames.txt` and, through the program, by `tests/damage.py`.
 #![tactic(auto)]
 
 ghost use Rattle.std.specs.Prelude.{◌≡◌, ◌+◌, ◌<◌, ◌≤◌, length, drop, IfOk, IsOkAnd};
@@ -33,22 +47,28 @@ ghost use Rattle.aos_frame.specs.declared.header.FrameHeader.{FrameHeader};
 ghost use Rattle.aos_frame.specs.Counts.{counts_of};
 ghost use Rattle.aos_frame.specs.Frame.{SpellsFrame, count_in, frame_fault, FitsHeader, signaling};
 ghost use Rattle.aos_frame.specs.Frame.{frame_octets};
-ghost use Rattle.frame_fields.specs.Fields.{mpdu_in};
+ghost use Rattle.aos_frame.specs.LinkFields.{mpdu_in};
 
 mod config;
 mod count;
 mod error;
+mod fields;
+mod fields_laws;
 mod header;
 mod laws;
+mod opening;
+mod sealing;
 
 use cfd_bits::{get, put_uint};
 pub use config::{ChannelConfig, LEAST_ZONE, Lane, LinkConfig, LinkField, MOST_APID, MOST_ZONE};
 pub use count::{Continuity, FRAME_COUNTS, SHORT_COUNTS, SeenCount, VcCounter, VcMonitor};
 pub use error::FrameError;
-use frame_fields::open;
-pub use frame_fields::{FrameFields, MOST_INSERT_ZONE};
+pub use fields::{FieldsField, FrameFields, MOST_INSERT_ZONE};
+pub use fields_laws::{damage_is_seen, what_is_sealed_is_opened, without_fields_a_frame_is_bare};
 pub use header::{FrameHeader, HEADER_LEN, IDLE_CHANNEL};
 pub use laws::{a_frame_has_one_header, one_number_is_missing, written_frame_is_read};
+pub use opening::{FieldsFault, OpenedFrame, control_field, open};
+pub use sealing::seal;
 
 /// Octets of the M_PDU header, which stands before the packet zone (CCSDS 732.0-B-4, 4.1.4.2).
 const MPDU_HEADER_LEN: usize = 2;

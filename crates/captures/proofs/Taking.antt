@@ -3,7 +3,7 @@ use Rattle.std.proofs.Common.{◌≡◌, ◌⊎◌, ℕ, List, [], length, Optio
 use Rattle.std.specs.Result.{IfOk}
 use Rattle.captures.specs.declared.fault.CaptureFault.{CaptureFault}
 use Rattle.captures.specs.declared.order.ByteOrder.{ByteOrder}
-use Rattle.captures.specs.declared.reader.Fault.{Fault}
+use Rattle.captures.specs.declared.reader.PlacedFault.{PlacedFault}
 use Rattle.captures.specs.declared.reader.Next.{Next}
 use Rattle.captures.specs.declared.reader.Next.TheVariants.{FileHeader, Record, Block}
 use Rattle.captures.specs.Blocks.{BlockText, SpellsBlock, block_fault}
@@ -27,7 +27,7 @@ sound_block o b text r one = grind (arith, one)
 some_is : {A : Type 0} {x y : A} → Some x ≡ Some y → x ≡ y
 some_is same = cc same
 
-one_fault : (f g : Fault) → f.cause ≡ g.cause → f.left ≡ g.left → f ≡ g
+one_fault : (f g : PlacedFault) → f.cause ≡ g.cause → f.left ≡ g.left → f ≡ g
 one_fault f g cause left = grind (arith, cause, left)
 
 -- ---- what stands at the front of a text of blocks

@@ -4,7 +4,7 @@ use Rattle.captures.specs.declared.fault.CaptureFault.{CaptureFault}
 use Rattle.captures.specs.declared.order.ByteOrder.{ByteOrder}
 use Rattle.captures.specs.declared.order.ByteOrder.TheVariants.{BigEndian, LittleEndian}
 use Rattle.captures.specs.declared.packet.Interface.{Interface}
-use Rattle.captures.specs.declared.reader.Fault.{Fault}
+use Rattle.captures.specs.declared.reader.PlacedFault.{PlacedFault}
 use Rattle.captures.specs.declared.reader.Next.{Next}
 use Rattle.captures.specs.declared.reader.Next.TheVariants.{FileHeader, Record, Block}
 use Rattle.captures.specs.Blocks.{BlockText, SpellsBlock, block_fault, enhanced_fault, enhanced_packet, interface_at, interface_fault, interface_in, section_fault, simple_fault, simple_packet}
@@ -93,7 +93,7 @@ HasFault Block st text cause = (block_fault st.order text ≡ Some cause) ⊎ Ha
 -- Then nothing after it is read.
 pub record TakesNone (st : CaptureState) (text : List ℕ) (item : ItemText) (after : CaptureState)
     (rest : List ℕ) : Type 0 where
-  pub fault : Fault
+  pub fault : PlacedFault
   pub found : HasFault st.next st text fault.cause
   pub place : fault.left ≡ length text
   pub says : item ≡ Faulty fault

@@ -2,8 +2,8 @@
 use Rattle.std.specs.Prelude.{ℕ, List}
 use Rattle.captures.specs.declared.order.ByteOrder.{ByteOrder}
 use Rattle.captures.specs.declared.packet.Interface.{Interface}
-use Rattle.captures.specs.declared.packet.Packet.{Packet}
-use Rattle.captures.specs.declared.reader.Fault.{Fault}
+use Rattle.captures.specs.declared.packet.CapturedPacket.{CapturedPacket}
+use Rattle.captures.specs.declared.reader.PlacedFault.{PlacedFault}
 use Rattle.captures.specs.declared.reader.Item.{Item}
 use Rattle.captures.specs.declared.reader.Item.TheVariants as items
 use Rattle.captures.specs.declared.reader.Next.{Next}
@@ -14,7 +14,7 @@ pub record PacketText : Type 0 where
   pub original : ℕ
   pub octets : List ℕ
 
-abbrev pub packet_text : Packet → PacketText
+abbrev pub packet_text : CapturedPacket → PacketText
 packet_text p = record {
   link_type = p.link_type;
   original = p.original;
@@ -26,7 +26,7 @@ packet_text p = record {
 pub data ItemText : Type 0 where
   Captured : (packet : PacketText) → ItemText
   PassedOver : ItemText
-  Faulty : (fault : Fault) → ItemText
+  Faulty : (fault : PlacedFault) → ItemText
 
 abbrev pub item_text : Item → ItemText
 item_text (items.Packet packet) = Captured (packet_text packet)

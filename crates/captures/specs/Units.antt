@@ -3,12 +3,12 @@
 use Rattle.std.specs.Prelude.{ℕ, ◌+◌, ◌-◌, ◌*◌, ◌==◌, ◌&&◌, ◌||◌, nat_le, nat_lt, not, Bool, true, if◌then◌else◌, List, [], ◌∷◌, ◌++◌, codes, length, take, drop, Option, Some, None, unwrap_or}
 use Rattle.std.specs.Str.{bytes_eq}
 use Rattle.cfd_bits.specs.Field.{field}
-use Rattle.captures.specs.declared.unit.Passed.{Passed}
-use Rattle.captures.specs.declared.unit.Passed.TheVariants.{CutShort, OtherLink, NotIp, Fragment, NotUdp, Malformed}
+use Rattle.captures.specs.declared.unit.SkipCause.{SkipCause}
+use Rattle.captures.specs.declared.unit.SkipCause.TheVariants.{CutShort, OtherLink, NotIp, Fragment, NotUdp, Malformed}
 use Rattle.captures.specs.Packets.{PacketText}
 
 -- the first fault of two, one after the other
-abbrev pub or_else : Option Passed → Option Passed → Option Passed
+abbrev pub or_else : Option SkipCause → Option SkipCause → Option SkipCause
 or_else (Some fault) behind = Some fault
 or_else None behind = behind
 
@@ -44,17 +44,17 @@ says_ip link_type octets =
 abbrev pub network_in : ℕ → List ℕ → List ℕ
 network_in link_type octets = drop (unwrap_or (link_header link_type) 0) octets
 
-abbrev pub header_fault : (link_type header : ℕ) → List ℕ → Option Passed
+abbrev pub header_fault : (link_type header : ℕ) → List ℕ → Option SkipCause
 header_fault link_type header octets =
     if nat_lt (length octets) header then Some Malformed
     else if says_ip link_type octets then None
     else Some NotIp
 
-abbrev pub known_link_fault : Option ℕ → ℕ → List ℕ → Option Passed
+abbrev pub known_link_fault : Option ℕ → ℕ → List ℕ → Option SkipCause
 known_link_fault None link_type octets = Some (OtherLink link_type)
 known_link_fault (Some header) link_type octets = header_fault link_type header octets
 
-abbrev pub link_fault : ℕ → List ℕ → Option Passed
+abbrev pub link_fault : ℕ → List ℕ → Option SkipCause
 link_fault link_type octets = known_link_fault (link_header link_type) link_type octets
 
 -- ---- IPv4 (RFC 791, 3.1): the header's length is given in words of four octets, and the total
@@ -69,7 +69,7 @@ four_total text = field text 16 16
 abbrev pub datagram_in_four : List ℕ → List ℕ
 datagram_in_four text = take (four_total text - four_header text) (drop (four_header text) text)
 
-abbrev pub four_fault : List ℕ → Option Passed
+abbrev pub four_fault : List ℕ → Option SkipCause
 four_fault text =
     if nat_lt (length text) 20 then Some Malformed
     else if nat_lt (four_header text) 20 then Some Malformed
@@ -88,7 +88,7 @@ six_len text = field text 32 16
 abbrev pub datagram_in_six : List ℕ → List ℕ
 datagram_in_six text = take (six_len text) (drop 40 text)
 
-abbrev pub six_fault : List ℕ → Option Passed
+abbrev pub six_fault : List ℕ → Option SkipCause
 six_fault text =
     if nat_lt (length text) 40 then Some Malformed
     else if nat_lt (length text) (40 + six_len text) then Some Malformed
@@ -100,7 +100,7 @@ six_fault text =
 abbrev pub datagram_in : List ℕ → List ℕ
 datagram_in text = if field text 0 4 == 4 then datagram_in_four text else datagram_in_six text
 
-abbrev pub network_fault : List ℕ → Option Passed
+abbrev pub network_fault : List ℕ → Option SkipCause
 network_fault text =
     if length text == 0 then Some NotIp
     else if field text 0 4 == 4 then four_fault text
@@ -114,7 +114,7 @@ udp_len text = field text 32 16
 abbrev pub payload_in : List ℕ → List ℕ
 payload_in text = take (udp_len text - 8) (drop 8 text)
 
-abbrev pub datagram_fault : List ℕ → Option Passed
+abbrev pub datagram_fault : List ℕ → Option SkipCause
 datagram_fault text =
     if nat_lt (length text) 8 then Some Malformed
     else if nat_lt (udp_len text) 8 then Some Malformed
@@ -134,7 +134,7 @@ is_upper link_type octets = (link_type == 252) && bytes_eq (take 12 octets) uppe
 unfoldable pub udp_payload : ℕ → List ℕ → List ℕ
 udp_payload link_type octets = payload_in (datagram_in (network_in link_type octets))
 
-unfoldable pub udp_fault : ℕ → List ℕ → Option Passed
+unfoldable pub udp_fault : ℕ → List ℕ → Option SkipCause
 udp_fault link_type octets = or_else (link_fault link_type octets)
     (or_else (network_fault (network_in link_type octets))
     (datagram_fault (datagram_in (network_in link_type octets))))
@@ -147,7 +147,7 @@ unit_in p =
     else if is_upper p.link_type p.octets then drop 12 p.octets
     else udp_payload p.link_type p.octets
 
-abbrev pub unit_fault : PacketText → Option Passed
+abbrev pub unit_fault : PacketText → Option SkipCause
 unit_fault p =
     if nat_lt (length p.octets) p.original then Some (CutShort (length p.octets) p.original)
     else if is_free p.link_type then None

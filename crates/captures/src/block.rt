@@ -8,7 +8,7 @@ ghost use Rattle.captures.specs.Packets.{PacketText, packet_text};
 
 use crate::fault::CaptureFault;
 use crate::order::{ByteOrder, number, short};
-use crate::packet::{Interface, Packet};
+use crate::packet::{CapturedPacket, Interface};
 
 /// The kind of a section header, the same in either order of octets.
 pub(crate) const SECTION: u32 = 0x0A0D_0D0A;
@@ -124,7 +124,7 @@ pub(crate) fn read_enhanced<'a>(
     order: ByteOrder,
     interfaces: &[Interface],
     body: &'a [u8],
-) -> Result<Packet<'a>, CaptureFault>
+) -> Result<CapturedPacket<'a>, CaptureFault>
     ensures found { IfOk result (λ p. packet_text p
         ≡ blocks.enhanced_packet order interfaces.now body.now) }
     ensures refused { result_err result ≡ blocks.enhanced_fault order interfaces.now body.now }
@@ -142,7 +142,7 @@ pub(crate) fn read_enhanced<'a>(
         return Err(CaptureFault::BadLength);
     }
     let (octets, _) = behind.split_at(captured);
-    Ok(Packet {
+    Ok(CapturedPacket {
         link_type: interfaces[place].link_type,
         original: number(order, body, 16),
         octets,
@@ -158,7 +158,7 @@ pub(crate) fn read_simple<'a>(
     order: ByteOrder,
     interfaces: &[Interface],
     body: &'a [u8],
-) -> Result<Packet<'a>, CaptureFault>
+) -> Result<CapturedPacket<'a>, CaptureFault>
     ensures found { IfOk result (λ p. packet_text p
         ≡ blocks.simple_packet order interfaces.now body.now) }
     ensures refused { result_err result ≡ blocks.simple_fault order interfaces.now body.now }
@@ -177,7 +177,7 @@ pub(crate) fn read_simple<'a>(
         return Err(CaptureFault::BadLength);
     }
     let (octets, _) = behind.split_at(captured);
-    Ok(Packet {
+    Ok(CapturedPacket {
         link_type: interface.link_type,
         original,
         octets,

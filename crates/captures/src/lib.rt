@@ -30,6 +30,6 @@ mod unit;
 
 pub use fault::CaptureFault;
 pub use order::ByteOrder;
-pub use packet::{Interface, Packet};
-pub use reader::{Capture, Fault, Item, Next};
-pub use unit::{Passed, unit_of};
+pub use packet::{CapturedPacket, Interface};
+pub use reader::{Capture, Item, Next, PlacedFault};
+pub use unit::{SkipCause, unit_of};

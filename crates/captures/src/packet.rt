@@ -11,7 +11,7 @@ pub struct Interface {
 
 /// A packet that was captured.
 #[derive(Clone, Copy, Debug)]
-pub struct Packet<'a> {
+pub struct CapturedPacket<'a> {
     /// The link type of its interface.
     pub link_type: u16,
     /// How many octets it had on the wire.

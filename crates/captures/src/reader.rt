@@ -14,7 +14,7 @@ use crate::block::{
 };
 use crate::fault::CaptureFault;
 use crate::order::{ByteOrder, number};
-use crate::packet::{Interface, Packet};
+use crate::packet::{CapturedPacket, Interface};
 use crate::record::{has_magic, take_header, take_record};
 use std::alloc::{AllocError, Global};
 use std::marker::Model;
@@ -41,7 +41,7 @@ pub enum Next {
 
 /// What can't be read, and where.
 #[derive(Clone, Copy, Debug)]
-pub struct Fault {
+pub struct PlacedFault {
     /// Why it can't be read.
     pub cause: CaptureFault,
     /// How many octets of the file there are from its first one on.
@@ -52,11 +52,11 @@ pub struct Fault {
 #[derive(Clone, Copy, Debug)]
 pub enum Item<'a> {
     /// A packet that was captured.
-    Packet(Packet<'a>),
+    Packet(CapturedPacket<'a>),
     /// Something else, such as the description of an interface.
     Passed,
     /// What can't be read. Nothing after it is read.
-    Faulty(Fault),
+    Faulty(PlacedFault),
 }
 
 /// What was read so far of a capture.
@@ -256,7 +256,7 @@ impl Capture {
 }
 
 /// Returns the item of a packet that was read.
-fn packet_item<'a>(read: Result<Packet<'a>, CaptureFault>) -> Result<Item<'a>, CaptureFault>
+fn packet_item<'a>(read: Result<CapturedPacket<'a>, CaptureFault>) -> Result<Item<'a>, CaptureFault>
     ensures found { IfOk read.entry (λ packet. IfOk result (λ item. item_text item
         ≡ Captured (packet_text packet))) }
     ensures refused { result_err result ≡ result_err read.entry }
@@ -273,7 +273,7 @@ fn faulty<'a>(cause: CaptureFault, text: &'a [u8]) -> (Item<'a>, &'a [u8])
     ensures rest { result.1.now ≡ [] }
 {
     let left = text.len();
-    (Item::Faulty(Fault { cause, left }), &text[left..])
+    (Item::Faulty(PlacedFault { cause, left }), &text[left..])
 }
 
 /// Returns how a file begins: what stands at its front, and the order of the octets of its numbers.

@@ -8,7 +8,7 @@ ghost use Rattle.captures.specs.declared.packet.Interface.{Interface};
 
 use crate::fault::CaptureFault;
 use crate::order::{ByteOrder, number, short};
-use crate::packet::{Interface, Packet};
+use crate::packet::{CapturedPacket, Interface};
 
 /// The octets of a record before its packet.
 const RECORD_HEADER: usize = 16;
@@ -59,7 +59,7 @@ pub(crate) fn take_record(
     order: ByteOrder,
     link_type: u16,
     text: &[u8],
-) -> Result<(Packet<'_>, &[u8]), CaptureFault>
+) -> Result<(CapturedPacket<'_>, &[u8]), CaptureFault>
     ensures found { IfOk result (λ x. SpellsRecord order link_type (packet_text x.0) text.now
         x.1.now) }
     ensures only { (p : PacketText) (rest : List ℕ) → SpellsRecord order link_type p text.now rest
@@ -76,7 +76,7 @@ pub(crate) fn take_record(
         return Err(CaptureFault::CutOff);
     }
     let (octets, rest) = behind.split_at(captured);
-    let packet = Packet {
+    let packet = CapturedPacket {
         link_type,
         original,
         octets,

@@ -7,7 +7,7 @@ ghost use Rattle.captures.specs.Packets.{packet_text};
 ghost use Rattle.captures.specs.Units as units;
 ghost use Rattle.captures.specs.Units.{udp_fault, udp_payload, unit_fault, unit_in};
 
-use crate::packet::Packet;
+use crate::packet::CapturedPacket;
 use cfd_bits::get;
 use std::fmt;
 
@@ -20,7 +20,7 @@ const UPPER_HEADER: [u8; 12] = [0, 12, 0, 4, b'c', b'f', b'd', b'p', 0, 0, 0, 0]
 
 /// Why nothing is read in a captured packet.
 #[derive(Clone, Copy, Debug, PartialEq, Eq)]
-pub enum Passed {
+pub enum SkipCause {
     /// Fewer octets of it were captured than it had: these, and all of these.
     CutShort(usize, u32),
     /// Packets of its link type aren't read: this one.
@@ -36,7 +36,7 @@ pub enum Passed {
     Malformed,
 }
 
-impl fmt::Display for Passed {
+impl fmt::Display for SkipCause {
     ghost use Rattle.std.specs.Prelude.{Some};
     ghost use Rattle.captures.specs.Texts.{passed_text};
 
@@ -44,14 +44,14 @@ impl fmt::Display for Passed {
 
     fn fmt<W: fmt::Write>(&self, f: &mut fmt::Formatter<W>) -> fmt::Result {
         match self {
-            Passed::CutShort(captured, all) => {
+            SkipCause::CutShort(captured, all) => {
                 write!(f, "error 25 SnapLength {captured} octets of {all}")
             }
-            Passed::OtherLink(link_type) => write!(f, "error 26 OtherLink {link_type}"),
-            Passed::NotIp => f.write_str("error 27 NotIp"),
-            Passed::Fragment => f.write_str("error 28 Fragment"),
-            Passed::NotUdp(protocol) => write!(f, "error 29 NotUdp {protocol}"),
-            Passed::Malformed => f.write_str("error 30 Malformed"),
+            SkipCause::OtherLink(link_type) => write!(f, "error 26 OtherLink {link_type}"),
+            SkipCause::NotIp => f.write_str("error 27 NotIp"),
+            SkipCause::Fragment => f.write_str("error 28 Fragment"),
+            SkipCause::NotUdp(protocol) => write!(f, "error 29 NotUdp {protocol}"),
+            SkipCause::Malformed => f.write_str("error 30 Malformed"),
         }
     }
 }
@@ -64,14 +64,14 @@ impl fmt::Display for Passed {
 ///
 /// # Errors
 ///
-/// The first of `Passed` that holds, from the outermost header on.
-pub fn unit_of(packet: Packet<'_>) -> Result<&[u8], Passed>
+/// The first of `SkipCause` that holds, from the outermost header on.
+pub fn unit_of(packet: CapturedPacket<'_>) -> Result<&[u8], SkipCause>
     ensures found { IfOk result (λ unit. unit.now ≡ unit_in (packet_text packet.entry)) }
     ensures refused { result_err result ≡ unit_fault (packet_text packet.entry) }
 {
     let octets = packet.octets;
     if octets.len() < packet.original as usize {
-        return Err(Passed::CutShort(octets.len(), packet.original));
+        return Err(SkipCause::CutShort(octets.len(), packet.original));
     }
     if is_free(packet.link_type) {
         return Ok(octets);
@@ -98,9 +98,9 @@ fn upper_pdu(link_type: u16, octets: &[u8]) -> Option<&[u8]>
 ///
 /// # Errors
 ///
-/// The first of `Passed` that holds, except `CutShort`.
+/// The first of `SkipCause` that holds, except `CutShort`.
 #[tactic(auto, unfolding(crate::specs::Units::udp_payload, crate::specs::Units::udp_fault))]
-fn udp_payload(link_type: u16, octets: &[u8]) -> Result<&[u8], Passed>
+fn udp_payload(link_type: u16, octets: &[u8]) -> Result<&[u8], SkipCause>
     ensures found { IfOk result (λ unit. unit.now ≡ units.udp_payload link_type octets.now) }
     ensures refused { result_err result ≡ units.udp_fault link_type octets.now }
 {
@@ -121,19 +121,19 @@ fn is_free(link_type: u16) -> bool
 /// # Errors
 ///
 /// `OtherLink`, `Malformed` or `NotIp`: the first that holds, if one does.
-fn network_packet(link_type: u16, octets: &[u8]) -> Result<&[u8], Passed>
+fn network_packet(link_type: u16, octets: &[u8]) -> Result<&[u8], SkipCause>
     ensures found { IfOk result (λ network. network.now
         ≡ units.network_in link_type octets.now) }
     ensures refused { result_err result ≡ units.link_fault link_type octets.now }
 {
     let Some(header) = link_header(link_type) else {
-        return Err(Passed::OtherLink(link_type));
+        return Err(SkipCause::OtherLink(link_type));
     };
     if octets.len() < header {
-        return Err(Passed::Malformed);
+        return Err(SkipCause::Malformed);
     }
     if !says_ip(link_type, octets) {
-        return Err(Passed::NotIp);
+        return Err(SkipCause::NotIp);
     }
     let (_, network) = octets.split_at(header);
     Ok(network)
@@ -181,17 +181,17 @@ fn is_ip_type(ether_type: u64) -> bool
 /// # Errors
 ///
 /// `NotIp` if its version is neither 4 nor 6, or the fault of the packet.
-fn datagram_of(network: &[u8]) -> Result<&[u8], Passed>
+fn datagram_of(network: &[u8]) -> Result<&[u8], SkipCause>
     ensures found { IfOk result (λ datagram. datagram.now ≡ units.datagram_in network.now) }
     ensures refused { result_err result ≡ units.network_fault network.now }
 {
     if network.is_empty() {
-        return Err(Passed::NotIp);
+        return Err(SkipCause::NotIp);
     }
     match get(network, 0, 4) {
         4 => datagram_in_four(network),
         6 => datagram_in_six(network),
-        _ => Err(Passed::NotIp),
+        _ => Err(SkipCause::NotIp),
     }
 }
 
@@ -200,24 +200,24 @@ fn datagram_of(network: &[u8]) -> Result<&[u8], Passed>
 /// # Errors
 ///
 /// `Malformed`, `Fragment` or `NotUdp`: the first that holds, if one does.
-fn datagram_in_four(network: &[u8]) -> Result<&[u8], Passed>
+fn datagram_in_four(network: &[u8]) -> Result<&[u8], SkipCause>
     ensures found { IfOk result (λ datagram. datagram.now ≡ units.datagram_in_four network.now) }
     ensures refused { result_err result ≡ units.four_fault network.now }
 {
     if network.len() < 20 {
-        return Err(Passed::Malformed);
+        return Err(SkipCause::Malformed);
     }
     let header = 4 * get(network, 4, 4) as usize;
     let total = get(network, 16, 16) as usize;
     if header < 20 || total < header || network.len() < total {
-        return Err(Passed::Malformed);
+        return Err(SkipCause::Malformed);
     }
     if get(network, 50, 1) != 0 || get(network, 51, 13) != 0 {
-        return Err(Passed::Fragment);
+        return Err(SkipCause::Fragment);
     }
     let protocol = get(network, 72, 8);
     if protocol != 17 {
-        return Err(Passed::NotUdp(protocol as u8));
+        return Err(SkipCause::NotUdp(protocol as u8));
     }
     Ok(&network[header..total])
 }
@@ -227,24 +227,24 @@ fn datagram_in_four(network: &[u8]) -> Result<&[u8], Passed>
 /// # Errors
 ///
 /// `Malformed`, `Fragment` or `NotUdp`: the first that holds, if one does.
-fn datagram_in_six(network: &[u8]) -> Result<&[u8], Passed>
+fn datagram_in_six(network: &[u8]) -> Result<&[u8], SkipCause>
     ensures found { IfOk result (λ datagram. datagram.now ≡ units.datagram_in_six network.now) }
     ensures refused { result_err result ≡ units.six_fault network.now }
 {
     if network.len() < 40 {
-        return Err(Passed::Malformed);
+        return Err(SkipCause::Malformed);
     }
     let (_, behind) = network.split_at(40);
     let len = get(network, 32, 16) as usize;
     if behind.len() < len {
-        return Err(Passed::Malformed);
+        return Err(SkipCause::Malformed);
     }
     let next = get(network, 48, 8);
     if next == 44 {
-        return Err(Passed::Fragment);
+        return Err(SkipCause::Fragment);
     }
     if next != 17 {
-        return Err(Passed::NotUdp(next as u8));
+        return Err(SkipCause::NotUdp(next as u8));
     }
     let (datagram, _) = behind.split_at(len);
     Ok(datagram)
@@ -255,16 +255,16 @@ fn datagram_in_six(network: &[u8]) -> Result<&[u8], Passed>
 /// # Errors
 ///
 /// `Malformed` if its length doesn't fit.
-fn payload_of(datagram: &[u8]) -> Result<&[u8], Passed>
+fn payload_of(datagram: &[u8]) -> Result<&[u8], SkipCause>
     ensures found { IfOk result (λ unit. unit.now ≡ units.payload_in datagram.now) }
     ensures refused { result_err result ≡ units.datagram_fault datagram.now }
 {
     if datagram.len() < 8 {
-        return Err(Passed::Malformed);
+        return Err(SkipCause::Malformed);
     }
     let len = get(datagram, 32, 16) as usize;
     if len < 8 || datagram.len() < len {
-        return Err(Passed::Malformed);
+        return Err(SkipCause::Malformed);
     }
     Ok(&datagram[8..len])
 }

@@ -22,8 +22,8 @@ use Rattle.cfdp_station.specs.declared.polled.Polled.{Polled}
 use Rattle.cfdp_station.specs.declared.polled.Polled.TheVariants as polls
 use Rattle.cfdp_store.specs.declared.error.StoreError.{StoreError}
 use Rattle.cfdp_store.specs.declared.error.StoreError.TheVariants as stores
-use Rattle.frame_security.specs.declared.opening.Refusal.{Refusal}
-use Rattle.frame_security.specs.declared.opening.Refusal.TheVariants as refusals
+use Rattle.frame_security.specs.declared.opening.FrameRefusal.{FrameRefusal}
+use Rattle.frame_security.specs.declared.opening.FrameRefusal.TheVariants as refusals
 use Rattle.cfdp_c.specs.declared.held.FoldersError.{FoldersError}
 use Rattle.cfdp_c.specs.declared.held.FoldersError.TheVariants as folders
 use Rattle.cfdp_c.specs.declared.resuming.JournaledError.{JournaledError}
@@ -197,7 +197,7 @@ abbrev pub NamesField : ℕ → Type 0
 NamesField number = (70 ≤ number) × (number ≤ 99)
 
 -- why a secured frame is refused
-abbrev pub refusal_code : Refusal → ℕ
+abbrev pub refusal_code : FrameRefusal → ℕ
 refusal_code refusals.Short = 101
 refusal_code refusals.Damaged = 102
 refusal_code refusals.UnknownSpi = 103

@@ -1,6 +1,6 @@
 -- How a caller says what a station is set up as.
 use Rattle.std.specs.Prelude.{ℕ, ◌≡◌, ◌<◌, ◌==◌, Bool, Option, None, Some, if◌then◌else◌}
-use Rattle.frame_fields.specs.declared.config.FrameFields.{FrameFields}
+use Rattle.aos_frame.specs.declared.fields.FrameFields.{FrameFields}
 use Rattle.aos_frame.specs.declared.config.LinkConfig.{LinkConfig}
 use Rattle.cfdp_directives.specs.declared.user.handler.Handler.{Handler}
 use Rattle.cfdp_directives.specs.declared.user.handler.Handler.TheVariants as does

@@ -1,7 +1,7 @@
 -- Frames that only the holder of a key can have sent, as a caller seals and opens them, each call by
 -- a struct with the key and a number.
 use Rattle.std.specs.Prelude.{◌≡◌, ℕ, ◌+◌, ◌<◌, ◌≤◌, List, None}
-use Rattle.frame_fields.specs.Fields.{bare_in}
+use Rattle.aos_frame.specs.LinkFields.{bare_in}
 use Rattle.frame_security.specs.declared.config.Security.{Security}
 use Rattle.frame_security.specs.Frames.{frame_in, number_in}
 use Rattle.frame_security.specs.Opening.{OpenerState, begun, refusal}

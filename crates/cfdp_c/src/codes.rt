@@ -11,7 +11,7 @@ use crate::resuming::JournaledError;
 use cfdp_header::TransactionId;
 use cfdp_station::{AddError, ForgetError, Lane, Polled, PutError, RemoveError, RequestError};
 use cfdp_store::StoreError;
-use frame_security::Refusal;
+use frame_security::FrameRefusal;
 use std::alloc::AllocError;
 
 /// The call did what it says.
@@ -187,14 +187,14 @@ pub(crate) fn of_memory(answer: Result<(), AllocError>) -> u32
 }
 
 /// Returns the number of why a secured frame is refused.
-pub(crate) fn of_refusal(cause: Refusal) -> u32
+pub(crate) fn of_refusal(cause: FrameRefusal) -> u32
     ensures { result ≡ codes.refusal_code cause }
 {
     match cause {
-        Refusal::Short => 101,
-        Refusal::Damaged => 102,
-        Refusal::UnknownSpi => 103,
-        Refusal::NotAuthentic => 104,
-        Refusal::Replayed => 105,
+        FrameRefusal::Short => 101,
+        FrameRefusal::Damaged => 102,
+        FrameRefusal::UnknownSpi => 103,
+        FrameRefusal::NotAuthentic => 104,
+        FrameRefusal::Replayed => 105,
     }
 }

@@ -6,10 +6,10 @@ ghost use Rattle.cfdp_c.specs.Held.{has_folders, state_of};
 
 use crate::noting_inbox::NotingInbox;
 use cfdp_directives::Indication;
-use cfdp_folders::{FolderRefusal, HeldFolder, SystemFiles, look_at_folder};
+use libc_folders::{FolderRefusal, HeldFolder, SystemFiles, look_at_folder};
 use cfdp_station::{Station, StationConfig, Valid};
 use cfdp_store::{FolderOutbox, MemoryInbox, MemoryOutbox};
-use past::Past;
+use ghost_list::GhostList;
 use std::alloc::{AllocError, Global};
 use std::collections::BTreeSet;
 use std::snapshot::Snapshot;
@@ -103,7 +103,7 @@ impl Held {
     {
         let outbox = outbox_path(alloc, outbox)?;
         let (path, folder) = take_inbox(alloc, inbox)?;
-        let expected = Snapshot::of(&Past::new());
+        let expected = Snapshot::of(&GhostList::new());
         let sources = FolderOutbox::new(SystemFiles, alloc, outbox, expected)?;
         let received = NotingInbox::new(alloc, path, None)?;
         let station = Station::new(alloc, config, sources, received)?;

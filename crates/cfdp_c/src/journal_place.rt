@@ -1,5 +1,5 @@
 //! Where the journal of a station in a library lies, by calls of the C library.
-use cfdp_folders::{SystemFile, SystemFiles};
+use libc_folders::{SystemFile, SystemFiles};
 use cfdp_header::TransactionId;
 use cfdp_store::NameRule;
 use std::alloc::{AllocError, Global};

@@ -3,7 +3,7 @@ ghost use Rattle.std.specs.FinMap as map;
 ghost use Rattle.std.specs.Prelude.{◌≡◌, IfOk};
 
 use crate::journal_place::LibraryPlace;
-use cfdp_folders::SystemFiles;
+use libc_folders::SystemFiles;
 use cfdp_header::TransactionId;
 use cfdp_store::{FolderInbox, Inbox, NameRule, ResumingInbox, StoreError};
 use std::alloc::{AllocError, Global};

@@ -8,11 +8,11 @@ use crate::held::{
 use crate::journal_place::LibraryPlace;
 use crate::noting_inbox::{LibraryJournal, NotingInbox};
 use cfdp_directives::Addressing;
-use cfdp_folders::{HeldFolder, SystemFiles, is_held};
+use libc_folders::{HeldFolder, SystemFiles, is_held};
 use cfdp_header::TransactionId;
 use cfdp_station::{Config, EntityConfig, Station, StationConfig, Valid};
 use cfdp_store::FolderOutbox;
-use past::Past;
+use ghost_list::GhostList;
 use std::alloc::{AllocError, Global};
 use std::io::ErrorKind;
 use std::snapshot::Snapshot;
@@ -226,7 +226,7 @@ fn station_over(
     let (outbox, inbox) = folders;
     let journal = LibraryJournal::new(alloc, place, setup);
     let received = NotingInbox::new(alloc, inbox, Some(journal))?;
-    let expected = Snapshot::of(&Past::new());
+    let expected = Snapshot::of(&GhostList::new());
     let sources = FolderOutbox::new(SystemFiles, alloc, outbox, expected)?;
     Station::new(alloc, config, sources, received)
 }

@@ -1,6 +1,6 @@
 //! Frames that only the holder of a key can have sent.
 ghost use Rattle.std.specs.Prelude.{◌≡◌, ◌≢◌, ◌↔◌, Some, IsSome, IfSome};
-ghost use Rattle.frame_security.specs.declared.opening.Refusal.{Refusal as ARefusal};
+ghost use Rattle.frame_security.specs.declared.opening.FrameRefusal.{FrameRefusal as ARefusal};
 ghost use Rattle.frame_security.specs.Opening.{refusal};
 ghost use Rattle.cfdp_c.specs.Codes as codes;
 ghost use Rattle.cfdp_c.specs.Securing.{IsUsable, Opens, Seals, opener_of, security_of};
@@ -9,7 +9,7 @@ use crate::codes::{BAD_ARGUMENT, NO_ROOM, NUMBERS_SPENT, OK, of_refusal};
 use crate::config::flag;
 use crate::room::put_both;
 use cfdp_station::{Config, FrameFields, Valid};
-use frame_fields::HEADER_LEN;
+use aos_frame::HEADER_LEN;
 use frame_security::{Opener, Sealer, Security};
 
 /// How the frames of one direction are secured (CCSDS 355.0-B-2), with one key.

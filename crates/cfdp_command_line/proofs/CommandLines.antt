@@ -12,7 +12,7 @@ use Rattle.cfdp_command_line.specs.declared.station.StationFlags.{StationFlags}
 use Rattle.cfdp_command_line.specs.declared.station.StationLimits.{StationLimits}
 use Rattle.cfdp_command_line.specs.declared.station.TimeUnit.TheVariants.{Milliseconds, Seconds}
 use Rattle.cfdp_store.specs.declared.name_rule.NameRule.TheVariants.{Any, Portable}
-use Rattle.frame_fields.specs.Fields.{no_fields}
+use Rattle.aos_frame.specs.LinkFields.{no_fields}
 use Rattle.cfdp_dump.specs.declared.spelled.form.DumpForm.TheVariants.{Short, Long, Fields}
 use Rattle.cfdp_dump.specs.declared.spelled.shape.FrameShape.{FrameShape}
 use Rattle.cfdp_dump.specs.declared.dump.DumpKind.TheVariants.{Pdus, Frames}

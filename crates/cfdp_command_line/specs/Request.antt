@@ -20,10 +20,10 @@ use Rattle.cfdp_dump.specs.declared.spelled.form.DumpForm.{DumpForm}
 use Rattle.cfdp_dump.specs.declared.spelled.form.DumpForm.TheVariants.{Short, Long, Fields}
 use Rattle.cfdp_dump.specs.declared.spelled.shape.FrameShape.{FrameShape}
 use Rattle.cfdp_dump.specs.Spelled.Shape.{IsShape}
-use Rattle.frame_fields.specs.declared.config.FrameFields.{FrameFields}
+use Rattle.aos_frame.specs.declared.fields.FrameFields.{FrameFields}
 use Rattle.cfdp_dump.specs.declared.dump.DumpRequest.{DumpRequest}
-use Rattle.cfdp_command_line.specs.declared.arguments.Request.{Request}
-use Rattle.cfdp_command_line.specs.declared.arguments.Request.TheVariants.{Sim, Dump, Loop, Station, Ask, Play, Version}
+use Rattle.cfdp_command_line.specs.declared.arguments.Invocation.{Invocation}
+use Rattle.cfdp_command_line.specs.declared.arguments.Invocation.TheVariants.{Sim, Dump, Loop, Station, Ask, Play, Version}
 use Rattle.cfdp_dump.specs.declared.dump.DumpKind.{DumpKind}
 use Rattle.cfdp_dump.specs.declared.dump.DumpKind.TheVariants.{Pdus, Frames}
 use Rattle.cfdp_command_line.specs.Looping.{LoopAsked, loop_app, loop_asked, loop_of, number_in, number_rule, place_rule, words_for}
@@ -235,7 +235,7 @@ abbrev pub asked_lines : DumpRequest → Lines
 asked_lines request =
     (request.kind, request.shape, request.form, request.deep, request.by_tools)
 
-abbrev pub asked : Request → Asked
+abbrev pub asked : Invocation → Asked
 asked (Sim request) = sim (asked_shown request.shown)
     (option_map (λ file. file.bytes.items) request.file)
 asked (Dump lines file) = dump (asked_lines lines) (option_map (λ name. name.bytes.items) file)
@@ -246,7 +246,7 @@ asked (Play address) = play address.bytes.items
 asked Version = version
 
 -- A packet zone and an insert zone that are asked for have lengths that they may have.
-abbrev pub HasShape : Request → Type 0
+abbrev pub HasShape : Invocation → Type 0
 HasShape (Sim request) = ⊤
 HasShape (Dump lines file) = IsShape lines.shape
 HasShape (Loop request) = ⊤

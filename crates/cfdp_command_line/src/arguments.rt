@@ -30,7 +30,7 @@ use crate::station::{
     StationRequest, is_carrier, is_unit, owned_words, station_command, station_request,
 };
 use aos_frame::{FrameFields, LEAST_ZONE, MOST_ZONE};
-use cfdp_config::value_said;
+use cfdp_settings_file::value_said;
 use cfdp_dump::{DumpForm, DumpKind, DumpRequest, FrameShape};
 use cfdp_report::SettingsHelp;
 use cfdp_watch::Shown;
@@ -41,7 +41,7 @@ use std::{env, io};
 
 /// What the words after the program's name ask for.
 #[derive(Drop)]
-pub enum Request {
+pub enum Invocation {
     /// To run a script.
     Sim(SimRequest),
     /// To say what the lines of this file, or otherwise of standard input, spell.
@@ -242,7 +242,7 @@ Example:
 ///
 /// The status with which the process ends, if there is nothing to do: help or a settings file,
 /// which went to standard output, or a mistake, as standard error says.
-pub fn read(rt: &HostRuntime) -> Result<Request, u8>
+pub fn read(rt: &HostRuntime) -> Result<Invocation, u8>
     ensures zone { IfOk result HasShape }
     ensures status { IfErr result (λ status. (status ≡ 0) ⊎ (status ≡ 2) ⊎ (status ≡ 3)) }
 {
@@ -278,7 +278,7 @@ fn with_line_apart(alloc: Global, mut words: Vec<String>) -> Result<Vec<String>,
 /// # Errors
 ///
 /// The status with which the process ends, by what is wrong with the words.
-fn request_of(rt: &HostRuntime, words: &[String]) -> Result<Request, u8>
+fn request_of(rt: &HostRuntime, words: &[String]) -> Result<Invocation, u8>
     ensures asked { IfOk result (λ request. asked_of (map (λ word. word.bytes.items) words.now)
         ≡ Some (asked request)) }
     ensures refused { IfErr result (RefusedBy
@@ -324,7 +324,7 @@ pub fn version_status(rt: &HostRuntime) -> u8
 /// # Errors
 ///
 /// The help that they ask for, their mistake, or `OutOfMemory`.
-pub fn parse<'a>(alloc: Global, words: &'a [String]) -> Result<Request, Error>
+pub fn parse<'a>(alloc: Global, words: &'a [String]) -> Result<Invocation, Error>
     ensures asked { IfOk result (λ request. asked_of (map (λ word. word.bytes.items) words.now)
         ≡ Some (asked request)) }
     ensures refused { FailsBy (refusals (map (λ word. word.bytes.items) words.now)) result }
@@ -344,7 +344,7 @@ fn parse_by<'a>(
     alloc: Global,
     command: &mut Command<'a>,
     words: &'a [String],
-) -> Result<Request, Error>
+) -> Result<Invocation, Error>
     requires { IsCommand program_app command.old }
     ensures asked { IfOk result (λ request. asked_of (map (λ word. word.bytes.items) words.now)
         ≡ Some (asked request)) }
@@ -417,7 +417,7 @@ fn matched<'a>(
     alloc: Global,
     command: &mut Command<'a>,
     words: &'a [String],
-) -> Result<Option<Request>, Error>
+) -> Result<Option<Invocation>, Error>
     requires { IsCommand program_app command.old }
     ensures asked { IfOk result (λ found. option_map asked found
         ≡ asked_of (map (λ word. word.bytes.items) words.now)) }
@@ -431,7 +431,7 @@ fn matched<'a>(
 
 /// What the words that were found ask for, `None` if KIND, a carrier, a unit or a rule of names is
 /// none.
-fn requested(alloc: Global, matches: &ArgMatches<'_>) -> Result<Option<Request>, AllocError>
+fn requested(alloc: Global, matches: &ArgMatches<'_>) -> Result<Option<Invocation>, AllocError>
     ensures asked { IfOk result (λ found. option_map asked found
         ≡ asked_by (subcommand_rows_of matches.now)) }
     ensures zone { IfOk result (λ found. IfSome found HasShape) }
@@ -444,12 +444,12 @@ fn requested(alloc: Global, matches: &ArgMatches<'_>) -> Result<Option<Request>,
         Some(("ask", arguments)) => ask_request(alloc, arguments),
         Some(("play", arguments)) => play_request(alloc, arguments),
         Some(_) => Ok(None),
-        None => Ok(Some(Request::Version)),
+        None => Ok(Some(Invocation::Version)),
     }
 }
 
 /// What the words after `sim` ask for.
-fn sim_request(alloc: Global, arguments: &ArgMatches<'_>) -> Result<Option<Request>, AllocError>
+fn sim_request(alloc: Global, arguments: &ArgMatches<'_>) -> Result<Option<Invocation>, AllocError>
     ensures asked { IfOk result (λ found. option_map asked found
         ≡ Some (sim_of (rows_of (found_of arguments.now)))) }
     ensures zone { IfOk result (λ found. IfSome found HasShape) }
@@ -458,54 +458,54 @@ fn sim_request(alloc: Global, arguments: &ArgMatches<'_>) -> Result<Option<Reque
         shown: shown_by(alloc, arguments)?,
         file: owned_word(alloc, arguments, "file")?,
     };
-    Ok(Some(Request::Sim(request)))
+    Ok(Some(Invocation::Sim(request)))
 }
 
 /// What the words after `loop` ask for, `None` if a number is out of its range.
 fn transfer_request(
     alloc: Global,
     arguments: &ArgMatches<'_>,
-) -> Result<Option<Request>, AllocError>
+) -> Result<Option<Invocation>, AllocError>
     ensures asked { IfOk result (λ found. option_map asked found
         ≡ option_map asks.loop (loop_of (rows_of (found_of arguments.now)))) }
     ensures zone { IfOk result (λ found. IfSome found HasShape) }
 {
-    Ok(loop_request(alloc, arguments)?.map(Request::Loop))
+    Ok(loop_request(alloc, arguments)?.map(Invocation::Loop))
 }
 
 /// What the words after `ask` ask for.
-fn ask_request(alloc: Global, arguments: &ArgMatches<'_>) -> Result<Option<Request>, AllocError>
+fn ask_request(alloc: Global, arguments: &ArgMatches<'_>) -> Result<Option<Invocation>, AllocError>
     ensures asked { IfOk result (λ found. option_map asked found
         ≡ ask_of (rows_of (found_of arguments.now))) }
     ensures zone { IfOk result (λ found. IfSome found HasShape) }
 {
     let words = owned_words(alloc, arguments, "words")?;
     match owned_word(alloc, arguments, "address")? {
-        Some(address) => Ok(Some(Request::Ask { address, words })),
+        Some(address) => Ok(Some(Invocation::Ask { address, words })),
         None => Ok(None),
     }
 }
 
 /// What the words after `play` ask for.
-fn play_request(alloc: Global, arguments: &ArgMatches<'_>) -> Result<Option<Request>, AllocError>
+fn play_request(alloc: Global, arguments: &ArgMatches<'_>) -> Result<Option<Invocation>, AllocError>
     ensures asked { IfOk result (λ found. option_map asked found
         ≡ play_of (rows_of (found_of arguments.now))) }
     ensures zone { IfOk result (λ found. IfSome found HasShape) }
 {
     match owned_word(alloc, arguments, "listen")? {
-        Some(address) => Ok(Some(Request::Play { address })),
+        Some(address) => Ok(Some(Invocation::Play { address })),
         None => Ok(None),
     }
 }
 
 /// What the words after `station` ask for, `None` if a number is out of its range, or a carrier, a
 /// unit or a rule of names is none.
-fn serving_request(alloc: Global, arguments: &ArgMatches<'_>) -> Result<Option<Request>, AllocError>
+fn serving_request(alloc: Global, arguments: &ArgMatches<'_>) -> Result<Option<Invocation>, AllocError>
     ensures asked { IfOk result (λ found. option_map asked found
         ≡ option_map asks.station (station_of (rows_of (found_of arguments.now)))) }
     ensures zone { IfOk result (λ found. IfSome found HasShape) }
 {
-    Ok(station_request(alloc, arguments)?.map(Request::Station))
+    Ok(station_request(alloc, arguments)?.map(Invocation::Station))
 }
 
 /// Copies the word that was found for this argument, if there is one.
@@ -524,14 +524,14 @@ pub fn owned_word(
 }
 
 /// What the words after `dump` ask for, `None` if KIND is no kind.
-fn dump_request(alloc: Global, arguments: &ArgMatches<'_>) -> Result<Option<Request>, AllocError>
+fn dump_request(alloc: Global, arguments: &ArgMatches<'_>) -> Result<Option<Invocation>, AllocError>
     ensures asked { IfOk result (λ found. option_map asked found
         ≡ dump_of (rows_of (found_of arguments.now))) }
     ensures zone { IfOk result (λ found. IfSome found HasShape) }
 {
     let file = owned_word(alloc, arguments, "file")?;
     match lines_asked(arguments) {
-        Some(lines) => Ok(Some(Request::Dump { lines, file })),
+        Some(lines) => Ok(Some(Invocation::Dump { lines, file })),
         None => Ok(None),
     }
 }

@@ -11,7 +11,7 @@ mod settings_file;
 mod shown;
 mod station;
 
-pub use arguments::{Request, SimRequest, VERSION, parse, read, version_status};
+pub use arguments::{Invocation, SimRequest, VERSION, parse, read, version_status};
 pub use looping::LoopRequest;
 pub use losses::{LossRequest, frame_losses, note_losses};
 pub use sets::SetError;

@@ -4,3 +4,6 @@ mod LinesShown
 mod HearingLemmas
 mod Summing
 mod Takes
+mod Attending
+mod InTurn
+mod Known

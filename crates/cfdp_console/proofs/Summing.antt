@@ -2,7 +2,7 @@
 use Rattle.std.proofs.Common.{◌≡◌, ◌<◌, ◌≤◌, ◌+◌, ◌-◌, ◌++◌, ℕ, List, [], ◌∷◌, length, take, min, arith, refl, sym, ap, subst, append_assoc, append-nil, ◌∙◌}
 use Rattle.std.proofs.lemmas.List.{length-take, length_push, take_all, take-append-le}
 use Rattle.cfdp_console.specs.Ranges.{Summarizes, most_counted, octets_of}
-use Rattle.cfdp_console.specs.declared.ranges.Ranges.{Ranges}
+use Rattle.cfdp_console.specs.declared.ranges.RangeSummary.{RangeSummary}
 
 -- fewer than all that may be kept are kept: so all are, and one more is
 pub grown : (most : ℕ) (all first : List (ℕ × ℕ)) (r : ℕ × ℕ) → first ≡ take most all → length first < most → first ++ r ∷ [] ≡ take most (all ++ r ∷ [])
@@ -31,20 +31,20 @@ summed all start end octets is = omega (arith, is, octets-more all (start, end))
 
 -- ---- ranges that are added one by one
 -- some of all ranges are added, and the others are left
-pub record IsDone (left all : List (ℕ × ℕ)) (it : Ranges) : Type 0 where
+pub record IsDone (left all : List (ℕ × ℕ)) (it : RangeSummary) : Type 0 where
   pub done : List (ℕ × ℕ)
   pub is : done ++ left ≡ all
   pub sums : Summarizes done it
 
-pub begins : (all : List (ℕ × ℕ)) (it : Ranges) → Summarizes [] it → IsDone all all it
+pub begins : (all : List (ℕ × ℕ)) (it : RangeSummary) → Summarizes [] it → IsDone all all it
 begins all it sums = record { done = []; is = refl; sums = sums }
 
-pub goes_on : (r : ℕ × ℕ) (left all : List (ℕ × ℕ)) (old new : Ranges) → IsDone (r ∷ left) all old → ((some : List (ℕ × ℕ)) → Summarizes some old → Summarizes (some ++ (r.0, r.1) ∷ []) new) → IsDone left all new
+pub goes_on : (r : ℕ × ℕ) (left all : List (ℕ × ℕ)) (old new : RangeSummary) → IsDone (r ∷ left) all old → ((some : List (ℕ × ℕ)) → Summarizes some old → Summarizes (some ++ (r.0, r.1) ∷ []) new) → IsDone left all new
 goes_on r left all old new so_far adds = record {
   done = so_far.done ++ r ∷ [];
   is = append_assoc so_far.done (r ∷ []) left ∙ so_far.is;
   sums = adds so_far.done so_far.sums;
 }
 
-pub ends : (all : List (ℕ × ℕ)) (it : Ranges) → IsDone [] all it → Summarizes all it
+pub ends : (all : List (ℕ × ℕ)) (it : RangeSummary) → IsDone [] all it → Summarizes all it
 ends all it so_far = subst (λ xs. Summarizes xs it) (sym (append-nil so_far.done) ∙ so_far.is) so_far.sums

@@ -3,7 +3,7 @@ use Rattle.std.specs.Prelude.{ℕ, codes, map}
 use Rattle.serde_json.specs.Data.{Data, boolean, string, object, member, no_members, array, item, no_items}
 use Rattle.serde_json.specs.View.{items_of}
 use Rattle.cfdp_console.specs.Shown.{count, number_or_null}
-use Rattle.cfdp_console.specs.declared.ranges.Ranges.{Ranges}
+use Rattle.cfdp_console.specs.declared.ranges.RangeSummary.{RangeSummary}
 use Rattle.cfdp_console.specs.declared.rounds.Round.{Round}
 use Rattle.cfdp_console.specs.declared.shown.TimerShown.{TimerShown}
 
@@ -11,7 +11,7 @@ use Rattle.cfdp_console.specs.declared.shown.TimerShown.{TimerShown}
 abbrev pub pair_data : ℕ × ℕ → Data
 pair_data r = array (item (count r.0) (item (count r.1) no_items))
 
-abbrev pub ranges_data : Ranges → Data
+abbrev pub ranges_data : RangeSummary → Data
 ranges_data it = object (member (codes "count") (count it.count)
     (member (codes "octets") (count it.octets)
     (member (codes "ranges") (array (items_of (map pair_data it.first.items))) no_members)))

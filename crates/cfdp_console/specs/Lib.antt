@@ -7,3 +7,5 @@ pub mod Ranges
 pub mod Rounds
 pub mod Denying
 pub mod Details
+pub mod Came
+pub mod Serving

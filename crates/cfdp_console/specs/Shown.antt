@@ -5,7 +5,7 @@ use Rattle.serde_json.specs.Data.{Data, null, boolean, number, unsigned, string,
 use Rattle.cfdp_console.specs.declared.ledger.Way.{Way}
 use Rattle.cfdp_console.specs.declared.ledger.Way.TheVariants as way
 use Rattle.cfdp_console.specs.declared.shown.LinkStatus.{LinkStatus}
-use Rattle.cfdp_console.specs.declared.shown.Counters.{Counters}
+use Rattle.cfdp_console.specs.declared.shown.ShownCounters.{ShownCounters}
 use Rattle.cfdp_console.specs.declared.shown.Dropped.{Dropped}
 use Rattle.cfdp_console.specs.declared.shown.Open.{Open}
 use Rattle.cfdp_console.specs.declared.shown.OpenPhases.{OpenPhases}
@@ -59,7 +59,7 @@ link_data it = object (member (codes "authenticated") (boolean it.is_authenticat
     (member (codes "thrown_away") (count it.thrown_away)
     (member (codes "to") (string (string_bytes it.to)) no_members))))))))))))
 
-abbrev pub counters_data : Counters → Data
+abbrev pub counters_data : ShownCounters → Data
 counters_data it = object (member (codes "file_data_sent") (count it.file_data_sent)
     (member (codes "file_data_sent_again") (count it.file_data_sent_again)
     (member (codes "files_failed") (count it.files_failed)

@@ -13,7 +13,7 @@ use crate::documents::{
 use crate::look::Look;
 use crate::metrics::write_metrics;
 use crate::page::{PAGE, POLICY};
-use crate::shown::Shown;
+use crate::shown::ConsoleView;
 use bytes::{BufMut, Bytes};
 use http::{HeaderValue, Request, StatusCode, header};
 use http_server::{Response, Service};
@@ -22,37 +22,37 @@ use std::alloc::{AllocError, Global};
 
 /// What the body of an answer is.
 #[derive(Clone, Copy, PartialEq, Eq)]
-pub enum Kind {
+pub enum BodyKind {
     Page,
     Json,
     Metrics,
 }
 
-impl Kind {
+impl BodyKind {
     fn media_type(self) -> HeaderValue {
         match self {
-            Kind::Page => HeaderValue::from_static("text/html; charset=utf-8"),
-            Kind::Json => HeaderValue::from_static("application/json"),
-            Kind::Metrics => HeaderValue::from_static("text/plain; version=0.0.4"),
+            BodyKind::Page => HeaderValue::from_static("text/html; charset=utf-8"),
+            BodyKind::Json => HeaderValue::from_static("application/json"),
+            BodyKind::Metrics => HeaderValue::from_static("text/plain; version=0.0.4"),
         }
     }
 }
 
 /// What a request is answered.
 #[derive(Drop)]
-pub struct Answer {
+pub struct WebAnswer {
     pub status: StatusCode,
-    pub kind: Kind,
+    pub kind: BodyKind,
     pub body: String,
 }
 
-impl Answer {
+impl WebAnswer {
     /// Returns the answer that a command was done.
     ///
     /// # Errors
     ///
     /// `AllocError` if there is no memory for it.
-    pub fn done(alloc: Global) -> Result<Answer, AllocError>
+    pub fn done(alloc: Global) -> Result<WebAnswer, AllocError>
         ensures { IfOk result (λ answer. answer.status ≡ 200) }
     {
         json_answer(alloc, StatusCode::OK, &json!(in alloc; {"ok": true})?)
@@ -63,7 +63,7 @@ impl Answer {
     /// # Errors
     ///
     /// `AllocError` if there is no memory for it.
-    pub fn refused(alloc: Global, why: &str) -> Result<Answer, AllocError>
+    pub fn refused(alloc: Global, why: &str) -> Result<WebAnswer, AllocError>
         ensures { IfOk result (λ answer. answer.status ≡ 409) }
     {
         json_answer(
@@ -78,7 +78,7 @@ impl Answer {
     /// # Errors
     ///
     /// `AllocError` if there is no memory for it.
-    pub fn denied(alloc: Global, by: Denial) -> Result<Answer, AllocError> {
+    pub fn denied(alloc: Global, by: Denial) -> Result<WebAnswer, AllocError> {
         let why = by.meaning();
         json_answer(alloc, by.status(), &json!(in alloc; {"error": why})?)
     }
@@ -88,7 +88,7 @@ impl Answer {
     /// # Errors
     ///
     /// `AllocError` if there is no memory for it.
-    pub fn shows(alloc: Global, look: &Look, shown: Shown<'_>) -> Result<Answer, AllocError> {
+    pub fn shows(alloc: Global, look: &Look, shown: ConsoleView<'_>) -> Result<WebAnswer, AllocError> {
         let value = match look {
             Look::Page => return page(alloc),
             Look::Metrics => return metrics(alloc, shown),
@@ -106,58 +106,58 @@ impl Answer {
 }
 
 /// An answer of JSON.
-fn json_answer(alloc: Global, status: StatusCode, value: &Value) -> Result<Answer, AllocError>
+fn json_answer(alloc: Global, status: StatusCode, value: &Value) -> Result<WebAnswer, AllocError>
     ensures status { IfOk result (λ answer. answer.status ≡ status) }
     ensures reads_back { IfOk result (λ answer. depth (view value.now) ≤ max_depth
         → read (string_bytes answer.body) ≡ Some (view value.now)) }
 {
-    Ok(Answer {
+    Ok(WebAnswer {
         status,
-        kind: Kind::Json,
+        kind: BodyKind::Json,
         body: value.to_string(alloc)?,
     })
 }
 
-fn page(alloc: Global) -> Result<Answer, AllocError> {
-    Ok(Answer {
+fn page(alloc: Global) -> Result<WebAnswer, AllocError> {
+    Ok(WebAnswer {
         status: StatusCode::OK,
-        kind: Kind::Page,
+        kind: BodyKind::Page,
         body: String::from_str(alloc, PAGE)?,
     })
 }
 
-fn metrics(alloc: Global, shown: Shown<'_>) -> Result<Answer, AllocError> {
+fn metrics(alloc: Global, shown: ConsoleView<'_>) -> Result<WebAnswer, AllocError> {
     let mut body = String::new(alloc);
     if write_metrics(&mut body, shown.status).is_err() {
         return Err(AllocError);
     }
-    Ok(Answer {
+    Ok(WebAnswer {
         status: StatusCode::OK,
-        kind: Kind::Metrics,
+        kind: BodyKind::Metrics,
         body,
     })
 }
 
 /// The page's own token.
-fn token(alloc: Global, shown: Shown<'_>) -> Result<Answer, AllocError> {
+fn token(alloc: Global, shown: ConsoleView<'_>) -> Result<WebAnswer, AllocError> {
     match shown.token {
         Some(token) => json_answer(alloc, StatusCode::OK, &json!(in alloc; {"token": token})?),
-        None => Answer::denied(alloc, Denial::NotFound),
+        None => WebAnswer::denied(alloc, Denial::NotFound),
     }
 }
 
 /// One transaction that is open, or one of the last that were closed.
-fn transaction(alloc: Global, id: &[u8], shown: Shown<'_>) -> Result<Answer, AllocError> {
+fn transaction(alloc: Global, id: &[u8], shown: ConsoleView<'_>) -> Result<WebAnswer, AllocError> {
     match transaction_value(alloc, id, shown)? {
         Some(value) => json_answer(alloc, StatusCode::OK, &value),
-        None => Answer::denied(alloc, Denial::NotFound),
+        None => WebAnswer::denied(alloc, Denial::NotFound),
     }
 }
 
 /// The details of such a transaction.
-fn details(alloc: Global, id: &[u8], shown: Shown<'_>) -> Result<Answer, AllocError> {
+fn details(alloc: Global, id: &[u8], shown: ConsoleView<'_>) -> Result<WebAnswer, AllocError> {
     let Some(transaction) = transaction_value(alloc, id, shown)? else {
-        return Answer::denied(alloc, Denial::NotFound);
+        return WebAnswer::denied(alloc, Denial::NotFound);
     };
     let value = details_value(alloc, shown, transaction)?;
     json_answer(alloc, StatusCode::OK, &value)
@@ -167,7 +167,7 @@ fn details(alloc: Global, id: &[u8], shown: Shown<'_>) -> Result<Answer, AllocEr
 fn transaction_value(
     alloc: Global,
     id: &[u8],
-    shown: Shown<'_>,
+    shown: ConsoleView<'_>,
 ) -> Result<Option<Value>, AllocError> {
     for open in shown.open {
         if open.id.as_bytes() == id {
@@ -181,7 +181,7 @@ fn transaction_value(
 fn closed_transaction_value(
     alloc: Global,
     id: &[u8],
-    shown: Shown<'_>,
+    shown: ConsoleView<'_>,
 ) -> Result<Option<Value>, AllocError> {
     for closed in shown.ledger.closed().iter() {
         if id_text(alloc, closed.id)?.as_bytes() == id {
@@ -194,7 +194,7 @@ fn closed_transaction_value(
 /// Gives an answer to a request, and closes the connection after it if it `closes`.
 #[derive(Drop)]
 pub struct Answering<'a> {
-    pub answer: &'a Answer,
+    pub answer: &'a WebAnswer,
     pub closes: bool,
 }
 
@@ -221,7 +221,7 @@ impl Service for Answering<'_> {
 /// Adds the fields of the head: nothing of an answer may be kept, taken for something else, or
 /// shown
 /// within another page; and a page has nothing run or loaded but what it has itself.
-fn add_fields(response: &mut Response, kind: Kind) -> Result<(), AllocError>
+fn add_fields(response: &mut Response, kind: BodyKind) -> Result<(), AllocError>
     ensures { OnOk result (response.new.body ≡ response.old.body) }
 {
     response.add_header(header::CONTENT_TYPE, kind.media_type())?;

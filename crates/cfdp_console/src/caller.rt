@@ -11,7 +11,7 @@ ghost use Rattle.cfdp_console.specs.Asking.{May};
 ghost use Rattle.cfdp_console.specs.Hearing.{Heard, HearsNothing, HearsRequest, IsGone, Listens};
 ghost use Rattle.cfdp_console.specs.Hearing.{Reads, Waits, octets_of, requests_of};
 
-use crate::answer::{Answer, Answering};
+use crate::answer::{WebAnswer, Answering};
 use crate::asking::{Ask, judge};
 use crate::denial::Denial;
 use crate::guard::Guard;
@@ -213,14 +213,14 @@ impl Caller {
         match asked {
             Ok(ask) => Some(ask),
             Err(denial) => {
-                self.answers(Answer::denied(self.alloc, denial), now);
+                self.answers(WebAnswer::denied(self.alloc, denial), now);
                 None
             }
         }
     }
 
     /// Answers what it asks. If there is no memory for the answer, it is left without one.
-    pub fn answers(&mut self, answer: Result<Answer, AllocError>, now: u64)
+    pub fn answers(&mut self, answer: Result<WebAnswer, AllocError>, now: u64)
         ensures same { self.new.hearing ≡ self.old.hearing }
         ensures kept { HearsNothing self.old self.new }
     {

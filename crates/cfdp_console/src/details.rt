@@ -5,10 +5,10 @@ ghost use Rattle.serde_json.specs.View.{items_of, view};
 ghost use Rattle.cfdp_console.specs.Details.{pair_data, ranges_data, round_data, timer_data};
 
 use crate::documents::{insert, number};
-use crate::passed::Passed;
-use crate::ranges::Ranges;
+use crate::passed::Traffic;
+use crate::ranges::RangeSummary;
 use crate::rounds::{Round, Rounds};
-use crate::shown::{Parts, Shown, TimerShown};
+use crate::shown::{Parts, ConsoleView, TimerShown};
 use serde_json::{Map, Value, json};
 use std::alloc::{AllocError, Global};
 
@@ -19,7 +19,7 @@ use std::alloc::{AllocError, Global};
 /// `AllocError` if there is no memory for it.
 pub fn details_value(
     alloc: Global,
-    shown: Shown<'_>,
+    shown: ConsoleView<'_>,
     transaction: Value,
 ) -> Result<Value, AllocError> {
     let mut object = Value::Object(Map::new(alloc));
@@ -63,7 +63,7 @@ fn insert_parts(
 }
 
 /// Adds what passed over the link.
-fn insert_passed(alloc: Global, object: &mut Value, passed: &Passed) -> Result<(), AllocError> {
+fn insert_passed(alloc: Global, object: &mut Value, passed: &Traffic) -> Result<(), AllocError> {
     let (pdus, octets) = (passed.again, passed.octets_again);
     let again = json!(in alloc; {"octets": octets, "pdus": pdus})?;
     insert(alloc, object, "sent_again", again)?;
@@ -127,7 +127,7 @@ fn timer_value(alloc: Global, it: &TimerShown) -> Result<Value, AllocError>
 }
 
 /// The object of ranges: the first ones, how many there are, and how many octets they have.
-fn ranges_value(alloc: Global, ranges: &Ranges) -> Result<Value, AllocError>
+fn ranges_value(alloc: Global, ranges: &RangeSummary) -> Result<Value, AllocError>
     ensures { IfOk result (λ it. view it ≡ ranges_data ranges.now) }
 {
     let first = array_value(pair_values(alloc, ranges.first())?);

@@ -9,7 +9,7 @@ use crate::ledger::{Closed, Way};
 use crate::log_lines::LogLine;
 use crate::samples::Samples;
 use crate::shown::{
-    Counters, Dropped, Failed, LinkStatus, NoteShown, Open, OpenPhases, Shown, Told,
+    ShownCounters, Dropped, Failed, LinkStatus, NoteShown, Open, OpenPhases, ConsoleView, Told,
 };
 use cfdp_header::TransactionId;
 use serde_json::{Map, Value, json};
@@ -108,7 +108,7 @@ pub fn link_value(alloc: Global, link: &LinkStatus) -> Result<Value, AllocError>
 /// # Errors
 ///
 /// `AllocError` if there is no memory for it.
-pub fn counters_value(alloc: Global, counters: &Counters) -> Result<Value, AllocError>
+pub fn counters_value(alloc: Global, counters: &ShownCounters) -> Result<Value, AllocError>
     ensures { IfOk result (λ it. view it ≡ counters_data counters.now) }
 {
     json!(in alloc; {
@@ -262,7 +262,7 @@ fn str_value(alloc: Global, value: Option<&str>) -> Result<Value, AllocError> {
 /// # Errors
 ///
 /// `AllocError` if there is no memory for it.
-pub fn status_value(alloc: Global, shown: Shown<'_>) -> Result<Value, AllocError> {
+pub fn status_value(alloc: Global, shown: ConsoleView<'_>) -> Result<Value, AllocError> {
     let status = shown.status;
     let mut object = numbers_of(alloc, shown)?;
     insert(alloc, &mut object, "timeout", number(status.timeout))?;
@@ -280,7 +280,7 @@ pub fn status_value(alloc: Global, shown: Shown<'_>) -> Result<Value, AllocError
 }
 
 /// Adds what failed, what was noted and what was dropped to the object of `/status`.
-fn insert_lists(alloc: Global, object: &mut Value, shown: Shown<'_>) -> Result<(), AllocError> {
+fn insert_lists(alloc: Global, object: &mut Value, shown: ConsoleView<'_>) -> Result<(), AllocError> {
     let status = shown.status;
     let failed = failed_values(alloc, status.failed.as_slice())?;
     insert(alloc, object, "failed", failed)?;
@@ -291,7 +291,7 @@ fn insert_lists(alloc: Global, object: &mut Value, shown: Shown<'_>) -> Result<(
 }
 
 /// An object of the numbers that are always known of a station.
-fn numbers_of(alloc: Global, shown: Shown<'_>) -> Result<Value, AllocError> {
+fn numbers_of(alloc: Global, shown: ConsoleView<'_>) -> Result<Value, AllocError> {
     let status = shown.status;
     let mut object = Value::Object(Map::new(alloc));
     for (name, number) in &[
@@ -377,7 +377,7 @@ fn dropped_values(alloc: Global, dropped: &[Dropped]) -> Result<Value, AllocErro
 /// `AllocError` if there is no memory for it.
 pub fn transactions_value(
     alloc: Global,
-    shown: Shown<'_>,
+    shown: ConsoleView<'_>,
     after: u64,
 ) -> Result<Value, AllocError> {
     let mut open = Vec::new(alloc);
@@ -413,7 +413,7 @@ pub fn files_value(alloc: Global, files: &[String]) -> Result<Value, AllocError>
 /// # Errors
 ///
 /// `AllocError` if there is no memory for it.
-pub fn log_value(alloc: Global, shown: Shown<'_>, after: u64) -> Result<Value, AllocError> {
+pub fn log_value(alloc: Global, shown: ConsoleView<'_>, after: u64) -> Result<Value, AllocError> {
     let mut lines = Vec::new(alloc);
     let mut octets = 0usize;
     for line in shown.log.lines().iter() {

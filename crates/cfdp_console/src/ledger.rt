@@ -1,6 +1,6 @@
 //! What is known of the transactions of a station: those that are open, and the last that were
 //! closed.
-use crate::passed::Passed;
+use crate::passed::Traffic;
 use cfdp_header::TransactionId;
 use indexmap::IndexMap;
 use std::alloc::{AllocError, Global};
@@ -60,7 +60,7 @@ pub struct Known {
     /// Whether its EOF was sent or came.
     pub has_eof: bool,
     /// What passed of it over the link.
-    pub passed: Passed,
+    pub passed: Traffic,
 }
 
 /// A transaction that is over.
@@ -71,12 +71,12 @@ pub struct Closed {
     pub id: TransactionId,
     pub known: Known,
     /// How it ended.
-    pub ending: Ending,
+    pub ending: TransferEnd,
 }
 
 /// How a transaction ended.
 #[derive(Clone, Copy)]
-pub struct Ending {
+pub struct TransferEnd {
     /// Whether the file lies at its receiver.
     pub is_complete: bool,
     /// What its condition says.
@@ -177,7 +177,7 @@ impl Ledger {
 
     /// Returns what passed of a transaction that is open or is one of the last that were closed. If
     /// nothing is known of it and it `is_open`, that is nothing yet; otherwise `None`.
-    pub fn passed_mut(&mut self, id: TransactionId, is_open: bool) -> Option<&mut Passed> {
+    pub fn passed_mut(&mut self, id: TransactionId, is_open: bool) -> Option<&mut Traffic> {
         if self.open.contains_key(&id) || is_open && self.closed_one(id).is_none() {
             return Some(&mut self.known_mut(id)?.passed);
         }
@@ -200,7 +200,7 @@ impl Ledger {
     }
 
     /// Notes that the transaction is over, and how it ended.
-    pub fn ends(&mut self, id: TransactionId, ending: Ending) {
+    pub fn ends(&mut self, id: TransactionId, ending: TransferEnd) {
         if self.closed_one(id).is_some() && !self.open.contains_key(&id) {
             return;
         }
@@ -245,7 +245,7 @@ fn nothing(alloc: Global, own: u64, id: TransactionId) -> Known {
         octets: None,
         is_suspended: false,
         has_eof: false,
-        passed: Passed::new(alloc),
+        passed: Traffic::new(alloc),
     }
 }
 

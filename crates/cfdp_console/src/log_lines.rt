@@ -3,7 +3,7 @@ ghost use Rattle.std.specs.Prelude.{◌≡◌, ◌<◌, ◌^◌, ◌∷◌, ◌+
 ghost use Rattle.std.specs.Prelude.{length, string_bytes};
 ghost use Rattle.cfdp_console.specs.LastLines.{IsTold, KeepsOctet, ShowsLast, ShowsNext, ShowsOrLeaves};
 
-use past::Past;
+use ghost_list::GhostList;
 use std::alloc::{AllocError, Global};
 use std::collections::VecDeque;
 use std::marker::Model;
@@ -27,8 +27,8 @@ pub struct LogLine {
 struct LastLines {
     lines: VecDeque<LogLine>,
     // All that were shown, and the numbers of those that were left out. Only clauses see them.
-    shown: Past<LogLine>,
-    left_out: Past<u64>,
+    shown: GhostList<LogLine>,
+    left_out: GhostList<u64>,
 }
 
 impl Model for LastLines {
@@ -53,8 +53,8 @@ impl LastLines {
     {
         LastLines {
             lines: VecDeque::new(alloc),
-            shown: Past::new(),
-            left_out: Past::new(),
+            shown: GhostList::new(),
+            left_out: GhostList::new(),
         }
     }
 
@@ -100,7 +100,7 @@ pub struct LogLines {
     has_all: bool,
     count: u64,
     // All octets of the log. Only clauses see them.
-    came: Past<u8>,
+    came: GhostList<u8>,
 }
 
 impl Model for LogLines {
@@ -127,7 +127,7 @@ impl LogLines {
             begun: Vec::new(alloc),
             has_all: true,
             count: 0,
-            came: Past::new(),
+            came: GhostList::new(),
         }
     }
 

@@ -5,7 +5,7 @@ use std::alloc::Global;
 /// What passed of a transaction over the link, as far as it was followed. Counts stay at the
 /// greatest `u64`.
 #[derive(Drop)]
-pub struct Passed {
+pub struct Traffic {
     /// The NAKs: those that its sender received, or its receiver sent.
     pub rounds: Rounds,
     /// How many PDUs of file data its sender sent again since a NAK requested them, and how many
@@ -20,10 +20,10 @@ pub struct Passed {
     pub finisheds: u64,
 }
 
-impl Passed {
+impl Traffic {
     /// Nothing has passed yet.
-    pub fn new(alloc: Global) -> Passed {
-        Passed {
+    pub fn new(alloc: Global) -> Traffic {
+        Traffic {
             rounds: Rounds::new(alloc),
             again: 0,
             octets_again: 0,

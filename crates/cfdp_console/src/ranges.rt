@@ -10,20 +10,20 @@ use std::alloc::{AllocError, Global};
 /// how many there are, and how many octets they have together. So what is shown of them is short,
 /// however many there are.
 #[derive(Drop)]
-pub struct Ranges {
+pub struct RangeSummary {
     most: usize,
     first: Vec<(u64, u64)>,
     count: u64,
     octets: u64,
 }
 
-impl Ranges {
+impl RangeSummary {
     /// Returns no ranges. Of those that are added, the first `most` are kept.
-    pub fn new(alloc: Global, most: usize) -> Ranges
+    pub fn new(alloc: Global, most: usize) -> RangeSummary
         ensures empty { Summarizes [] result }
         ensures most { result.most ≡ most }
     {
-        Ranges {
+        RangeSummary {
             most,
             first: Vec::new(alloc),
             count: 0,
@@ -37,10 +37,10 @@ impl Ranges {
     ///
     /// `AllocError` if there is no memory for them.
     #[tactic(auto, using(crate::proofs::Summing::begins, crate::proofs::Summing::goes_on, crate::proofs::Summing::ends))]
-    pub fn of_held(alloc: Global, most: usize, held: &Extents) -> Result<Ranges, AllocError>
+    pub fn of_held(alloc: Global, most: usize, held: &Extents) -> Result<RangeSummary, AllocError>
         ensures { IfOk result (λ it. Summarizes (ranges_of held.now) it) }
     {
-        let mut ranges = Ranges::new(alloc, most);
+        let mut ranges = RangeSummary::new(alloc, most);
         for range in held.ranges() {
             ranges.add(range.0, range.1)?;
         }
@@ -58,10 +58,10 @@ impl Ranges {
         most: usize,
         held: &Extents,
         limit: u64,
-    ) -> Result<Ranges, AllocError>
+    ) -> Result<RangeSummary, AllocError>
         ensures { IfOk result (λ it. Summarizes (gaps_of held.now 0 limit) it) }
     {
-        let mut ranges = Ranges::new(alloc, most);
+        let mut ranges = RangeSummary::new(alloc, most);
         for gap in held.missing(limit) {
             ranges.add(gap.0, gap.1)?;
         }

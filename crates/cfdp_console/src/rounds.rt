@@ -3,7 +3,7 @@ ghost use Rattle.std.specs.Prelude.{◌↔◌, ◌≡◌, IsTrue};
 ghost use Rattle.cfdp_console.specs.Rounds as rounds;
 ghost use Rattle.cfdp_console.specs.Rounds.{AsksAlike, GoesOn};
 
-use crate::ranges::Ranges;
+use crate::ranges::RangeSummary;
 use std::alloc::{AllocError, Global};
 use std::collections::VecDeque;
 
@@ -40,7 +40,7 @@ pub struct Round {
     /// Whether Metadata were requested.
     pub has_metadata: bool,
     /// The ranges of the file that were requested.
-    pub asked: Ranges,
+    pub asked: RangeSummary,
     /// How many rounds in a row, up to the one before, requested as many octets as that one.
     before: u64,
 }
@@ -153,7 +153,7 @@ impl Rounds {
             start,
             end: start,
             has_metadata: false,
-            asked: Ranges::new(self.alloc, MOST_ASKED),
+            asked: RangeSummary::new(self.alloc, MOST_ASKED),
             before,
         });
     }
@@ -172,7 +172,7 @@ fn alike_count(is_alike: bool, before: u64) -> u64
 }
 
 /// Adds ranges.
-fn add_all(ranges: &mut Ranges, all: &[(u64, u64)]) -> Result<(), AllocError> {
+fn add_all(ranges: &mut RangeSummary, all: &[(u64, u64)]) -> Result<(), AllocError> {
     for (start, end) in all {
         ranges.add(*start, *end)?;
     }

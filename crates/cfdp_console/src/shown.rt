@@ -1,7 +1,7 @@
 //! What a station shows of itself.
 use crate::ledger::{Ledger, Way};
 use crate::log_lines::LogLines;
-use crate::ranges::Ranges;
+use crate::ranges::RangeSummary;
 use crate::samples::{FrameCounts, Samples};
 use cfdp_header::TransactionId;
 
@@ -25,7 +25,7 @@ pub struct Status {
     pub phases: OpenPhases,
     /// Units of the clock to the next time-out.
     pub timeout: Option<u64>,
-    pub counters: Counters,
+    pub counters: ShownCounters,
     /// The conditions by which transactions failed.
     pub failed: Vec<Failed>,
     /// How many notes and errors there were, and the last note on each topic.
@@ -113,7 +113,7 @@ pub struct LinkStatus {
 
 /// What a station counted, as the command `counters` of its control address says it.
 #[derive(Clone, Copy)]
-pub struct Counters {
+pub struct ShownCounters {
     pub files_sent: u64,
     pub octets_sent: u64,
     pub files_received: u64,
@@ -171,10 +171,10 @@ pub struct Open {
 /// What of a file is held, and what of it is missing, while it is being received.
 #[derive(Drop)]
 pub struct Parts {
-    pub held: Ranges,
+    pub held: RangeSummary,
     /// What isn't held below the size that the EOF said; below the end of what is held if no EOF
     /// was received yet.
-    pub missing: Ranges,
+    pub missing: RangeSummary,
     /// Whether Metadata weren't received yet.
     pub lacks_metadata: bool,
 }
@@ -204,7 +204,7 @@ pub struct Details {
 
 /// What a console can be asked for, borrowed while it answers.
 #[derive(Clone, Copy)]
-pub struct Shown<'a> {
+pub struct ConsoleView<'a> {
     pub status: &'a Status,
     pub open: &'a [Open],
     /// The names of files that may be sent, in order, if they are asked for.

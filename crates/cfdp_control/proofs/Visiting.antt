@@ -4,8 +4,8 @@ use Rattle.std.specs.List.{Contains}
 use Rattle.std.proofs.Common.{inl, inr}
 use Rattle.std.specs.declared.io.traits.Read.{Ghosts as Read}
 use Rattle.std.specs.declared.io.traits.Write.{Ghosts as Write}
-use Rattle.cfdp_web.specs.Serving.{AreKnownOrNew, IsNew}
-use Rattle.cfdp_web.specs.declared.visitor.Visitor.{Visitor}
+use Rattle.cfdp_console.specs.Serving.{AreKnownOrNew, IsNew}
+use Rattle.cfdp_console.specs.declared.visitor.Visitor.{Visitor}
 
 module _ {S : Type 0} {R : Read S} {W : Write S} where
   known_or_new : (a : List (Visitor S R W)) (b : List (Visitor S R W)) (v : Visitor S R W)

@@ -9,8 +9,8 @@ use Rattle.cfdp_report.specs.declared.unread.Unread.{Unread}
 use Rattle.cfdp_report.specs.declared.unread.Unread.TheVariants as unread
 use Rattle.cfdp_report.specs.Words.{words_of, next_word, nothing_of, one_of, two_of}
 use Rattle.cfdp_report.specs.Meaning.{both, id_of, asked_of}
-use Rattle.cfdp_service.specs.declared.console.Command.{Command}
-use Rattle.cfdp_service.specs.declared.console.Command.TheVariants as command
+use Rattle.cfdp_service.specs.declared.console.OperatorCommand.{OperatorCommand}
+use Rattle.cfdp_service.specs.declared.console.OperatorCommand.TheVariants as command
 use Rattle.cfdp_control.specs.declared.command.Asked.{Asked}
 use Rattle.cfdp_control.specs.declared.command.Asked.TheVariants as asked
 use Rattle.cfdp_control.specs.declared.command.Verb.{Verb}

@@ -4,8 +4,8 @@ use Rattle.std.specs.declared.io.traits.Read.{Ghosts as Read}
 use Rattle.std.specs.declared.io.traits.Write.{Ghosts as Write}
 use Rattle.cfdp_console.specs.declared.asking.Ask.{Ask}
 use Rattle.cfdp_console.specs.declared.guard.Guard.{Guard}
-use Rattle.cfdp_web.specs.Serving.{AreKnownOrNew, AttendsInTurn, staying}
-use Rattle.cfdp_web.specs.declared.visitor.Visitor.{Visitor}
+use Rattle.cfdp_console.specs.Serving.{AreKnownOrNew, AttendsInTurn, staying}
+use Rattle.cfdp_console.specs.declared.visitor.Visitor.{Visitor}
 
 -- Nothing is done; or visitors may come and go, and then those that are there are attended to in
 -- turn: what is given is asked by a request of the visitor of that number.

@@ -8,7 +8,7 @@ ghost use Rattle.cfdp_control.specs.Asking.{asked_by, change_of, named_by, promp
 ghost use Rattle.cfdp_control.specs.Asking.{alone, put_of, rest_of, stop_of, verb_of, wanted};
 
 use cfdp_report::{LineError, Unread, Words, parse_asked, parse_id};
-use cfdp_service::{Command, PutNames};
+use cfdp_service::{OperatorCommand, PutNames};
 use cfdp_station::Request;
 use percent_encoding::percent_decode;
 use std::alloc::{AllocError, Global};
@@ -19,7 +19,7 @@ use strsim::levenshtein;
 #[derive(Drop)]
 pub enum Asked {
     /// That it does something with its transactions, or ends.
-    Command(Command),
+    Command(OperatorCommand),
     /// That nothing leaves, nothing is taken, and its time stands still.
     Freeze,
     /// That it goes on from there.
@@ -321,14 +321,14 @@ fn put(
         source: Vec::from_slice(alloc, source)?,
         destination: Vec::from_slice(alloc, destination)?,
     };
-    Ok(Asked::Command(Command::Put { names, is_first }))
+    Ok(Asked::Command(OperatorCommand::Put { names, is_first }))
 }
 
 fn parse_change(request: Request, words: Words<'_>) -> Result<Asked, LineError>
     ensures { option_map wanted (result_ok result) ≡ change_of request (left words.entry) }
 {
     let id = parse_id(words.one()?)?;
-    Ok(Asked::Command(Command::Change(id, request)))
+    Ok(Asked::Command(OperatorCommand::Change(id, request)))
 }
 
 fn parse_prompt(words: Words<'_>) -> Result<Asked, LineError>
@@ -337,17 +337,17 @@ fn parse_prompt(words: Words<'_>) -> Result<Asked, LineError>
     let (id, kind) = words.two()?;
     let id = parse_id(id)?;
     let keep_alive = parse_asked(kind)?;
-    Ok(Asked::Command(Command::Change(id, Request::Prompt { keep_alive })))
+    Ok(Asked::Command(OperatorCommand::Change(id, Request::Prompt { keep_alive })))
 }
 
 fn parse_stop(words: Words<'_>) -> Result<Asked, LineError>
     ensures { option_map wanted (result_ok result) ≡ stop_of (left words.entry) }
 {
     if words.is_empty() {
-        return Ok(Asked::Command(Command::Stop));
+        return Ok(Asked::Command(OperatorCommand::Stop));
     }
     if words.one()? == b"now".as_slice() {
-        Ok(Asked::Command(Command::StopNow))
+        Ok(Asked::Command(OperatorCommand::StopNow))
     } else {
         Err(LineError::ExtraWord)
     }

@@ -4,7 +4,7 @@ ghost use Rattle.std.specs.Prelude.{false, true, None, Ok, IfNone, IfOk, IsFalse
 
 use crate::line::{LineFault, text_of};
 use cfdp_report::cut_at_first;
-use past::Past;
+use ghost_list::GhostList;
 use std::alloc::{AllocError, Global};
 
 /// The longest line, in octets, without its line feed.
@@ -31,7 +31,7 @@ pub struct LineBuffer {
     // Whether what comes is the rest of a line that was too long.
     pub is_skipping: bool,
     // The octets that came before these: they were taken or dropped. Only clauses see them.
-    pub gone: Past<u8>,
+    pub gone: GhostList<u8>,
     ghost within: { vec_len octets ≤ 4097 },
     ghost none_waits: { is_skipping ≡ true → octets.items ≡ [] },
 }
@@ -48,7 +48,7 @@ impl LineBuffer {
             alloc,
             octets: Vec::new(alloc),
             is_skipping: false,
-            gone: Past::new(),
+            gone: GhostList::new(),
         }
     }
 

@@ -5,7 +5,7 @@ use crate::line::{LineFault, Speaker};
 use crate::standard_input::StandardInput;
 use crate::stream::{Listener, Stream, socket_path, unix_listener};
 use crate::web_door::WebDoor;
-use cfdp_console::{Answer, Ask};
+use cfdp_console::{WebAnswer, Ask};
 use cfdp_exchange::Watched;
 use cfdp_report::cause_text;
 use libc::net::POLLIN;
@@ -159,7 +159,7 @@ impl<'a> LineSources<'a> {
     }
 
     /// Shows what was asked for at the console.
-    pub fn shows(&mut self, to: Speaker, answer: Result<Answer, AllocError>) {
+    pub fn shows(&mut self, to: Speaker, answer: Result<WebAnswer, AllocError>) {
         let now = self.now();
         if let Speaker::Web(number) = to
             && let Some(door) = &mut self.door

@@ -1,13 +1,13 @@
 //! The console's address: connections of browsers, served in the station's own turn.
 ghost use Rattle.std.specs.Prelude.{◌≡◌};
-ghost use Rattle.cfdp_web.specs.Serving.{AreKnownOrNew};
+ghost use Rattle.cfdp_console.specs.Serving.{AreKnownOrNew};
 ghost use Rattle.cfdp_control.specs.Door.{AsksAtDoor};
 
 use crate::cause::address_cause;
 use crate::line_sources::is_passing;
-use cfdp_console::{Answer, Ask, Guard};
+use cfdp_console::{WebAnswer, Ask, Guard};
 use cfdp_exchange::Watched;
-use cfdp_web::{Visitors, WebStream, reply};
+use cfdp_console::{Visitors, WebStream, reply};
 use libc::net::{POLLIN, POLLOUT};
 use std::alloc::AllocError;
 use std::hash::RandomState;
@@ -178,7 +178,7 @@ impl<'a> WebDoor<'a> {
     }
 
     /// Answers what was asked to be shown.
-    pub fn answers(&mut self, number: u64, answer: Result<Answer, AllocError>, now: u64) {
+    pub fn answers(&mut self, number: u64, answer: Result<WebAnswer, AllocError>, now: u64) {
         self.visitors.answers(number, answer, now);
     }
 

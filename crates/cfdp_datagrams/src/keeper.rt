@@ -1,7 +1,7 @@
 //! What keeps the numbers of a station's secured wire, and brings its keys.
 use crate::shared_numbers::SharedNumbers;
 use cfdp_exchange::Exchange;
-use frame_security::{LinkKeys, Refusal};
+use frame_security::{LinkKeys, FrameRefusal};
 use secured_wire::Keeper;
 
 /// The keeper of a station's secured wire. It notes accepted numbers in the state file, brings the
@@ -32,11 +32,11 @@ impl Keeper for StationKeeper<'_, '_> {
 
     /// Counts the refusal. Unless it is a replay or damage, the peer may be set up otherwise: it is
     /// sent a beacon.
-    fn refuses(&mut self, cause: Refusal) {
+    fn refuses(&mut self, cause: FrameRefusal) {
         self.exchange.refused.count(cause);
         if matches!(
             cause,
-            Refusal::Short | Refusal::UnknownSpi | Refusal::NotAuthentic
+            FrameRefusal::Short | FrameRefusal::UnknownSpi | FrameRefusal::NotAuthentic
         ) {
             self.exchange.differs.set(true);
         }

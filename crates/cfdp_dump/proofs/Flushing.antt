@@ -4,7 +4,7 @@ use Rattle.std.specs.Io.KnownBytes.{Keeps}
 use Rattle.std.proofs.KnownBytes.{Keeps-trans}
 use Rattle.captures.specs.Captures.{start_of}
 use Rattle.captures.specs.Packets.{CaptureState}
-use Rattle.vc_packets.specs.declared.channel.Channel.{Channel}
+use Rattle.cfdp_dump.specs.declared.channel.Channel.{Channel}
 use Rattle.cfdp_dump.specs.Dump.{EndsDump, WritesCapture, WritesFile, WritesText}
 use Rattle.cfdp_dump.specs.Dump.Told.{TellsTold, Told}
 use Rattle.cfdp_dump.specs.Dump.Units.{WritesRun}

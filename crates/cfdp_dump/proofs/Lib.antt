@@ -6,3 +6,5 @@ pub mod DumpedLines
 pub mod Gaps
 pub mod Flushing
 pub mod Runs
+mod Missing
+mod Places

@@ -9,16 +9,16 @@ use Rattle.std.specs.declared.alloc.Global.{Global}
 use Rattle.std.specs.Io.KnownBytes.{Appends}
 use Rattle.captures.specs.Captures.{HasTaken, SpellsTo}
 use Rattle.captures.specs.Packets.{CaptureState, Captured, Faulty, ItemText, PacketText}
-use Rattle.captures.specs.declared.reader.Fault.{Fault}
+use Rattle.captures.specs.declared.reader.PlacedFault.{PlacedFault}
 use Rattle.captures.specs.Units.{unit_fault, unit_in}
-use Rattle.captures.specs.declared.unit.Passed.{Passed}
+use Rattle.captures.specs.declared.unit.SkipCause.{SkipCause}
 use Rattle.captures.proofs.Spelling.{spells-more, spells-none}
 use Rattle.aos_frame.specs.Frame.{SpellsFrame, frame_fault}
 use Rattle.aos_frame.specs.declared.error.FrameError.{FrameError}
 use Rattle.aos_frame.specs.declared.header.FrameHeader.{FrameHeader}
-use Rattle.frame_fields.specs.Fields.{mpdu_in}
-use Rattle.vc_packets.specs.Carrying.{CarriedText, FrameCarries, IsUnfollowed}
-use Rattle.vc_packets.specs.declared.channel.Channel.{Channel}
+use Rattle.aos_frame.specs.LinkFields.{mpdu_in}
+use Rattle.cfdp_dump.specs.Carrying.{CarriedText, FrameCarries, IsUnfollowed}
+use Rattle.cfdp_dump.specs.declared.channel.Channel.{Channel}
 use Rattle.cfdp_dump.specs.Spelled.Lines.{WritesLine, WritesLines, as_line}
 use Rattle.cfdp_dump.proofs.TextLines.{lines-none, lines-more, lines_joined, lines_kept}
 use Rattle.cfdp_dump.specs.Dump.{TellsPiece, WritesPieces, WritesText, lines}
@@ -27,7 +27,7 @@ use Rattle.cfdp_dump.specs.Dump.Stepping.{ended_pieces}
 use Rattle.cfdp_dump.specs.Spelled.Shape.{channel_in}
 use Rattle.cfdp_dump.specs.Spelled.Refusal.{has_details, refusal_text}
 use Rattle.cfdp_dump.specs.Spelled.Told.{TellsAsFrame, TellsAsPdu, end_of}
-use Rattle.cfdp_dump.specs.declared.spelled.refusal.Refusal.TheVariants.{Hex}
+use Rattle.cfdp_dump.specs.declared.spelled.refusal.LineRefusal.TheVariants.{Hex}
 use Rattle.cfdp_dump.specs.Dump.Told.{AsFrame, AsPdu, BadHex, IsSaidOf, Says, TellsTold, Told, carried_told, packet_remark, packet_told, pdu_in, place_text}
 use Rattle.cfdp_dump.specs.declared.dump.DumpKind.{DumpKind}
 use Rattle.cfdp_dump.specs.declared.dump.DumpKind.TheVariants.{Pdus, Frames}
@@ -294,7 +294,7 @@ item_unit whole request channels p octets after (Ok x) old new none same wrote =
   written = wrote.written;
 }
 
-pub item_passed : {E : Type 0} (whole : ℕ) (request : DumpRequest) (channels : List Channel) (p : PacketText) (passed : Passed) (r : Result (Unit {0}) E) (old new : Option (List ℕ))
+pub item_passed : {E : Type 0} (whole : ℕ) (request : DumpRequest) (channels : List Channel) (p : PacketText) (passed : SkipCause) (r : Result (Unit {0}) E) (old new : Option (List ℕ))
     → unit_fault p ≡ Some passed → OnOk r (WritesLines (TellsTold request) (Says (PassedBy passed) ∷ []) old new)
     → OnOk r (WritesUnit (TellsItem whole request channels (Captured p)) request channels old new)
 item_passed whole request channels p passed (Err e) old new fault wrote = tt
@@ -320,7 +320,7 @@ bad_line request before line column told end (Ok x) old new said details same wr
 }
 
 -- ---- what can't be read of a capture
-pub item_faulty : {E : Type 0} (whole : ℕ) (request : DumpRequest) (channels : List Channel) (fault : Fault) (place : ℕ) (r : Result (Unit {0}) E) (old new : Option (List ℕ))
+pub item_faulty : {E : Type 0} (whole : ℕ) (request : DumpRequest) (channels : List Channel) (fault : PlacedFault) (place : ℕ) (r : Result (Unit {0}) E) (old new : Option (List ℕ))
     → place ≡ whole - fault.left → OnOk r (WritesLines (TellsTold request) (Says (BadCapture fault.cause place) ∷ []) old new)
     → OnOk r (WritesUnit (TellsItem whole request channels (Faulty fault)) request channels old new)
 item_faulty whole request channels fault place (Err e) old new same wrote = tt

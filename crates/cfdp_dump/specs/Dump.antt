@@ -7,7 +7,7 @@ use Rattle.std.specs.Prelude.{ℕ, ◌<◌, ◌≤◌, ◌==◌, ◌||◌, is_so
 use Rattle.std.specs.Io.KnownBytes.{Keeps}
 use Rattle.captures.specs.Captures.{SpellsTo, start_of}
 use Rattle.captures.specs.Packets.{CaptureState, ItemText}
-use Rattle.vc_packets.specs.declared.channel.Channel.{Channel}
+use Rattle.cfdp_dump.specs.declared.channel.Channel.{Channel}
 use Rattle.cfdp_report.specs.declared.exit.Exit.{Exit}
 use Rattle.cfdp_report.specs.declared.exit.Exit.TheVariants.{Complete, Device}
 use Rattle.cfdp_report.specs.declared.exit.Fault.TheVariants.{NoMemory, TooLong, Unwritable}

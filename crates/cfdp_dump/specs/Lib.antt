@@ -1,2 +1,3 @@
 pub mod Spelled
 pub mod Dump
+pub mod Carrying

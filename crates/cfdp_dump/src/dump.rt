@@ -27,7 +27,7 @@ use crate::dump::capture::write_capture;
 use crate::dump::step::{Piece, take_line};
 use crate::dump::unit::write_unit;
 use crate::spelled::form::DumpForm;
-use crate::spelled::refusal::Refusal;
+use crate::spelled::refusal::LineRefusal;
 use crate::spelled::shape::FrameShape;
 use captures::Capture;
 use cfdp_report::{Exit, Fault, cut_at_first, read_up_to};
@@ -35,7 +35,7 @@ use hex::FromHexError;
 use std::alloc::{AllocError, Global};
 use std::io;
 use std::io::{BufWriter, ErrorKind, Read, Write};
-use vc_packets::Channels;
+use crate::channels::Channels;
 
 /// The longest input of a dump, in octets: 64 MiB.
 const MAX_FILE: usize = 67_108_864;
@@ -267,7 +267,7 @@ fn write_bad_hex<W: Write>(
         (W.contents out.old) (W.contents out.new)) }
 {
     let place = BadPlace::of(request, before, digits);
-    writeln!(out, "{}{place}{}", Refusal::Hex, request.form.end())
+    writeln!(out, "{}{place}{}", LineRefusal::Hex, request.form.end())
 }
 
 /// Returns the octets that the hexadecimal digits of a text spell, in either case, with spaces

@@ -1,7 +1,7 @@
 //! What octets spell, as a line.
 ghost use Rattle.std.specs.Prelude.{◌≡◌, ◌≢◌, ◌+◌, ◌≤◌, length, IfOk, OnOk, Some};
 ghost use Rattle.std.specs.Result.{result_err};
-ghost use Rattle.frame_fields.specs.Fields.{extra, insert_in, mpdu_in};
+ghost use Rattle.aos_frame.specs.LinkFields.{extra, insert_in, mpdu_in};
 ghost use Rattle.aos_frame.specs.Frame.{SpellsFrame, frame_fault};
 ghost use Rattle.mpdu.specs.MpduHeader.{pointer_of};
 ghost use Rattle.cfdp_dump.specs.Spelled.Shape.{channel_in, check_octets, control_octets};
@@ -17,7 +17,7 @@ pub mod shape;
 
 use crate::spelled::form::DumpForm;
 use crate::spelled::line::{DumpedFrame, DumpedPdu, FrameLine, FrameParts};
-use crate::spelled::refusal::{FrameRefusal, Refusal};
+use crate::spelled::refusal::{FrameRefusal, LineRefusal};
 use crate::spelled::shape::FrameShape;
 use aos_frame::{ChannelConfig, FrameError, FrameFields, HEADER_LEN, decode};
 use cfd_bits::get;
@@ -41,7 +41,7 @@ pub fn write_pdu<W: Write>(octets: &[u8], form: DumpForm, out: &mut W) -> io::Re
                 form
             }
         ),
-        Err(error) => writeln!(out, "{}{}", Refusal::Pdu(error), form.end()),
+        Err(error) => writeln!(out, "{}{}", LineRefusal::Pdu(error), form.end()),
     }
 }
 

@@ -6,8 +6,8 @@ use Rattle.std.proofs.lemmas.Bool.Decides.{nat_tests}
 use Rattle.cfdp_header.proofs.Ids.{id_total}
 use Rattle.cfdp_extents.specs.Offsets.{range, is_within}
 use Rattle.cfdp_extents.proofs.CallerLemmas.{contains-range}
-use Rattle.cfdp_forgotten.specs.Forgotten.{IdSet, ids_in}
-use Rattle.cfdp_forgotten.proofs.Sets.{contains-ids}
+use Rattle.cfdp_extents.specs.Forgotten.{IdSet, ids_in}
+use Rattle.cfdp_extents.proofs.Sets.{contains-ids}
 use Rattle.cfdp_entity.specs.Entity.{AreUnforgotten, own_id}
 
 past-end : (start end n : ℕ) → end ≤ n → is_within start end n ≡ false

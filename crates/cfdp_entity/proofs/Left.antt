@@ -18,7 +18,7 @@ use Rattle.std.proofs.lemmas.Option.{slice_get-get_or}
 use Rattle.cfdp_entity.specs.Seen.{Seen}
 use Rattle.cfdp_entity.specs.Table.{Entry, has_due, place_of}
 use Rattle.cfdp_entity.specs.Whole.{entry_seen, entries_seen, state_of, roomy_of, AllReady, IsWhole}
-use Rattle.cfdp_forgotten.specs.Forgotten.{IdSet}
+use Rattle.cfdp_extents.specs.Forgotten.{IdSet}
 use Rattle.cfdp_entity.specs.Entity.{AreFree, AreUnforgotten, own_id}
 use Rattle.cfdp_entity.proofs.CallerLemmas.{same_id-symm}
 use Rattle.cfdp_entity.proofs.Histories.{no-record}

@@ -16,7 +16,7 @@ use Rattle.cfdp_store.specs.declared.stored.Stored.{Stored}
 use Rattle.cfdp_entity.specs.declared.request.Request.{Request}
 use Rattle.std.specs.FinSet as finset
 use Rattle.cfdp_header.specs.Ids.{id_cmp}
-use Rattle.cfdp_forgotten.specs.Forgotten.{IdSet}
+use Rattle.cfdp_extents.specs.Forgotten.{IdSet}
 use Rattle.cfdp_entity.specs.Entity.{AreFree, AreUnforgotten, own_id, next_of}
 use Rattle.cfdp_entity.specs.Opening.{puts, opens}
 use Rattle.cfdp_entity.specs.Steps.{After, hears, expires, calls, takes}

@@ -23,7 +23,7 @@ use Rattle.cfdp_entity.specs.Refusing.{called_in}
 use Rattle.cfdp_entity.specs.Requests.{IsCalled, after_request}
 use Rattle.cfdp_entity.specs.Config.{IsConfig}
 use Rattle.cfdp_entity.specs.Entity.{EntityState, Counted, is_forgotten, with_table}
-use Rattle.cfdp_forgotten.specs.Forgotten.{IdSet}
+use Rattle.cfdp_extents.specs.Forgotten.{IdSet}
 use Rattle.std.specs.FinSet as finset
 use Rattle.cfdp_directives.specs.declared.pdu.codes.Acknowledged.TheVariants as acknowledged
 use Rattle.cfdp_entity.specs.Strays.{StrayAck, over_ack, unknown_ack}

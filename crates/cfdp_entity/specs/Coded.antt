@@ -6,7 +6,7 @@ use Rattle.std.specs.FinSet as finset
 use Rattle.cfdp_header.specs.Files.{FileMap}
 use Rattle.cfdp_store.specs.Staged.{OctetMap}
 use Rattle.cfdp_timers.specs.Armed.{armed_code}
-use Rattle.cfdp_forgotten.specs.Forgotten.{ids_code}
+use Rattle.cfdp_extents.specs.Forgotten.{ids_code}
 
 abbrev pub offsets_code : Coded (finset.FinSet nat_cmp)
 offsets_code = finset.code coded_ℕ

@@ -5,7 +5,7 @@ use Rattle.cfd_bits.specs.Counting.{raised}
 use Rattle.cfdp_header.specs.Files.{FileMap}
 use Rattle.cfdp_header.specs.declared.value.TransactionId.{TransactionId}
 use Rattle.cfdp_directives.specs.declared.user.phase.Phase.{Phase}
-use Rattle.cfdp_forgotten.specs.Forgotten.{IdSet}
+use Rattle.cfdp_extents.specs.Forgotten.{IdSet}
 use Rattle.cfdp_entity.specs.declared.config.EntityConfig.{EntityConfig}
 use Rattle.cfdp_entity.specs.declared.error.EntityDrop.{EntityDrop}
 use Rattle.cfdp_entity.specs.declared.sent.SentPdus.{SentPdus}

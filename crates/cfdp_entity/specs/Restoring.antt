@@ -12,7 +12,7 @@ use Rattle.cfdp_store.specs.Files.{octets_in}
 use Rattle.cfdp_store.specs.Staged.{OctetMap, staged_for}
 use Rattle.cfdp_timers.specs.Waits.{waited}
 use Rattle.cfdp_extents.specs.Offsets.{Offsets}
-use Rattle.cfdp_forgotten.specs.Forgotten.{ids_in}
+use Rattle.cfdp_extents.specs.Forgotten.{ids_in}
 use Rattle.cfdp_receiver.specs.declared.restoring.CommittedReceiver.{CommittedReceiver}
 use Rattle.cfdp_receiver.specs.declared.state.ReceiverPhase.TheVariants.{Receiving}
 use Rattle.cfdp_receiver.specs.Back.{received_from}

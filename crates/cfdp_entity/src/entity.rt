@@ -11,7 +11,7 @@ use crate::sent::SentPdus;
 use crate::stray::Stray;
 use crate::table::Table;
 use cfdp_directives::{Indication, Phase};
-use cfdp_forgotten::Forgotten;
+use cfdp_extents::Forgotten;
 use cfdp_header::TransactionId;
 use cfdp_store::{Inbox, Outbox};
 use circular_buffer::HeapCircularBuffer;

@@ -70,7 +70,7 @@ use cfdp_store::{
 use cfdp_timers::{Effects, Kind};
 use indexmap::IndexMap;
 use indexmap::map::Iter;
-use past::Counted;
+use ghost_list::Counted;
 use std::alloc::{AllocError, Global};
 use std::marker::Model;
 use std::mem;

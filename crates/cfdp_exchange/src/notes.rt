@@ -4,7 +4,7 @@ use crate::drops::CarrierDrop;
 use crate::refusals::refusal_name;
 use cfdp_header::TransactionId;
 use cfdp_station::{EntityDrop, LinkDrop};
-use frame_security::Refusal;
+use frame_security::FrameRefusal;
 use std::alloc::Global;
 use std::cell::RefCell;
 
@@ -40,7 +40,7 @@ pub enum NoteTopic {
     /// Datagrams that were dropped for this cause.
     Datagram(CarrierDrop),
     /// Frames of a secured link that were refused for this cause.
-    Refused(Refusal),
+    Refused(FrameRefusal),
     /// A setting in which the peer differs.
     Differs(Agreed),
     /// The system failed to send or to receive.

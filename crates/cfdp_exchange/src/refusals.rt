@@ -1,24 +1,24 @@
 //! Why frames of a secured link were refused, and how often.
-use frame_security::Refusal;
+use frame_security::FrameRefusal;
 use std::cell::Cell;
 
 /// All causes, in the order in which they are looked for.
-pub const REFUSALS: [Refusal; 5] = [
-    Refusal::Short,
-    Refusal::Damaged,
-    Refusal::UnknownSpi,
-    Refusal::NotAuthentic,
-    Refusal::Replayed,
+pub const REFUSALS: [FrameRefusal; 5] = [
+    FrameRefusal::Short,
+    FrameRefusal::Damaged,
+    FrameRefusal::UnknownSpi,
+    FrameRefusal::NotAuthentic,
+    FrameRefusal::Replayed,
 ];
 
 /// Returns the name of a cause, in one word.
-pub fn refusal_name(cause: Refusal) -> &'static str {
+pub fn refusal_name(cause: FrameRefusal) -> &'static str {
     match cause {
-        Refusal::Short => "Short",
-        Refusal::Damaged => "Damaged",
-        Refusal::UnknownSpi => "UnknownSpi",
-        Refusal::NotAuthentic => "NotAuthentic",
-        Refusal::Replayed => "Replayed",
+        FrameRefusal::Short => "Short",
+        FrameRefusal::Damaged => "Damaged",
+        FrameRefusal::UnknownSpi => "UnknownSpi",
+        FrameRefusal::NotAuthentic => "NotAuthentic",
+        FrameRefusal::Replayed => "Replayed",
     }
 }
 
@@ -46,23 +46,23 @@ impl RefusalTally {
     }
 
     /// Returns how many frames were refused for this cause; the count stays at 2^64 - 1.
-    pub fn of(&self, cause: Refusal) -> u64 {
+    pub fn of(&self, cause: FrameRefusal) -> u64 {
         self.cell(cause).get()
     }
 
     /// Counts one more for this cause.
-    pub fn count(&self, cause: Refusal) {
+    pub fn count(&self, cause: FrameRefusal) {
         let count = self.cell(cause);
         count.set(count.get().saturating_add(1));
     }
 
-    fn cell(&self, cause: Refusal) -> &Cell<u64> {
+    fn cell(&self, cause: FrameRefusal) -> &Cell<u64> {
         match cause {
-            Refusal::Short => &self.short,
-            Refusal::Damaged => &self.damaged,
-            Refusal::UnknownSpi => &self.unknown_spi,
-            Refusal::NotAuthentic => &self.not_authentic,
-            Refusal::Replayed => &self.replayed,
+            FrameRefusal::Short => &self.short,
+            FrameRefusal::Damaged => &self.damaged,
+            FrameRefusal::UnknownSpi => &self.unknown_spi,
+            FrameRefusal::NotAuthentic => &self.not_authentic,
+            FrameRefusal::Replayed => &self.replayed,
         }
     }
 }

@@ -8,3 +8,7 @@ pub mod Kept
 pub mod Inserted
 pub mod Last
 pub mod Counted
+pub mod Greatest
+pub mod Sets
+pub mod Few
+pub mod JoinedNumbers

@@ -3,3 +3,5 @@ pub mod Ranges
 pub mod Front
 pub mod Terms
 pub mod Count
+pub mod Forgotten
+pub mod Few

@@ -2,7 +2,7 @@
 //! however it ends.
 ghost use Rattle.std.specs.Prelude.{◌≡◌, IfOk};
 
-use past::Past;
+use ghost_list::GhostList;
 use std::fs::{File, TryLockError};
 use std::io;
 use std::marker::Model;
@@ -36,7 +36,7 @@ pub fn lock(file: &File) -> Result<(), LockError> {
 #[derive(Drop)]
 pub struct LockedFile {
     _file: File,
-    path: Past<u8>,
+    path: GhostList<u8>,
 }
 
 impl Model for LockedFile {
@@ -58,7 +58,7 @@ impl LockedFile {
     {
         let file = File::open(rt, path)?;
         lock(&file)?;
-        let path = Past::of(path.as_bytes());
+        let path = GhostList::of(path.as_bytes());
         Ok(LockedFile { _file: file, path })
     }
 }

@@ -3,7 +3,7 @@ ghost use Rattle.std.specs.Fs.{IsFile, file_type, metadata_len};
 ghost use Rattle.std.specs.Prelude.{◌≡◌, IfOk, OnOk, true};
 
 use crate::plain_file::Identity;
-use past::Past;
+use ghost_list::GhostList;
 use std::alloc::Global;
 use std::cell::RefCell;
 use std::collections::BTreeMap;
@@ -14,7 +14,7 @@ use std::io::ErrorKind;
 /// A plain file that was made at a path, as it was found there. Only `check` gives one.
 #[derive(Drop)]
 pub struct MadeFile {
-    path: Past<u8>,
+    path: GhostList<u8>,
     size: u64,
 }
 
@@ -75,7 +75,7 @@ impl MadeFiles {
         ensures plain { OnOk result (IsFile (file_type found.now)) }
     {
         if self.is_made(path, found) {
-            let (path, size) = (Past::of(path.as_bytes()), found.len());
+            let (path, size) = (GhostList::of(path.as_bytes()), found.len());
             return Ok(MadeFile { path, size });
         }
         Err(io::Error::from(ErrorKind::StaleNetworkFileHandle))

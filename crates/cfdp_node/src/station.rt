@@ -21,14 +21,14 @@ use cfdp_exchange::{Beacon, Exchange, NoteTopic};
 use cfdp_files::{
     HeldFolder, Reservation, StateError, Wanted, is_same_folder, lies_in, try_folder,
 };
-use cfdp_journal::SeenPdus;
+use cfdp_log::SeenPdus;
 use cfdp_operator::{SpoolNotes, Teller, note};
 use cfdp_report::{Hint, parse_number, parse_setting};
 use cfdp_spool::FolderSpool;
 use cfdp_station::StationConfig;
 use cfdp_watch::{Progress, shown_status};
 use frame_security::LinkKeys;
-use host_journal::{HostSetup, TransferJournal, new_journal};
+use host_journal::{HostSetup, HostJournal, new_journal};
 use station_pair::{Side, WorldConfig};
 use std::alloc::Global;
 use std::borrow::CowStr;
@@ -766,7 +766,7 @@ fn journal_of<'a>(
     rt: &'a HostRuntime,
     request: &'a StationRequest,
     found: &'a Found,
-) -> Option<TransferJournal<'a>> {
+) -> Option<HostJournal<'a>> {
     let path = found.path(request)?;
     let inbox = match &request.inbox {
         Some(folder) => Some(folder.as_str()),

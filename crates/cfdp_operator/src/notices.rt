@@ -10,12 +10,12 @@ use cfdp_exchange::{
     Beacon, CarrierDrop, Exchange, FrameMonitor, NoteTopic, REFUSALS, is_often_late,
 };
 use cfdp_header::TransactionId;
-use cfdp_journal::{PduWatch, Stopped};
+use cfdp_log::{PduWatch, Stopped};
 use cfdp_port::{Lookout, Passed};
 use cfdp_report::cause_text;
 use cfdp_station::{EntityDrop, FrameError, LinkDrop, Station, StationConfig};
 use cfdp_store::{Inbox, Outbox};
-use host_journal::{TransferJournal, sees};
+use host_journal::{HostJournal, sees};
 use station_pair::Side;
 use std::alloc::AllocError;
 use std::cell::Cell;
@@ -147,7 +147,7 @@ pub struct Notices<'a> {
     /// What looks at the PDUs for the console, if there is one.
     pub watch: Option<PduWatch<'a>>,
     /// The journal by which transfers go on, if there is one.
-    pub journal: Option<&'a TransferJournal<'a>>,
+    pub journal: Option<&'a HostJournal<'a>>,
     rt: &'a HostRuntime,
     teller: Teller<'a>,
     exchange: &'a Exchange,

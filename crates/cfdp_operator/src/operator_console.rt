@@ -3,7 +3,7 @@ use crate::refusals::{FileLimits, Refusing, put_fault, sendable_names};
 use crate::teller::Teller;
 use crate::unit::unit_word;
 use cfdp_command_line::TimeUnit;
-use cfdp_console::{Answer, Ask, Look, Shown};
+use cfdp_console::{WebAnswer, Ask, Look, ConsoleView};
 use cfdp_control::{
     Asked, CommandHelp, LineFault, LineSources, Speaker, parse_command, printed_names, split_form,
 };
@@ -11,15 +11,15 @@ use cfdp_directives::Indication;
 use cfdp_exchange::{Exchange, NoteTopic};
 use cfdp_files::{SecretError, read_keys};
 use cfdp_header::TransactionId;
-use cfdp_journal::{
-    Board, Clock, Form, Journal, KeptLog, LossyLog, Moment, SeenPdus, Stopped, Waiting,
+use cfdp_log::{
+    Board, Clock, Form, StationLog, KeptLog, LossyLog, Moment, SeenPdus, Stopped, Waiting,
 };
 use cfdp_report::{Exit, Fault};
-use cfdp_service::{Command, Console, Outcome, PutNames, Reply};
+use cfdp_service::{OperatorCommand, Console, SpoolOutcome, PutNames, Reply};
 use cfdp_station::{Phase, Request, Station};
 use cfdp_store::{Inbox, NameRule, Outbox};
 use cfdp_watch::Progress;
-use host_journal::TransferJournal;
+use host_journal::HostJournal;
 use std::alloc::AllocError;
 use std::fmt;
 use std::io::Write;
@@ -34,7 +34,7 @@ const SECOND: u64 = 1_000;
 #[derive(Drop)]
 pub struct OperatorPost<'a> {
     pub sources: LineSources<'a>,
-    pub journal: Journal<'a, KeptLog<LossyLog<'a>>>,
+    pub journal: StationLog<'a, KeptLog<LossyLog<'a>>>,
     /// What the console shows, if there is one, and the PDUs that it doesn't know yet.
     pub board: Option<Board<'a>>,
     pub pdus: &'a SeenPdus,
@@ -52,7 +52,7 @@ pub struct OperatorPost<'a> {
     pub inactivity: u64,
     pub unit: TimeUnit,
     /// The journal by which transfers go on, if there is one.
-    pub transfers: Option<&'a TransferJournal<'a>>,
+    pub transfers: Option<&'a HostJournal<'a>>,
     /// Who reports to the operator what is wrong.
     pub teller: Teller<'a>,
 }
@@ -116,7 +116,7 @@ impl<'a> OperatorConsole<'a> {
         line: Result<String, LineFault>,
         station: &Station<O, I>,
         waiting: usize,
-    ) -> Option<Command> {
+    ) -> Option<OperatorCommand> {
         let line = match line {
             Ok(line) => line,
             Err(fault) => {
@@ -135,7 +135,7 @@ impl<'a> OperatorConsole<'a> {
         line: &[u8],
         station: &Station<O, I>,
         waiting: usize,
-    ) -> Option<Command> {
+    ) -> Option<OperatorCommand> {
         let (is_json, line) = split_form(line);
         let form = if is_json { Form::Json } else { self.post.form };
         match parse_command(self.rt.alloc(), line) {
@@ -156,12 +156,12 @@ impl<'a> OperatorConsole<'a> {
     }
 
     /// Accepts a command, unless it is a put of a file that can't be sent.
-    fn commanded(&mut self, speaker: Speaker, command: Command) -> Option<Command> {
+    fn commanded(&mut self, speaker: Speaker, command: OperatorCommand) -> Option<OperatorCommand> {
         let Ok(command) = self.named(command) else {
             self.refuses(speaker, &"out of memory");
             return None;
         };
-        if let Command::Put { names, .. } = &command
+        if let OperatorCommand::Put { names, .. } = &command
             && let Some(fault) = put_fault(self.rt, self.post.outbox, self.post.names, names)
         {
             self.refuses(speaker, &fault);
@@ -173,9 +173,9 @@ impl<'a> OperatorConsole<'a> {
 
     /// Returns a command with the names that its words stand for: if files may have any names, the
     /// words are names as they are printed, otherwise the names themselves.
-    fn named(&self, command: Command) -> Result<Command, AllocError> {
+    fn named(&self, command: OperatorCommand) -> Result<OperatorCommand, AllocError> {
         match (command, self.post.names) {
-            (Command::Put { names, is_first }, NameRule::Any) => Ok(Command::Put {
+            (OperatorCommand::Put { names, is_first }, NameRule::Any) => Ok(OperatorCommand::Put {
                 names: printed_names(self.rt.alloc(), &names)?,
                 is_first,
             }),
@@ -188,7 +188,7 @@ impl<'a> OperatorConsole<'a> {
         &mut self,
         station: &Station<O, I>,
         waiting: usize,
-    ) -> Option<Command> {
+    ) -> Option<OperatorCommand> {
         let now = self.post.sources.now();
         let pdus = self.post.pdus.take();
         let board = self.post.board.as_mut()?;
@@ -211,7 +211,7 @@ impl<'a> OperatorConsole<'a> {
         look: &Look,
         station: &Station<O, I>,
         waiting: usize,
-    ) -> Result<Answer, AllocError> {
+    ) -> Result<WebAnswer, AllocError> {
         let alloc = self.rt.alloc();
         let (Some(board), Some(log)) = (&self.post.board, self.post.journal.writer().lines()) else {
             return Err(AllocError);
@@ -237,7 +237,7 @@ impl<'a> OperatorConsole<'a> {
             (Look::Files, Some(folder)) => sendable_names(self.rt, folder, self.post.names)?,
             _ => Vec::new(alloc),
         };
-        let shown = Shown {
+        let shown = ConsoleView {
             status: &status,
             open: open.as_slice(),
             files: files.as_slice(),
@@ -247,7 +247,7 @@ impl<'a> OperatorConsole<'a> {
             samples: board.samples(),
             token: self.post.sources.door().and_then(|door| door.told_token()),
         };
-        Answer::shows(alloc, look, shown)
+        WebAnswer::shows(alloc, look, shown)
     }
 
     /// How the station is now.
@@ -281,12 +281,12 @@ impl<'a> OperatorConsole<'a> {
     }
 
     /// Answers a command: the change of a transaction once it is made, any other at once.
-    fn accepts(&mut self, speaker: Speaker, command: &Command) {
+    fn accepts(&mut self, speaker: Speaker, command: &OperatorCommand) {
         match command {
-            Command::Change(_, request) => {
+            OperatorCommand::Change(_, request) => {
                 self.asker = Some((speaker, matches!(request, Request::Suspend)));
             }
-            Command::Put { .. } | Command::Stop | Command::StopNow => self.is_done(speaker, ""),
+            OperatorCommand::Put { .. } | OperatorCommand::Stop | OperatorCommand::StopNow => self.is_done(speaker, ""),
         }
     }
 
@@ -485,7 +485,7 @@ impl Console for OperatorConsole<'_> {
         &mut self,
         station: &Station<O, I>,
         waiting: usize,
-    ) -> Option<Command> {
+    ) -> Option<OperatorCommand> {
         for _line in 0..MOST_LINES {
             let Some((speaker, line)) = self.post.sources.next_line() else {
                 break;
@@ -502,7 +502,7 @@ impl Console for OperatorConsole<'_> {
             .transfers
             .is_some_and(|journal| journal.is_stuck())
         {
-            return Some(Command::StopNow);
+            return Some(OperatorCommand::StopNow);
         }
         self.takes_notes();
         self.shows_sending(station);
@@ -563,7 +563,7 @@ impl Console for OperatorConsole<'_> {
         self.post.journal.hears(indication);
     }
 
-    fn ends_file(&mut self, name: &[u8], outcome: Outcome) {
+    fn ends_file(&mut self, name: &[u8], outcome: SpoolOutcome) {
         self.progress.yields();
         self.is_told();
         self.post.journal.ends_file(name, outcome);

@@ -12,7 +12,7 @@ use cfdp_store::{
     StoreError,
 };
 use cfdp_watch::{Onlooker, Progress, Reception};
-use host_journal::TransferJournal;
+use host_journal::HostJournal;
 use station_pair::Side;
 use std::alloc::AllocError;
 use std::collections::BTreeSet;
@@ -79,7 +79,7 @@ pub struct TellingInbox<'a> {
     reception: Reception<'a>,
     rules: InboxRules,
     // The journal by which transfers go on, if there is one.
-    journal: Option<&'a TransferJournal<'a>>,
+    journal: Option<&'a HostJournal<'a>>,
 }
 
 /// Which files an inbox accepts.
@@ -144,7 +144,7 @@ impl<'a> TellingInbox<'a> {
         rules: InboxRules,
         teller: Teller<'a>,
         progress: &'a Progress<'a>,
-        journal: (&'a TransferJournal<'a>, &BTreeSet<String>),
+        journal: (&'a HostJournal<'a>, &BTreeSet<String>),
     ) -> Result<TellingInbox<'a>, AllocError> {
         let (journal, parts) = journal;
         let files = InboxFiles::new(rt, rules.replaces, rules.most_size);

@@ -9,7 +9,7 @@ use Rattle.cfdp_directives.specs.declared.user.limits.Times.{Times}
 use Rattle.cfdp_directives.specs.declared.user.policy.Policy.{Policy}
 use Rattle.cfdp_entity.specs.declared.config.EntityConfig.{EntityConfig}
 use Rattle.cfdp_station.specs.declared.config.StationConfig.{StationConfig}
-use Rattle.frame_fields.specs.declared.config.FrameFields.{FrameFields}
+use Rattle.aos_frame.specs.declared.fields.FrameFields.{FrameFields}
 use Rattle.aos_frame.specs.declared.config.LinkConfig.{LinkConfig}
 use Rattle.station_pair.specs.Stations as sides
 use Rattle.station_pair.specs.Stations.{IsWorldConfig}

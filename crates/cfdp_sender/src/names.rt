@@ -2,15 +2,15 @@
 ghost use Rattle.std.specs.Prelude.{◌≡◌, true, false, IfSome, IsSome};
 
 use cfdp_directives::Octets;
-use past::Past;
+use ghost_list::GhostList;
 use std::marker::Model;
 
 /// The names of a file at both ends. A closed sender needs them no more, and memory releases them,
 /// while clauses see them for good.
 #[derive(Debug, Drop)]
 pub(crate) struct Names {
-    source: Past<u8>,
-    destination: Past<u8>,
+    source: GhostList<u8>,
+    destination: GhostList<u8>,
     held: Option<Held>,
 }
 
@@ -43,8 +43,8 @@ impl Names {
         ensures { result ≡ record { source = source; destination = destination; kept = true } }
     {
         Names {
-            source: Past::of(source.as_slice()),
-            destination: Past::of(destination.as_slice()),
+            source: GhostList::of(source.as_slice()),
+            destination: GhostList::of(destination.as_slice()),
             held: Some(Held {
                 source,
                 destination,

@@ -2,7 +2,7 @@
 use Rattle.std.specs.Prelude.{◌≡◌, List, [], ◌∷◌, Option}
 use Rattle.std.specs.List.{flat_map}
 use Rattle.cfdp_directives.specs.declared.user.indication.Indication.{Indication}
-use Rattle.cfdp_service.specs.declared.console.Command.{Command}
+use Rattle.cfdp_service.specs.declared.console.OperatorCommand.{OperatorCommand}
 use Rattle.cfdp_service.specs.declared.user.Intent.{Intent}
 use Rattle.cfdp_service.specs.declared.wish.Reply.{Reply}
 use Rattle.cfdp_service.specs.declared.wish.Wish.{Wish}
@@ -19,7 +19,7 @@ pub data UserCall : Type 0 where
 -- A console was asked for the next command; it heard how a wish was answered, what the station
 -- indicated, or what became of a file.
 pub data ConsoleCall : Type 0 where
-  Gives : (command : Option Command) → ConsoleCall
+  Gives : (command : Option OperatorCommand) → ConsoleCall
   Replied : (reply : Reply) → ConsoleCall
   Heard : (indication : Indication) → ConsoleCall
   Tells : ConsoleCall

@@ -6,7 +6,7 @@ ghost use Rattle.cfdp_service.specs.Clerk.{Leaves, LeavesOpen, OpensNone};
 ghost use Rattle.cfdp_service.specs.Clerk.{WishesAsked, WishesFile, asked_file};
 ghost use Rattle.cfdp_service.specs.Limits.{has_too_many, is_too_long, limits_files};
 
-use crate::console::{Command, Console, Outcome};
+use crate::console::{OperatorCommand, Console, SpoolOutcome};
 use crate::giving_up::{GapCount, refuse_silent};
 use crate::spool::Spool;
 use crate::tries::Tries;
@@ -228,12 +228,12 @@ impl<S: Spool, C: Console> Clerk<S, C> {
         for _command in 0..MOST_COMMANDS {
             let waiting = self.waiting.len();
             match self.console.next(station, waiting) {
-                Some(Command::Put { names, is_first }) => {
+                Some(OperatorCommand::Put { names, is_first }) => {
                     let _ = self.add(names, is_first);
                 }
-                Some(Command::Change(id, request)) => return Some(Wish::Change(id, request)),
-                Some(Command::Stop) => self.stage = self.stage.stopped(),
-                Some(Command::StopNow) => self.stage = Stage::Halted,
+                Some(OperatorCommand::Change(id, request)) => return Some(Wish::Change(id, request)),
+                Some(OperatorCommand::Stop) => self.stage = self.stage.stopped(),
+                Some(OperatorCommand::StopNow) => self.stage = Stage::Halted,
                 None => return None,
             }
         }
@@ -392,11 +392,11 @@ impl<S: Spool, C: Console> Clerk<S, C> {
         if may_pass && self.tries.count(name) < self.limits.retries {
             self.tries.counts(self.alloc, name);
             self.spool.put_back(name);
-            self.console.ends_file(name, Outcome::PutBack);
+            self.console.ends_file(name, SpoolOutcome::PutBack);
         } else {
             self.tries.forget(name);
             self.spool.failed(name);
-            self.console.ends_file(name, Outcome::Failed);
+            self.console.ends_file(name, SpoolOutcome::Failed);
         }
     }
 
@@ -410,7 +410,7 @@ impl<S: Spool, C: Console> Clerk<S, C> {
     {
         self.tries.forget(name);
         self.spool.sent(name);
-        self.console.ends_file(name, Outcome::Sent);
+        self.console.ends_file(name, SpoolOutcome::Sent);
     }
 
     /// Returns the open file of this transaction, which isn't open from now on.

@@ -9,7 +9,7 @@ use cfdp_store::{Inbox, Outbox};
 
 /// What an operator says to a station that runs, as far as it changes what the station does.
 #[derive(Drop)]
-pub enum Command {
+pub enum OperatorCommand {
     /// To send a file: before all others that wait if `is_first`, otherwise after them.
     Put { names: PutNames, is_first: bool },
     /// To change a transaction.
@@ -22,7 +22,7 @@ pub enum Command {
 
 /// What became of a file that lay in a spool.
 #[derive(Clone, Copy, PartialEq, Eq)]
-pub enum Outcome {
+pub enum SpoolOutcome {
     /// It lies at the peer.
     Sent,
     /// It couldn't be sent.
@@ -43,7 +43,7 @@ pub trait Console: Drop {
         &mut self,
         station: &Station<O, I>,
         waiting: usize,
-    ) -> Option<Command>
+    ) -> Option<OperatorCommand>
         ensures { steps self.old (Gives result) self.new };
 
     /// Returns `true` if one put more may be made: the number of its transaction is reserved.
@@ -66,7 +66,7 @@ pub trait Console: Drop {
         ensures { steps self.old (Heard indication.now) self.new };
 
     /// Hears what became of a file that lay in the spool.
-    fn ends_file(&mut self, name: &[u8], outcome: Outcome)
+    fn ends_file(&mut self, name: &[u8], outcome: SpoolOutcome)
         ensures { steps self.old Tells self.new };
 
     /// Hears that the station has ended, which it borrows for the last time.

@@ -1,7 +1,7 @@
 //! A place in which files wait to be sent.
 ghost use Rattle.std.specs.Prelude.{◌≡◌, ◌++◌, ◌∷◌, [], ℕ, List};
 
-use past::Past;
+use ghost_list::GhostList;
 
 /// A place in which files wait, each under the name that it must have at the peer. A
 /// file that was given must stay there until its sending is over.
@@ -49,8 +49,8 @@ pub trait Spool: Drop {
 /// A spool in which no file ever waits.
 #[derive(Drop)]
 pub struct NoSpool {
-    sent: Past<Past<u8>>,
-    failed: Past<Past<u8>>,
+    sent: GhostList<GhostList<u8>>,
+    failed: GhostList<GhostList<u8>>,
 }
 
 impl NoSpool {
@@ -60,8 +60,8 @@ impl NoSpool {
         ensures failed { result.failed ≡ [] }
     {
         NoSpool {
-            sent: Past::new(),
-            failed: Past::new(),
+            sent: GhostList::new(),
+            failed: GhostList::new(),
         }
     }
 }
@@ -84,11 +84,11 @@ impl Spool for NoSpool {
     }
 
     fn sent(&mut self, name: &[u8]) {
-        self.sent.put(&Past::of(name));
+        self.sent.put(&GhostList::of(name));
     }
 
     fn failed(&mut self, name: &[u8]) {
-        self.failed.put(&Past::of(name));
+        self.failed.put(&GhostList::of(name));
     }
 
     fn put_back(&mut self, _name: &[u8]) {}

@@ -7,7 +7,7 @@ ghost use Rattle.cfdp_entity.specs.Restoring.{ForgottenCause, RestoresSender, Se
 ghost use Rattle.cfdp_entity.specs.Restoring.{ReceiverCause, RestoresReceiver, all_kept};
 ghost use Rattle.cfdp_entity.specs.Restoring.{record_kept, was_read, was_shown, with_forgotten};
 ghost use Rattle.cfdp_entity.specs.Table.{ShowsIf};
-ghost use Rattle.cfdp_forgotten.specs.Forgotten.{ids_of};
+ghost use Rattle.cfdp_extents.specs.Forgotten.{ids_of};
 ghost use Rattle.cfdp_station.specs.Station.{KeepsLink};
 
 use crate::station::Station;

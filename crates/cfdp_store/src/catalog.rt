@@ -7,7 +7,7 @@ ghost use Rattle.std.specs.Prelude.{◌≡◌, ◌+◌, ◌≤◌, [], None, IsS
 
 use crate::known::{Stamp, Stamps};
 use crate::sources::Shown;
-use past::Past;
+use ghost_list::GhostList;
 use std::alloc::{AllocError, Global};
 use std::snapshot::Snapshot;
 
@@ -17,14 +17,14 @@ use std::snapshot::Snapshot;
 pub struct Catalog {
     alloc: Global,
     stamps: Stamps,
-    pub expected: Snapshot<Past<Past<u8>>>,
-    pub shown: Past<Shown>,
+    pub expected: Snapshot<GhostList<GhostList<u8>>>,
+    pub shown: GhostList<Shown>,
     ghost lens: { AreLens stamps (seen_by expected.value shown).files },
 }
 
 impl Catalog {
     /// Returns a catalog in which nothing was found yet.
-    pub fn new(alloc: Global, expected: Snapshot<Past<Past<u8>>>) -> Self
+    pub fn new(alloc: Global, expected: Snapshot<GhostList<GhostList<u8>>>) -> Self
         ensures shown { result.shown ≡ [] }
         ensures expected { result.expected.value ≡ expected.value }
     {
@@ -32,7 +32,7 @@ impl Catalog {
             alloc,
             stamps: Stamps::new(alloc),
             expected,
-            shown: Past::new(),
+            shown: GhostList::new(),
         }
     }
 
@@ -66,7 +66,7 @@ impl Catalog {
     {
         self.stamps
             .insert(Vec::from_slice(self.alloc, name)?, stamp)?;
-        self.shown.put(&Shown::Found(Past::of(name), stamp.len));
+        self.shown.put(&Shown::Found(GhostList::of(name), stamp.len));
         Ok(())
     }
 
@@ -81,7 +81,7 @@ impl Catalog {
             (seen_by self.new.expected.value self.new.shown).files }
     {
         self.stamps.remove(name);
-        self.shown.put(&Shown::Missing(Past::of(name)));
+        self.shown.put(&Shown::Missing(GhostList::of(name)));
     }
 
     /// Notes that a file has these octets, from an offset on.
@@ -99,6 +99,6 @@ impl Catalog {
             (seen_by self.new.expected.value self.new.shown).files }
     {
         self.shown
-            .put(&Shown::Read(Past::of(name), offset, Past::of(octets)));
+            .put(&Shown::Read(GhostList::of(name), offset, GhostList::of(octets)));
     }
 }

@@ -11,7 +11,7 @@ ghost use Rattle.std.specs.Prelude.{OnErr, OnOk, length, take, drop};
 use crate::catalog::Catalog;
 use crate::sources::Sources;
 use crate::{FolderError, NameRule, Outbox, SeekingOutbox, StoreError};
-use past::Past;
+use ghost_list::GhostList;
 use std::alloc::{AllocError, Global};
 use std::fs::Files;
 use std::io::ErrorKind;
@@ -52,7 +52,7 @@ impl<F: Files + Drop> FolderOutbox<F> {
         files: F,
         alloc: Global,
         folder: &str,
-        expected: Snapshot<Past<Past<u8>>>,
+        expected: Snapshot<GhostList<GhostList<u8>>>,
     ) -> Result<Self, AllocError>
         ensures files { IfOk result (λ o. ⟦<FolderOutbox<F> as Outbox>⟧.files o ≡ map.empty) }
         ensures stands { IfOk result (λ o. ⟦<FolderOutbox<F> as Outbox>⟧.stands o ≡ true) }
@@ -74,7 +74,7 @@ impl<F: Files + Drop> FolderOutbox<F> {
         alloc: Global,
         folder: &str,
         names: NameRule,
-        expected: Snapshot<Past<Past<u8>>>,
+        expected: Snapshot<GhostList<GhostList<u8>>>,
     ) -> Result<Self, AllocError>
         ensures files { IfOk result (λ o. ⟦<FolderOutbox<F> as Outbox>⟧.files o ≡ map.empty) }
         ensures stands { IfOk result (λ o. ⟦<FolderOutbox<F> as Outbox>⟧.stands o ≡ true) }

@@ -7,7 +7,7 @@ ghost use Rattle.cfdp_store.specs.Staged.{OthersKeep, front, staged_for, written
 
 use crate::folder_error::FolderError;
 use cfdp_header::TransactionId;
-use past::Past;
+use ghost_list::GhostList;
 use std::alloc::Global;
 use std::fs::{self, File, Files, OpenFile};
 use std::io::{ErrorKind, Read, Seek, SeekFrom, Write};
@@ -23,13 +23,13 @@ pub enum Done {
     /// It found it, with at least so many octets.
     Found(TransactionId, u64),
     /// It wrote octets, from an offset on.
-    Wrote(TransactionId, u64, Past<u8>),
+    Wrote(TransactionId, u64, GhostList<u8>),
     /// It read octets, from an offset on.
-    Read(TransactionId, u64, Past<u8>),
+    Read(TransactionId, u64, GhostList<u8>),
     /// It cut it to a length, or filled it up with zeros.
     Cut(TransactionId, u64),
     /// It gave it this name, in place of the file that had it.
-    Named(TransactionId, Past<u8>),
+    Named(TransactionId, GhostList<u8>),
     /// It removed it, or refused something: what it has is known no more.
     Lost(TransactionId),
 }
@@ -49,7 +49,7 @@ pub struct Parts<F: Files + Drop> {
     alloc: Global,
     folder: String,
     open: Vec<Part<F>>,
-    pub done: Past<Done>,
+    pub done: GhostList<Done>,
 }
 
 // Each of these functions asks one thing of the system; `done` doesn't note it yet.
@@ -230,7 +230,7 @@ impl<F: Files + Drop> Parts<F> {
             alloc,
             folder,
             open: Vec::new(alloc),
-            done: Past::new(),
+            done: GhostList::new(),
         }
     }
 
@@ -285,7 +285,7 @@ impl<F: Files + Drop> Parts<F> {
     {
         match self.try_read(id, offset, out) {
             Ok(true) => {
-                self.done.put(&Done::Read(id, offset, Past::of(out)));
+                self.done.put(&Done::Read(id, offset, GhostList::of(out)));
                 Ok(true)
             }
             Ok(false) => Ok(false),
@@ -314,7 +314,7 @@ impl<F: Files + Drop> Parts<F> {
             self.lose(id);
             return Err(error);
         }
-        self.done.put(&Done::Wrote(id, offset, Past::of(octets)));
+        self.done.put(&Done::Wrote(id, offset, GhostList::of(octets)));
         Ok(())
     }
 
@@ -338,7 +338,7 @@ impl<F: Files + Drop> Parts<F> {
             self.lose(id);
             return Err(error);
         }
-        self.done.put(&Done::Named(id, Past::of(name)));
+        self.done.put(&Done::Named(id, GhostList::of(name)));
         Ok(())
     }
 

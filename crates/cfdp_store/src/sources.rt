@@ -4,7 +4,7 @@ ghost use Rattle.std.specs.Prelude.{◌≢◌, ◌<◌, IfErr, IfSome, vec_len};
 use crate::folder_error::FolderError;
 use crate::known::Stamp;
 use crate::parts::path_in;
-use past::Past;
+use ghost_list::GhostList;
 use std::alloc::Global;
 use std::fs::{self, File, Files, OpenFile};
 use std::io::{self, ErrorKind, Read, Seek, SeekFrom};
@@ -19,11 +19,11 @@ const BLOCK: u64 = 65_536;
 #[derive(Drop)]
 pub enum Shown {
     /// A look found the file of this name, so many octets long.
-    Found(Past<u8>, u64),
+    Found(GhostList<u8>, u64),
     /// A look found that nothing has this name.
-    Missing(Past<u8>),
+    Missing(GhostList<u8>),
     /// The file of this name has these octets, from an offset on.
-    Read(Past<u8>, u64, Past<u8>),
+    Read(GhostList<u8>, u64, GhostList<u8>),
 }
 
 /// A file that is open, and the block of it that was read last, empty before the first.

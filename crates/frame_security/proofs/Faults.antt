@@ -6,17 +6,17 @@ use Rattle.std.proofs.lemmas.Slice.Eq.{bytes_eq-Decides}
 use Rattle.cfd_bits.specs.Field.{field}
 use Rattle.hmac.specs.Hmac.{hmac}
 use Rattle.frame_security.specs.declared.config.Security.{Security}
-use Rattle.frame_security.specs.declared.opening.Refusal.{Refusal}
-use Rattle.frame_security.specs.declared.opening.Refusal.TheVariants.{Short, NotAuthentic, Replayed}
+use Rattle.frame_security.specs.declared.opening.FrameRefusal.{FrameRefusal}
+use Rattle.frame_security.specs.declared.opening.FrameRefusal.TheVariants.{Short, NotAuthentic, Replayed}
 use Rattle.frame_security.specs.Frames.{mac_in, mac_of, masked, number_in, spi_in, text_in}
 use Rattle.frame_security.specs.Opening.{OpenerState, bare_fault, is_authentic, key_fault, key_of}
 use Rattle.frame_security.proofs.Parts.{mac_apart, spi_apart, text_apart}
 
 -- ---- by the tests
-abbrev whole_by : Bool → Option Refusal → Option Refusal
+abbrev whole_by : Bool → Option FrameRefusal → Option FrameRefusal
 whole_by long behind = if not long then Some Short else behind
 
-abbrev known_by : (right used : Bool) → Option Refusal
+abbrev known_by : (right used : Bool) → Option FrameRefusal
 known_by right used = if not right then Some NotAuthentic else if used then Some Replayed else None
 
 -- octets that are long enough, under the key of their SPI

@@ -6,8 +6,8 @@ use Rattle.cfd_bits.specs.Field.{field}
 use Rattle.cfd_bits.proofs.Fields.{field-append_right, field-drop}
 use Rattle.cfd_bits.proofs.BitFields.{field-take}
 use Rattle.cfd_bits.specs.Field.{octets}
-use Rattle.frame_fields.specs.declared.config.FrameFields.{FrameFields}
-use Rattle.frame_fields.specs.Fields.{bare_in, extra}
+use Rattle.aos_frame.specs.declared.fields.FrameFields.{FrameFields}
+use Rattle.aos_frame.specs.LinkFields.{bare_in, extra}
 use Rattle.hmac.specs.Hmac.{hmac}
 use Rattle.frame_security.specs.declared.config.Security.{Security}
 use Rattle.frame_security.specs.Frames.{mac_of, masked, secured, security_header, text_of}

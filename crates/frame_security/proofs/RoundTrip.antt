@@ -4,8 +4,8 @@ use Rattle.std.proofs.lemmas.List.{length-take-le, take-append-drop, take_at, dr
 use Rattle.std.proofs.lemmas.Slice.Eq.{bytes_eq-Decides}
 use Rattle.cfd_bits.specs.Field.{field, octets}
 use Rattle.cfd_bits.proofs.Fields.{field_between, length-octets}
-use Rattle.frame_fields.specs.Fields.{bare_in, fields_fault}
-use Rattle.frame_fields.proofs.RoundTrip.{opens_sealed}
+use Rattle.aos_frame.specs.LinkFields.{bare_in, fields_fault}
+use Rattle.aos_frame.proofs.RoundTrip.{opens_sealed}
 use Rattle.hmac.specs.Hmac.{hmac}
 use Rattle.hmac.proofs.Lengths.{length-hmac}
 use Rattle.frame_security.specs.declared.config.Security.{Security}

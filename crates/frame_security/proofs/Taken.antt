@@ -5,11 +5,11 @@ use Rattle.std.specs.Bool.{⊤}
 use Rattle.std.specs.List.{Contains, AllByRecursion}
 use Rattle.std.proofs.lemmas.Bool.{leb-false}
 use Rattle.std.proofs.lemmas.List.{map-append}
-use Rattle.frame_fields.specs.Fields.{bare_in, fields_fault}
-use Rattle.frame_fields.specs.declared.opening.FieldsFault.{FieldsFault}
+use Rattle.aos_frame.specs.LinkFields.{bare_in, fields_fault}
+use Rattle.aos_frame.specs.declared.opening.FieldsFault.{FieldsFault}
 use Rattle.frame_security.specs.declared.config.Security.{Security}
-use Rattle.frame_security.specs.declared.opening.Refusal.{Refusal}
-use Rattle.frame_security.specs.declared.opening.Refusal.TheVariants.{Short, NotAuthentic, Replayed}
+use Rattle.frame_security.specs.declared.opening.FrameRefusal.{FrameRefusal}
+use Rattle.frame_security.specs.declared.opening.FrameRefusal.TheVariants.{Short, NotAuthentic, Replayed}
 use Rattle.frame_security.specs.Frames.{frame_in, number_in, spi_in}
 use Rattle.frame_security.specs.Sealing.{SealerState}
 use Rattle.frame_security.specs.Opening.{OpenerState, after, after_by, bare_fault, is_authentic, key_fault, key_of, refusal, refusal_by}
@@ -135,11 +135,11 @@ known_by s (Some key) last octets e =
     let h = right_by (is_authentic s key octets) (nat_le (number_in octets) last) e in
     (key, refl, h.0, leb-false (number_in octets) last h.1)
 
-whole_by : (long : Bool) (behind : Option Refusal) → (if not long then Some Short else behind) ≡ None → behind ≡ None
+whole_by : (long : Bool) (behind : Option FrameRefusal) → (if not long then Some Short else behind) ≡ None → behind ≡ None
 whole_by true behind e = e
 whole_by false behind e = absurd cc
 
-fields_by : (fault : Option FieldsFault) (behind : Option Refusal) → refusal_by fault behind ≡ None → behind ≡ None
+fields_by : (fault : Option FieldsFault) (behind : Option FrameRefusal) → refusal_by fault behind ≡ None → behind ≡ None
 fields_by None behind e = e
 fields_by (Some f) behind e = absurd cc
 
@@ -170,7 +170,7 @@ module _ (all : List Sealed) (first : ℕ) (rising_all : Rise itself first all) 
 
   -- ---- one that came
   step : (o : OpenerState) (frame : List ℕ) (rest : List Sealed) → o.security.mac_len ≤ 32 → Left o.last rest → (IsAuthenticAt o frame → WasSealed o.security all frame) →
-      (r : Option Refusal) → refusal o frame ≡ r →
+      (r : Option FrameRefusal) → refusal o frame ≡ r →
       (behind : List Sealed) × Left (after_by r (number_in (bare_in o.security.fields frame)) o).last behind
       × Takes rest (given_by r (frame_in o.security (bare_in o.security.fields frame))) behind
   step o frame rest most left none (Some cause) e = (rest, left, λ tail h. h)
@@ -197,11 +197,11 @@ module _ (all : List Sealed) (first : ℕ) (rising_all : Rise itself first all) 
       )
 
   -- ---- a life, and all lives
-  keeps : (r : Option Refusal) (n : ℕ) (o : OpenerState) (frame : List ℕ) (came : List (List ℕ)) → NoneForgedFor o (frame ∷ came) → NoneForgedFor (after_by r n o) came
+  keeps : (r : Option FrameRefusal) (n : ℕ) (o : OpenerState) (frame : List ℕ) (came : List (List ℕ)) → NoneForgedFor o (frame ∷ came) → NoneForgedFor (after_by r n o) came
   keeps None n o frame came none = λ f at. none f (contains_more frame came f at)
   keeps (Some cause) n o frame came none = λ f at. none f (contains_more frame came f at)
 
-  keeps_size : (r : Option Refusal) (n : ℕ) (o : OpenerState) → o.security.mac_len ≤ 32 → (after_by r n o).security.mac_len ≤ 32
+  keeps_size : (r : Option FrameRefusal) (n : ℕ) (o : OpenerState) → o.security.mac_len ≤ 32 → (after_by r n o).security.mac_len ≤ 32
   keeps_size None n o most = most
   keeps_size (Some cause) n o most = most
 

@@ -2,7 +2,7 @@
 -- HMAC-SHA-256 (CCSDS 352.0-B). A bare frame is its header, of 6 octets, and its M_PDU.
 use Rattle.std.specs.Prelude.{ℕ, ◌+◌, ◌-◌, ◌≤◌, List, ◌++◌, length, take, drop, replicate}
 use Rattle.cfd_bits.specs.Field.{field, octets}
-use Rattle.frame_fields.specs.Fields.{AreFields, extra}
+use Rattle.aos_frame.specs.LinkFields.{AreFields, extra}
 use Rattle.hmac.specs.Hmac.{hmac}
 use Rattle.frame_security.specs.declared.config.Security.{Security}
 use Rattle.frame_security.specs.declared.config.SecurityField.{SecurityField}

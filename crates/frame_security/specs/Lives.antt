@@ -2,9 +2,9 @@
 -- an opener is made, and when its keys change.
 use Rattle.std.specs.Prelude.{◌≡◌, ℕ, ◌+◌, ◌<◌, ◌≤◌, ◌^◌, ⊤, Option, Some, None, List, [], ◌∷◌, ◌++◌, length, Contains, IsTrue}
 use Rattle.std.specs.List.{AllByRecursion}
-use Rattle.frame_fields.specs.Fields.{bare_in}
+use Rattle.aos_frame.specs.LinkFields.{bare_in}
 use Rattle.frame_security.specs.declared.config.Security.{Security}
-use Rattle.frame_security.specs.declared.opening.Refusal.{Refusal}
+use Rattle.frame_security.specs.declared.opening.FrameRefusal.{FrameRefusal}
 use Rattle.frame_security.specs.Frames.{IsSecurity, frame_in, secured, spi_in}
 use Rattle.frame_security.specs.Sealing.{SealerState}
 use Rattle.frame_security.specs.Opening.{OpenerState, after, is_authentic, key_of, refusal}
@@ -49,7 +49,7 @@ SealersGoOn from (life ∷ lives) =
 
 -- ---- what is accepted
 -- the bare frame, if the octets aren't refused
-abbrev pub given_by : Option Refusal → (bare : List ℕ) → List (List ℕ)
+abbrev pub given_by : Option FrameRefusal → (bare : List ℕ) → List (List ℕ)
 given_by None bare = bare ∷ []
 given_by (Some cause) bare = []
 

@@ -2,13 +2,13 @@
 use Rattle.std.specs.Prelude.{ℕ, ◌+◌, nat_le, Bool, not, ◌==◌, if◌then◌else◌, Option, Some, None, List, length}
 use Rattle.std.specs.Str.{bytes_eq}
 use Rattle.cfd_bits.specs.Counting.{raised}
-use Rattle.frame_fields.specs.Fields.{bare_in, fields_fault}
-use Rattle.frame_fields.specs.declared.opening.FieldsFault.{FieldsFault}
-use Rattle.frame_fields.specs.declared.opening.FieldsFault.TheVariants as fault
+use Rattle.aos_frame.specs.LinkFields.{bare_in, fields_fault}
+use Rattle.aos_frame.specs.declared.opening.FieldsFault.{FieldsFault}
+use Rattle.aos_frame.specs.declared.opening.FieldsFault.TheVariants as fault
 use Rattle.frame_security.specs.declared.config.Security.{Security}
 use Rattle.frame_security.specs.declared.opening.Association.{Association}
-use Rattle.frame_security.specs.declared.opening.Refusal.{Refusal}
-use Rattle.frame_security.specs.declared.opening.Refusal.TheVariants.{Short, Damaged, UnknownSpi, NotAuthentic, Replayed}
+use Rattle.frame_security.specs.declared.opening.FrameRefusal.{FrameRefusal}
+use Rattle.frame_security.specs.declared.opening.FrameRefusal.TheVariants.{Short, Damaged, UnknownSpi, NotAuthentic, Replayed}
 use Rattle.frame_security.specs.declared.opening.Refused.{Refused}
 use Rattle.frame_security.specs.Frames.{mac_in, mac_of, number_in, spi_in, text_in}
 
@@ -54,7 +54,7 @@ is_authentic s key octets = bytes_eq (mac_of s key (text_in s octets)) (mac_in s
 
 -- what is wrong with octets under the key of their SPI, if there is one; the sequence number must
 -- be greater than the last frame's
-abbrev pub key_fault : Security → Option (List ℕ) → (last : ℕ) → (octets : List ℕ) → Option Refusal
+abbrev pub key_fault : Security → Option (List ℕ) → (last : ℕ) → (octets : List ℕ) → Option FrameRefusal
 key_fault s None last octets = Some UnknownSpi
 key_fault s (Some key) last octets =
     if not (is_authentic s key octets) then Some NotAuthentic
@@ -62,28 +62,28 @@ key_fault s (Some key) last octets =
     else None
 
 -- what is wrong with a secured frame without the fields of the link: the first cause, or none
-abbrev pub bare_fault : OpenerState → (octets : List ℕ) → Option Refusal
+abbrev pub bare_fault : OpenerState → (octets : List ℕ) → Option FrameRefusal
 bare_fault o octets =
     if not (nat_le (16 + o.security.mac_len) (length octets)) then Some Short
     else key_fault o.security (key_of o (spi_in octets)) o.last octets
 
-abbrev pub fault_refusal : FieldsFault → Refusal
+abbrev pub fault_refusal : FieldsFault → FrameRefusal
 fault_refusal fault.Short = Short
 fault_refusal fault.Damaged = Damaged
 
-abbrev pub refusal_by : Option FieldsFault → Option Refusal → Option Refusal
+abbrev pub refusal_by : Option FieldsFault → Option FrameRefusal → Option FrameRefusal
 refusal_by (Some f) behind = Some (fault_refusal f)
 refusal_by None behind = behind
 
 -- why octets that were received are refused: the first cause, or none. The fields of the link come
 -- first.
-abbrev pub refusal : OpenerState → (frame : List ℕ) → Option Refusal
+abbrev pub refusal : OpenerState → (frame : List ℕ) → Option FrameRefusal
 refusal o frame = refusal_by (fields_fault o.security.fields frame)
     (bare_fault o (bare_in o.security.fields frame))
 
 -- ---- what a frame changes
 -- the counts after one more refusal for this cause
-abbrev pub counted : Refusal → Refused → Refused
+abbrev pub counted : FrameRefusal → Refused → Refused
 counted Short r = record r { short = raised r.short }
 counted Damaged r = record r { damaged = raised r.damaged }
 counted UnknownSpi r = record r { unknown_spi = raised r.unknown_spi }
@@ -91,7 +91,7 @@ counted NotAuthentic r = record r { not_authentic = raised r.not_authentic }
 counted Replayed r = record r { replayed = raised r.replayed }
 
 -- An accepted frame sets the last sequence number. A refused one changes nothing but a count.
-abbrev pub after_by : Option Refusal → (number : ℕ) → OpenerState → OpenerState
+abbrev pub after_by : Option FrameRefusal → (number : ℕ) → OpenerState → OpenerState
 after_by None number o = record o { last = number }
 after_by (Some cause) number o = record o { refused = counted cause o.refused }
 

@@ -1,6 +1,6 @@
 -- The sending end, which applies security to frames (ApplySecurity of CCSDS 355.0-B-2).
 use Rattle.std.specs.Prelude.{ℕ, List}
-use Rattle.frame_fields.specs.Fields.{sealed}
+use Rattle.aos_frame.specs.LinkFields.{sealed}
 use Rattle.frame_security.specs.declared.config.Security.{Security}
 use Rattle.frame_security.specs.Frames.{secured}
 

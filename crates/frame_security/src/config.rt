@@ -2,7 +2,7 @@
 ghost use Rattle.std.specs.Prelude.{◌≡◌, ◌≤◌};
 ghost use Rattle.frame_security.specs.Frames.{FitsSecurity, IsSecurity, overhead};
 
-use frame_fields::FrameFields;
+use aos_frame::FrameFields;
 use thiserror::Error;
 use valid_config::Config;
 

@@ -1,6 +1,6 @@
 //! Laws of secured frames, each the contract of a function without a body.
 ghost use Rattle.std.specs.Prelude.{◌≡◌, ◌≢◌, ℕ, ◌^◌, ◌<◌, ◌≤◌, List, ◌∷◌, ◌++◌, Some, None, length};
-ghost use Rattle.frame_fields.specs.Fields.{bare_in};
+ghost use Rattle.aos_frame.specs.LinkFields.{bare_in};
 ghost use Rattle.frame_security.specs.Frames.{IsSecurity, frame_in, number_in};
 ghost use Rattle.frame_security.specs.Sealing.{SealerState, secured_frame};
 ghost use Rattle.frame_security.specs.Opening.{OpenerState, key_of, refusal};

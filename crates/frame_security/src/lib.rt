@@ -56,5 +56,5 @@ pub use keys::{LinkKeys, NamedKey};
 pub use laws::{
     only_what_was_sealed_is_taken, refused_octets_change_nothing, what_is_sealed_is_opened,
 };
-pub use opening::{Opened, Opener, Refusal, Refused};
+pub use opening::{AcceptedFrame, FrameRefusal, Opener, Refused};
 pub use sealing::{NumbersSpent, Sealer};

@@ -3,7 +3,7 @@ ghost use Rattle.std.specs.Prelude.{◌≡◌, ℕ, ◌+◌, ◌≤◌, ◌∷�
 ghost use Rattle.std.specs.Prelude.{IfOk};
 ghost use Rattle.std.specs.Result.{result_err};
 ghost use Rattle.std.specs.Option.{option_copied};
-ghost use Rattle.frame_fields.specs.Fields.{bare_in, control_in};
+ghost use Rattle.aos_frame.specs.LinkFields.{bare_in, control_in};
 ghost use Rattle.frame_security.specs.Frames.{frame_in, overhead, number_in};
 ghost use Rattle.frame_security.specs.Keys.{association, opener_with};
 ghost use Rattle.frame_security.specs.Opening.{after, counted, key_of, refusal};
@@ -12,8 +12,8 @@ ghost use Rattle.frame_security.specs.Opening as opening;
 use crate::config::{SECURITY_HEADER_LEN, SPI_LEN, Security};
 use crate::keys::{LinkKeys, NamedKey};
 use crate::sealing::mac_of;
+use aos_frame::{FieldsFault, HEADER_LEN};
 use cfd_bits::{read_eight, read_uint};
-use frame_fields::{FieldsFault, HEADER_LEN};
 use hmac::{Key, are_same};
 use std::marker::Model;
 use std::mem;
@@ -23,7 +23,7 @@ use valid_config::Valid;
 /// Why octets that were received are refused: the first of these causes that holds, in this order.
 /// The last three are the verification failures of CCSDS 355.0-B-2.
 #[derive(Clone, Copy, Debug, PartialEq, Eq, Error)]
-pub enum Refusal {
+pub enum FrameRefusal {
     /// There are fewer octets than a header, the fields of the link, and the security header and
     /// trailer have.
     #[error("the octets are fewer than those of a secured frame")]
@@ -52,15 +52,15 @@ pub enum Refusal {
 /// ```
 #[derive(Clone, Copy, Debug, PartialEq, Eq)]
 pub struct Refused {
-    /// How many were [`Refusal::Short`].
+    /// How many were [`FrameRefusal::Short`].
     pub short: u64,
-    /// How many were [`Refusal::Damaged`].
+    /// How many were [`FrameRefusal::Damaged`].
     pub damaged: u64,
-    /// How many were [`Refusal::UnknownSpi`].
+    /// How many were [`FrameRefusal::UnknownSpi`].
     pub unknown_spi: u64,
-    /// How many were [`Refusal::NotAuthentic`].
+    /// How many were [`FrameRefusal::NotAuthentic`].
     pub not_authentic: u64,
-    /// How many were [`Refusal::Replayed`].
+    /// How many were [`FrameRefusal::Replayed`].
     pub replayed: u64,
 }
 
@@ -75,15 +75,15 @@ impl Refused {
     };
 
     /// Counts one more refusal for this cause.
-    fn count(&mut self, cause: Refusal)
+    fn count(&mut self, cause: FrameRefusal)
         ensures { self.new ≡ counted cause self.old }
     {
         match cause {
-            Refusal::Short => self.short = self.short.saturating_add(1),
-            Refusal::Damaged => self.damaged = self.damaged.saturating_add(1),
-            Refusal::UnknownSpi => self.unknown_spi = self.unknown_spi.saturating_add(1),
-            Refusal::NotAuthentic => self.not_authentic = self.not_authentic.saturating_add(1),
-            Refusal::Replayed => self.replayed = self.replayed.saturating_add(1),
+            FrameRefusal::Short => self.short = self.short.saturating_add(1),
+            FrameRefusal::Damaged => self.damaged = self.damaged.saturating_add(1),
+            FrameRefusal::UnknownSpi => self.unknown_spi = self.unknown_spi.saturating_add(1),
+            FrameRefusal::NotAuthentic => self.not_authentic = self.not_authentic.saturating_add(1),
+            FrameRefusal::Replayed => self.replayed = self.replayed.saturating_add(1),
         }
     }
 }
@@ -111,7 +111,7 @@ impl Association {
 /// with its M_PDU after it. The operational control field is **not authenticated**: nothing may be
 /// decided by it that an attacker must not decide.
 #[derive(Clone, Copy, Debug)]
-pub struct Opened<'a> {
+pub struct AcceptedFrame<'a> {
     /// The header: 6 octets.
     pub header: &'a [u8],
     /// The M_PDU.
@@ -245,7 +245,7 @@ impl Opener {
     /// - `UnknownSpi` if neither key has the frame's SPI;
     /// - `NotAuthentic` if the MAC isn't right under the key of the SPI;
     /// - `Replayed` if the sequence number isn't greater than the last one.
-    pub fn open<'a>(&mut self, frame: &'a [u8]) -> Result<Opened<'a>, Refusal>
+    pub fn open<'a>(&mut self, frame: &'a [u8]) -> Result<AcceptedFrame<'a>, FrameRefusal>
         ensures frame { IfOk result (λ x. x.header.now ++ x.mpdu.now
             ≡ frame_in self.old.security (bare_in self.old.security.fields frame.now)) }
         ensures header { IfOk result (λ x. length x.header.now ≡ 6) }
@@ -268,7 +268,7 @@ impl Opener {
     }
 
     /// Returns what a frame that was received has, with its sequence number, or why it is refused.
-    fn look<'a>(&self, frame: &'a [u8]) -> Result<Found<'a>, Refusal>
+    fn look<'a>(&self, frame: &'a [u8]) -> Result<Found<'a>, FrameRefusal>
         ensures frame { IfOk result (λ x. x.opened.header.now ++ x.opened.mpdu.now
             ≡ frame_in self.now.security (bare_in self.now.security.fields frame.now)) }
         ensures header { IfOk result (λ x. length x.opened.header.now ≡ 6) }
@@ -279,14 +279,14 @@ impl Opener {
         ensures refused { result_err result ≡ refusal self.now frame.now }
     {
         let security = self.security.get();
-        let opened = match frame_fields::open(security.fields, frame) {
+        let opened = match aos_frame::open(security.fields, frame) {
             Ok(opened) => opened,
-            Err(fault) => return Err(Refusal::of(fault)),
+            Err(fault) => return Err(FrameRefusal::of(fault)),
         };
         let (number, mpdu) = self.look_behind(opened.header, opened.mpdu)?;
         Ok(Found {
             number,
-            opened: Opened {
+            opened: AcceptedFrame {
                 header: opened.header,
                 mpdu,
                 control: opened.control,
@@ -296,7 +296,11 @@ impl Opener {
 
     /// Returns the sequence number and the M_PDU of a secured frame, whose header and the octets
     /// after it are given apart, or why it is refused.
-    fn look_behind<'a>(&self, header: &[u8], behind: &'a [u8]) -> Result<(u64, &'a [u8]), Refusal>
+    fn look_behind<'a>(
+        &self,
+        header: &[u8],
+        behind: &'a [u8],
+    ) -> Result<(u64, &'a [u8]), FrameRefusal>
         requires { length header.now ≡ 6 }
         ensures mpdu { IfOk result (λ x. header.now ++ x.1.now
             ≡ frame_in self.now.security (header.now ++ behind.now)) }
@@ -307,21 +311,21 @@ impl Opener {
         let security = self.security.get();
         let mac_len = usize::from(security.mac_len);
         if behind.len() < SECURITY_HEADER_LEN + mac_len {
-            return Err(Refusal::Short);
+            return Err(FrameRefusal::Short);
         }
         let (text, mac) = behind.split_at(behind.len() - mac_len);
         let spi = read_uint(text, SPI_LEN) as u16;
         let Some(key) = self.key_of(spi) else {
-            return Err(Refusal::UnknownSpi);
+            return Err(FrameRefusal::UnknownSpi);
         };
         let whole = mac_of(key, security.fields.insert_zone, header, text);
         if !are_same(&whole[..mac_len], mac) {
-            return Err(Refusal::NotAuthentic);
+            return Err(FrameRefusal::NotAuthentic);
         }
         let (_spi, behind_spi) = text.split_at(SPI_LEN);
         let number = read_eight(behind_spi);
         if number <= self.last {
-            return Err(Refusal::Replayed);
+            return Err(FrameRefusal::Replayed);
         }
         let (_security_header, mpdu) = text.split_at(SECURITY_HEADER_LEN);
         Ok((number, mpdu))
@@ -345,17 +349,17 @@ impl Opener {
 #[derive(Clone, Copy)]
 struct Found<'a> {
     number: u64,
-    opened: Opened<'a>,
+    opened: AcceptedFrame<'a>,
 }
 
-impl Refusal {
+impl FrameRefusal {
     /// Returns the refusal of a frame whose fields are wrong.
-    fn of(fault: FieldsFault) -> Refusal
+    fn of(fault: FieldsFault) -> FrameRefusal
         ensures { result ≡ opening.fault_refusal fault }
     {
         match fault {
-            FieldsFault::Short => Refusal::Short,
-            FieldsFault::Damaged => Refusal::Damaged,
+            FieldsFault::Short => FrameRefusal::Short,
+            FieldsFault::Damaged => FrameRefusal::Damaged,
         }
     }
 }

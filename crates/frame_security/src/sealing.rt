@@ -1,7 +1,7 @@
 //! The sending end: bare frames to secured ones.
 ghost use Rattle.std.specs.Prelude.{◌≡◌, ℕ, ◌+◌, ◌-◌, ◌<◌, ◌≤◌, ◌^◌, ◌↔◌, ◌++◌, length, take, drop};
 ghost use Rattle.std.specs.Prelude.{replicate, OnErr, OnOk, IsErr};
-ghost use Rattle.frame_fields.specs.Fields.{bare_in};
+ghost use Rattle.aos_frame.specs.LinkFields.{bare_in};
 ghost use Rattle.hmac.specs.Hmac.{hmac};
 ghost use Rattle.frame_security.specs.Frames.{overhead, masked, secured};
 ghost use Rattle.frame_security.specs.Keys.{sealer_with};
@@ -9,8 +9,8 @@ ghost use Rattle.frame_security.specs.Sealing.{secured_frame};
 
 use crate::config::{SECURITY_HEADER_LEN, SPI_LEN, Security};
 use crate::keys::LinkKeys;
+use aos_frame::HEADER_LEN;
 use cfd_bits::{put_bytes, put_eight, put_uint};
-use frame_fields::HEADER_LEN;
 use hmac::Key;
 use std::marker::Model;
 use thiserror::Error;
@@ -124,7 +124,7 @@ impl Sealer {
             return Err(NumbersSpent);
         }
         self.put_secured(bare, out);
-        frame_fields::seal(Valid::known(self.security.get().fields), control, out);
+        aos_frame::seal(Valid::known(self.security.get().fields), control, out);
         self.next += 1;
         Ok(())
     }

@@ -1,7 +1,7 @@
 //! Frames that another program made, and a table of frames that were altered, repeated or held
 //! back.
-use crate::{NumbersSpent, Opener, Refusal, Refused, Sealer, Security};
-use frame_fields::FrameFields;
+use crate::{FrameRefusal, NumbersSpent, Opener, Refused, Sealer, Security};
+use aos_frame::FrameFields;
 use hex::decode_to_slice;
 use valid_config::{Config, Valid};
 
@@ -95,27 +95,27 @@ fn frames_are_as_another_program_makes_them(rt: HostRuntime) {
 /// What arrives, and what is said: which of three frames, how many of its octets, which octet is
 /// altered, and the refusal. The frames have a header of 6 octets, an insert zone of 2, the SPI
 /// (2), the number (8), the M_PDU (20), the MAC (16) and a control field (4).
-const ARRIVALS: [(usize, usize, Option<usize>, Option<Refusal>); 18] = [
-    (0, 37, None, Some(Refusal::Short)),
-    (0, 57, None, Some(Refusal::NotAuthentic)),
-    (0, 58, Some(0), Some(Refusal::NotAuthentic)),
-    (0, 58, Some(5), Some(Refusal::NotAuthentic)),
-    (0, 58, Some(8), Some(Refusal::UnknownSpi)),
-    (0, 58, Some(9), Some(Refusal::UnknownSpi)),
-    (0, 58, Some(10), Some(Refusal::NotAuthentic)),
-    (0, 58, Some(17), Some(Refusal::NotAuthentic)),
-    (0, 58, Some(18), Some(Refusal::NotAuthentic)),
-    (0, 58, Some(37), Some(Refusal::NotAuthentic)),
-    (0, 58, Some(38), Some(Refusal::NotAuthentic)),
-    (0, 58, Some(53), Some(Refusal::NotAuthentic)),
+const ARRIVALS: [(usize, usize, Option<usize>, Option<FrameRefusal>); 18] = [
+    (0, 37, None, Some(FrameRefusal::Short)),
+    (0, 57, None, Some(FrameRefusal::NotAuthentic)),
+    (0, 58, Some(0), Some(FrameRefusal::NotAuthentic)),
+    (0, 58, Some(5), Some(FrameRefusal::NotAuthentic)),
+    (0, 58, Some(8), Some(FrameRefusal::UnknownSpi)),
+    (0, 58, Some(9), Some(FrameRefusal::UnknownSpi)),
+    (0, 58, Some(10), Some(FrameRefusal::NotAuthentic)),
+    (0, 58, Some(17), Some(FrameRefusal::NotAuthentic)),
+    (0, 58, Some(18), Some(FrameRefusal::NotAuthentic)),
+    (0, 58, Some(37), Some(FrameRefusal::NotAuthentic)),
+    (0, 58, Some(38), Some(FrameRefusal::NotAuthentic)),
+    (0, 58, Some(53), Some(FrameRefusal::NotAuthentic)),
     // The insert zone and the control field aren't authenticated.
     (0, 58, Some(6), None),
-    (0, 58, None, Some(Refusal::Replayed)),
+    (0, 58, None, Some(FrameRefusal::Replayed)),
     (2, 58, Some(57), None),
     // It was held back until a later one had arrived.
-    (1, 58, None, Some(Refusal::Replayed)),
-    (1, 58, Some(20), Some(Refusal::NotAuthentic)),
-    (2, 58, None, Some(Refusal::Replayed)),
+    (1, 58, None, Some(FrameRefusal::Replayed)),
+    (1, 58, Some(20), Some(FrameRefusal::NotAuthentic)),
+    (2, 58, None, Some(FrameRefusal::Replayed)),
 ];
 
 const LINK: Made = Made {
@@ -172,12 +172,12 @@ fn keys_change_and_numbers_go_on(rt: HostRuntime) {
     let former = sealed(&mut sealer);
     sealer.change_key(9, OTHER_KEY);
     let latest = sealed(&mut sealer);
-    assert!(rt; opener.open(&latest).err() == Some(Refusal::UnknownSpi));
+    assert!(rt; opener.open(&latest).err() == Some(FrameRefusal::UnknownSpi));
     opener.add_key(9, OTHER_KEY);
     assert!(rt; opener.open(&former).is_ok());
     assert!(rt; opener.open(&latest).is_ok());
     opener.drop_former_key();
-    assert!(rt; opener.open(&former).err() == Some(Refusal::UnknownSpi));
+    assert!(rt; opener.open(&former).err() == Some(FrameRefusal::UnknownSpi));
     assert!(rt; sealer.next() == 3);
     let mut spent = Sealer::new(security, SPI, KEY, u64::MAX);
     assert!(rt; spent.overhead() == 32);

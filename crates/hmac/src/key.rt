@@ -7,7 +7,7 @@ ghost use Rattle.sha2.specs.Hashers.{Holds256};
 use crate::BLOCK_LEN;
 use crate::mac::Mac;
 use cfd_bits::put_bytes;
-use past::Past;
+use ghost_list::GhostList;
 use sha2::{Digest, Sha256};
 use std::marker::Model;
 
@@ -24,7 +24,7 @@ use std::marker::Model;
 pub struct Key {
     inner: Sha256,
     outer: Sha256,
-    octets: Past<u8>,
+    octets: GhostList<u8>,
 }
 
 impl Model for Key {
@@ -48,7 +48,7 @@ impl Key {
         Key {
             inner: begun(&block, 0x36),
             outer: begun(&block, 0x5C),
-            octets: Past::of(octets),
+            octets: GhostList::of(octets),
         }
     }
 

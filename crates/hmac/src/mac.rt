@@ -4,7 +4,7 @@ ghost use Rattle.hmac.specs.Hmac.{MacState};
 ghost use Rattle.hmac.specs.Hmac as hmac;
 ghost use Rattle.hmac.specs.Begun.{IsBegun};
 
-use past::Past;
+use ghost_list::GhostList;
 use sha2::{Digest, Sha256};
 use std::marker::Model;
 use std::snapshot::Snapshot;
@@ -23,8 +23,8 @@ use std::snapshot::Snapshot;
 pub struct Mac {
     inner: Sha256,
     outer: Sha256,
-    key: Snapshot<Past<u8>>,
-    message: Past<u8>,
+    key: Snapshot<GhostList<u8>>,
+    message: GhostList<u8>,
 }
 
 impl Model for Mac {
@@ -40,7 +40,7 @@ impl Model for Mac {
 
 impl Mac {
     /// Returns the MAC of an empty message, under the key whose blocks these hashers have hashed.
-    pub(crate) fn of(inner: &Sha256, outer: &Sha256, key: &Past<u8>) -> Mac
+    pub(crate) fn of(inner: &Sha256, outer: &Sha256, key: &GhostList<u8>) -> Mac
         requires { IsBegun key.now inner.now outer.now }
         ensures { result ≡ hmac.begun key.now }
     {
@@ -48,7 +48,7 @@ impl Mac {
             inner: inner.clone().unwrap(),
             outer: outer.clone().unwrap(),
             key: Snapshot::of(key),
-            message: Past::new(),
+            message: GhostList::new(),
         }
     }
 

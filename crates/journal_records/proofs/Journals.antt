@@ -5,7 +5,7 @@ use Rattle.std.specs.Int.{w64, to_be_bytes}
 use Rattle.std.proofs.lemmas.List.{append-nil, append_cancel_left, drop-drop, length-append, length-drop}
 use Rattle.batches.specs.Batch.{AreBatches, BeginsWithNone, FitsBatch, batch, batches_of}
 use Rattle.batches.proofs.Cutting.{length-batch, same-text}
-use Rattle.journal_records.specs.declared.fault.Fault.{Fault}
+use Rattle.journal_records.specs.declared.fault.BatchFault.{BatchFault}
 use Rattle.journal_records.specs.declared.record.JournalRecord.{JournalRecord}
 use Rattle.journal_records.specs.Journal.{FitBatch, IsFaulty, IsJournal, all_records}
 use Rattle.journal_records.specs.Reading.{records_in}
@@ -59,7 +59,7 @@ one-journal one bytes tail rest lists others a b =
     (same-lists lists others a.fit b.fit same.0, same.1)
 
 -- ---- a journal isn't faulty
-no-fault : (before lists : List (List JournalRecord)) (tail text rest : List ℕ) (fault : Fault) → AllByRecursion FitBatch before → AllByRecursion FitBatch lists → BeginsWithNone tail → FitsBatch text → records_in text ≡ Err fault →
+no-fault : (before lists : List (List JournalRecord)) (tail text rest : List ℕ) (fault : BatchFault) → AllByRecursion FitBatch before → AllByRecursion FitBatch lists → BeginsWithNone tail → FitsBatch text → records_in text ≡ Err fault →
     batches_of (map records_octets lists) ++ tail ≡ batches_of (map records_octets before) ++ (batch text ++ rest) → ⊥
 no-fault [] [] tail text rest fault f g none is faulty e = none text rest is e
 no-fault [] (rs ∷ lists) tail text rest fault f g none is faulty e =
@@ -79,7 +79,7 @@ no-fault (u ∷ before) (rs ∷ lists) tail text rest fault f g none is faulty e
     no-fault before lists tail text rest fault f.1 g.1 none is faulty
     (append_cancel_left (batch (records_octets rs)) left right (both ∙ ap (λ (t : List ℕ). batch t ++ right) (sym same)))
 
-pub never-faulty : (bytes tail : List ℕ) (lists : List (List JournalRecord)) (fault : Fault) → IsJournal bytes lists tail → IsFaulty bytes fault → ⊥
+pub never-faulty : (bytes tail : List ℕ) (lists : List (List JournalRecord)) (fault : BatchFault) → IsJournal bytes lists tail → IsFaulty bytes fault → ⊥
 never-faulty bytes tail lists fault j f = no-fault f.lists lists tail f.text f.rest fault f.fit j.fit j.batches.none f.is_batch f.faulty (sym j.batches.octets ∙ f.octets)
 
 -- ---- reading
@@ -133,7 +133,7 @@ pub reads-end : (bytes : List ℕ) (records : List JournalRecord) (end : ℕ) �
 reads-end bytes records end so none = (so.lists, record { batches = record { octets = so.octets; fit = texts-fit so.lists so.fit; none = none }; fit = so.fit }, so.are)
 
 -- a batch whose text is no records
-pub reads-fault : (bytes : List ℕ) (records : List JournalRecord) (end : ℕ) (text : List ℕ) (fault : Fault) → ReadSoFar bytes records end → drop end bytes ≡ batch text ++ drop (12 + length text) (drop end bytes) → FitsBatch text →
+pub reads-fault : (bytes : List ℕ) (records : List JournalRecord) (end : ℕ) (text : List ℕ) (fault : BatchFault) → ReadSoFar bytes records end → drop end bytes ≡ batch text ++ drop (12 + length text) (drop end bytes) → FitsBatch text →
     records_in text ≡ Err fault → IsFaulty bytes fault
 reads-fault bytes records end text fault so found fits faulty = record {
   lists = so.lists;

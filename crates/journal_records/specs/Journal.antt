@@ -2,7 +2,7 @@
 use Rattle.std.specs.Prelude.{◌≡◌, ◌++◌, ◌^◌, ◌<◌, ℕ, List, length, map, Err}
 use Rattle.std.specs.List.{flat_map, AllByRecursion}
 use Rattle.batches.specs.Batch.{AreBatches, FitsBatch, batch, batches_of}
-use Rattle.journal_records.specs.declared.fault.Fault.{Fault}
+use Rattle.journal_records.specs.declared.fault.BatchFault.{BatchFault}
 use Rattle.journal_records.specs.declared.record.JournalRecord.{JournalRecord}
 use Rattle.journal_records.specs.Writing.{AreRecords, records_octets}
 use Rattle.journal_records.specs.Reading.{records_in}
@@ -25,7 +25,7 @@ pub record IsJournal (bytes : List ℕ) (lists : List (List JournalRecord)) (tai
 
 -- After batches of these lists of records comes a whole batch whose text is no records, with this
 -- first fault.
-pub record IsFaulty (bytes : List ℕ) (fault : Fault) : Type 0 where
+pub record IsFaulty (bytes : List ℕ) (fault : BatchFault) : Type 0 where
   pub lists : List (List JournalRecord)
   pub text : List ℕ
   pub rest : List ℕ

@@ -10,8 +10,8 @@ use Rattle.cfdp_directives.specs.declared.pdu.codes.FileStatus.TheVariants.{Disc
 use Rattle.cfdp_directives.specs.declared.user.telling.Outcome.{Outcome}
 use Rattle.cfdp_directives.specs.Pdu.Codes.{is_refused}
 use Rattle.cfdp_sender.specs.declared.transfer.Transfer.{Transfer}
-use Rattle.journal_records.specs.declared.fault.Fault.{Fault}
-use Rattle.journal_records.specs.declared.fault.Fault.TheVariants.{Short, Unknown, Trailing}
+use Rattle.journal_records.specs.declared.fault.BatchFault.{BatchFault}
+use Rattle.journal_records.specs.declared.fault.BatchFault.TheVariants.{Short, Unknown, Trailing}
 use Rattle.journal_records.specs.declared.fault.ReadError.{ReadError}
 use Rattle.journal_records.specs.declared.fault.ReadError.TheVariants as errors
 use Rattle.journal_records.specs.declared.record.RecordKind.{RecordKind}
@@ -21,19 +21,19 @@ use Rattle.journal_records.specs.declared.record.JournalRecord.TheVariants.{Stat
 
 -- what is read at the front of octets: a value and the octets after it, or a fault
 abbrev pub Read : Type 0 → Type 0
-Read A = Result (A × List ℕ) Fault
+Read A = Result (A × List ℕ) BatchFault
 
 infixl 10 ◌>>=◌
-abbrev pub ◌>>=◌ : {A B : Type 0} → Result A Fault → (A → Result B Fault) → Result B Fault
+abbrev pub ◌>>=◌ : {A B : Type 0} → Result A BatchFault → (A → Result B BatchFault) → Result B BatchFault
 (Ok x) >>= f = f x
 (Err e) >>= f = Err e
 
 -- What a function returned, seen by `view`, is what is read, unless memory ran out.
-abbrev pub Fails : {Y : Type 0} → ReadError → Result Y Fault → Type 0
+abbrev pub Fails : {Y : Type 0} → ReadError → Result Y BatchFault → Type 0
 Fails errors.Memory read = Unit {0}
 Fails (errors.Fault f) read = read ≡ Err f
 
-abbrev pub Gives : {X Y : Type 0} → (X → Y) → Result X ReadError → Result Y Fault → Type 0
+abbrev pub Gives : {X Y : Type 0} → (X → Y) → Result X ReadError → Result Y BatchFault → Type 0
 Gives view (Ok x) read = read ≡ Ok (view x)
 Gives view (Err e) read = Fails e read
 
@@ -183,7 +183,7 @@ unfoldable pub record_at : List ℕ → Read JournalRecord
 record_at bytes = choice_at kinds bytes >>= λ k. body_at k.0 k.1
 
 -- nothing may follow
-abbrev pub ended : {A : Type 0} → A × List ℕ → Result A Fault
+abbrev pub ended : {A : Type 0} → A × List ℕ → Result A BatchFault
 ended (x, []) = Ok x
 ended (x, n ∷ rest) = Err Trailing
 
@@ -191,5 +191,5 @@ unfoldable pub records_at : List ℕ → Read (List JournalRecord)
 records_at bytes = number_at w64 bytes >>= λ n. many_at record_at n.0 n.1
 
 -- the records that all of these octets are
-unfoldable pub records_in : List ℕ → Result (List JournalRecord) Fault
+unfoldable pub records_in : List ℕ → Result (List JournalRecord) BatchFault
 records_in bytes = records_at bytes >>= λ rs. ended rs

@@ -7,7 +7,7 @@ use thiserror::Error;
 
 /// What is wrong with the text of a batch: the first fault from its front.
 #[derive(Clone, Copy, Debug, PartialEq, Eq, Error)]
-pub enum Fault {
+pub enum BatchFault {
     /// A field passes the end.
     #[error("a record is cut off")]
     Short,
@@ -28,7 +28,7 @@ pub enum ReadError {
     Memory,
     /// A whole batch has a text that is wrong.
     #[error("{0}")]
-    Fault(Fault),
+    Fault(BatchFault),
 }
 
 impl From<AllocError> for ReadError {

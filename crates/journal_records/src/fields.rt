@@ -6,8 +6,8 @@ ghost use Rattle.journal_records.specs.Reading.{is_checksum_kind, is_condition, 
 ghost use Rattle.journal_records.specs.Reading.{number_at, octet_at, optional_at, outcome_at};
 ghost use Rattle.journal_records.specs.Reading.{range_at, ranges_at, tested_at, transfer_at};
 
-use crate::fault::{Fault, ReadError};
-use crate::ranges::Ranges;
+use crate::fault::{BatchFault, ReadError};
+use crate::ranges::RangeList;
 use cfdp_directives::{Addressing, ChecksumKind, Condition, Delivery, FileStatus, Octets, Outcome};
 use cfdp_header::TransactionId;
 use cfdp_sender::Transfer;
@@ -29,7 +29,7 @@ fn octet_at(bytes: &[u8]) -> Result<(u8, &[u8]), ReadError>
     ensures { Gives (λ x. (x.0, x.1.now)) result (octet_at bytes.now) }
 {
     match bytes {
-        [] => Err(ReadError::Fault(Fault::Short)),
+        [] => Err(ReadError::Fault(BatchFault::Short)),
         [octet, rest @ ..] => Ok((*octet, rest)),
     }
 }
@@ -39,7 +39,7 @@ fn u16_at(bytes: &[u8]) -> Result<(u16, &[u8]), ReadError>
     ensures { Gives (λ x. (x.0, x.1.now)) result (number_at w16 bytes.now) }
 {
     if bytes.len() < 2 {
-        return Err(ReadError::Fault(Fault::Short));
+        return Err(ReadError::Fault(BatchFault::Short));
     }
     let (front, rest) = bytes.split_at(2);
     let number = u16::from_be_bytes([front[0], front[1]]);
@@ -51,7 +51,7 @@ pub fn u32_at(bytes: &[u8]) -> Result<(u32, &[u8]), ReadError>
     ensures { Gives (λ x. (x.0, x.1.now)) result (number_at w32 bytes.now) }
 {
     if bytes.len() < 4 {
-        return Err(ReadError::Fault(Fault::Short));
+        return Err(ReadError::Fault(BatchFault::Short));
     }
     let (front, rest) = bytes.split_at(4);
     let number = u32::from_be_bytes([front[0], front[1], front[2], front[3]]);
@@ -63,7 +63,7 @@ pub fn u64_at(bytes: &[u8]) -> Result<(u64, &[u8]), ReadError>
     ensures { Gives (λ x. (x.0, x.1.now)) result (number_at w64 bytes.now) }
 {
     if bytes.len() < 8 {
-        return Err(ReadError::Fault(Fault::Short));
+        return Err(ReadError::Fault(BatchFault::Short));
     }
     let (front, rest) = bytes.split_at(8);
     let number = u64::from_be_bytes([
@@ -80,7 +80,7 @@ pub fn choice_at<'a, T: Copy>(all: &[T], bytes: &'a [u8]) -> Result<(T, &'a [u8]
     let (code, rest) = octet_at(bytes)?;
     match all.get(usize::from(code)) {
         Some(choice) => Ok((*choice, rest)),
-        None => Err(ReadError::Fault(Fault::Unknown)),
+        None => Err(ReadError::Fault(BatchFault::Unknown)),
     }
 }
 
@@ -106,7 +106,7 @@ pub fn name_at(alloc: Global, bytes: &[u8]) -> Result<(Octets, &[u8]), ReadError
     let (len, rest) = u64_at(bytes)?;
     let len = len as usize;
     if rest.len() < len {
-        return Err(ReadError::Fault(Fault::Short));
+        return Err(ReadError::Fault(BatchFault::Short));
     }
     let (name, rest) = rest.split_at(len);
     Ok((Octets::copied(alloc, name)?, rest))
@@ -139,12 +139,12 @@ fn many_ranges_at(
 }
 
 #[tactic(auto, unfolding(crate::specs::Reading::ranges_at))]
-pub fn ranges_at(alloc: Global, bytes: &[u8]) -> Result<(Ranges, &[u8]), ReadError>
+pub fn ranges_at(alloc: Global, bytes: &[u8]) -> Result<(RangeList, &[u8]), ReadError>
     ensures { Gives (λ x. (x.0, x.1.now)) result (ranges_at bytes.now) }
 {
     let (count, rest) = u64_at(bytes)?;
     let (ranges, rest) = many_ranges_at(alloc, count, rest)?;
-    Ok((Ranges::from_vec(ranges), rest))
+    Ok((RangeList::from_vec(ranges), rest))
 }
 
 #[tactic(auto, unfolding(crate::specs::Reading::addressing_at))]
@@ -173,7 +173,7 @@ pub fn condition_at(bytes: &[u8]) -> Result<(Condition, &[u8]), ReadError>
     let (code, rest) = octet_at(bytes)?;
     match Condition::from_code(code) {
         Some(condition) => Ok((condition, rest)),
-        None => Err(ReadError::Fault(Fault::Unknown)),
+        None => Err(ReadError::Fault(BatchFault::Unknown)),
     }
 }
 
@@ -184,7 +184,7 @@ pub fn checksum_kind_at(bytes: &[u8]) -> Result<(ChecksumKind, &[u8]), ReadError
     let (code, rest) = octet_at(bytes)?;
     match ChecksumKind::from_code(code) {
         Some(kind) => Ok((kind, rest)),
-        None => Err(ReadError::Fault(Fault::Unknown)),
+        None => Err(ReadError::Fault(BatchFault::Unknown)),
     }
 }
 

@@ -1,7 +1,7 @@
 //! Journals.
 ghost use Rattle.std.specs.Prelude.{◌≡◌, List, drop, IfOk, Err};
 ghost use Rattle.batches.specs.Batch.{batch};
-ghost use Rattle.journal_records.specs.declared.fault.Fault.{Fault};
+ghost use Rattle.journal_records.specs.declared.fault.BatchFault.{BatchFault};
 ghost use Rattle.journal_records.specs.declared.record.JournalRecord.{JournalRecord};
 ghost use Rattle.journal_records.specs.Journal.{IsFaulty, IsJournal, all_records};
 ghost use Rattle.journal_records.specs.Writing.{records_octets};
@@ -15,7 +15,7 @@ use std::alloc::{AllocError, Global};
 
 /// What a journal says.
 #[derive(Debug, Drop)]
-pub struct Journal {
+pub struct JournalText {
     /// The records of its whole batches, in order.
     pub records: Vec<JournalRecord>,
     /// Octets of these batches. If more octets follow, a crash cut off the batch that they began.
@@ -40,13 +40,13 @@ pub fn batch_of(alloc: Global, records: &[JournalRecord]) -> Result<Vec<u8>, All
 ///
 /// # Errors
 ///
-/// `Fault` if the text of a whole batch is wrong, with its first fault; `Memory` if memory runs
+/// `BatchFault` if the text of a whole batch is wrong, with its first fault; `Memory` if memory runs
 /// out.
-pub fn read_journal(alloc: Global, bytes: &[u8]) -> Result<Journal, ReadError>
+pub fn read_journal(alloc: Global, bytes: &[u8]) -> Result<JournalText, ReadError>
     ensures found { IfOk result (λ j. (lists : List (List JournalRecord))
         × IsJournal bytes.now lists (drop j.end bytes.now)
         × (j.records.items ≡ all_records lists)) }
-    ensures refused { (fault : Fault) → result ≡ Err (ReadError.Fault fault)
+    ensures refused { (fault : BatchFault) → result ≡ Err (ReadError.Fault fault)
         → IsFaulty bytes.now fault }
 {
     let mut records = Vec::new(alloc);
@@ -56,5 +56,5 @@ pub fn read_journal(alloc: Global, bytes: &[u8]) -> Result<Journal, ReadError>
         records.append(&mut more)?;
         end += HEAD_LEN + text.len();
     }
-    Ok(Journal { records, end })
+    Ok(JournalText { records, end })
 }

@@ -2,7 +2,7 @@
 ghost use Rattle.std.specs.Prelude.{◌≡◌, ◌++◌, ◌<◌, ℕ, List, [], length, map, take, Ok};
 ghost use Rattle.std.specs.List.{AllByRecursion};
 ghost use Rattle.batches.specs.Batch.{batch, batches_of};
-ghost use Rattle.journal_records.specs.declared.fault.Fault.{Fault};
+ghost use Rattle.journal_records.specs.declared.fault.BatchFault.{BatchFault};
 ghost use Rattle.journal_records.specs.declared.record.JournalRecord.{JournalRecord};
 ghost use Rattle.journal_records.specs.Journal.{FitBatch, IsFaulty, IsJournal};
 ghost use Rattle.journal_records.specs.Reading.{records_in};
@@ -25,7 +25,7 @@ pub fn what_is_written_is_read()
     ensures one { (bytes tail rest : List ℕ) (lists others : List (List JournalRecord)) →
         IsJournal bytes lists tail → IsJournal bytes others rest
         → (others ≡ lists) × (rest ≡ tail) }
-    ensures fine { (bytes tail : List ℕ) (lists : List (List JournalRecord)) (fault : Fault) →
+    ensures fine { (bytes tail : List ℕ) (lists : List (List JournalRecord)) (fault : BatchFault) →
         IsJournal bytes lists tail → IsFaulty bytes fault → ⊥ }
 {
     a_cut_leaves_whole_batches();

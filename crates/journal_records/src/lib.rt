@@ -20,10 +20,10 @@ mod reading;
 mod record;
 mod writing;
 
-pub use fault::{Fault, ReadError};
-pub use journal::{Journal, batch_of, read_journal};
+pub use fault::{BatchFault, ReadError};
+pub use journal::{JournalText, batch_of, read_journal};
 pub use laws::what_is_written_is_read;
-pub use ranges::Ranges;
+pub use ranges::RangeList;
 pub use reading::read_records;
 pub use record::{JournalRecord, Owner, RecordKind};
 pub use writing::write_records;

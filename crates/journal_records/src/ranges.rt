@@ -5,11 +5,11 @@ use std::marker::Model;
 /// Ranges of offsets of a file, or of numbers of transactions. Each is a start and an end, which is
 /// one more than the last number in the range. Contracts see them as the list of these pairs.
 #[derive(Debug, Drop)]
-pub struct Ranges {
+pub struct RangeList {
     ranges: Vec<(u64, u64)>,
 }
 
-impl Model for Ranges {
+impl Model for RangeList {
     ghost use Rattle.std.specs.Prelude.{List, ℕ};
 
     ghost Value = { List (ℕ × ℕ) };
@@ -17,12 +17,12 @@ impl Model for Ranges {
     ghost view = { λ r. r.ranges.items };
 }
 
-impl Ranges {
+impl RangeList {
     /// Returns these ranges. Allocates nothing.
     pub fn from_vec(ranges: Vec<(u64, u64)>) -> Self
         ensures { result ≡ ranges.items }
     {
-        Ranges { ranges }
+        RangeList { ranges }
     }
 
     /// Returns the ranges, borrowed.

@@ -6,7 +6,7 @@ ghost use Rattle.journal_records.specs.Reading.{Gives, body_at, many_at, record_
 ghost use Rattle.journal_records.specs.Reading.{records_at, records_in};
 ghost use Rattle.journal_records.specs.Writing.{AreRecords, records_octets};
 
-use crate::fault::{Fault, ReadError};
+use crate::fault::{BatchFault, ReadError};
 use crate::fields::{
     addressing_at, checksum_kind_at, choice_at, condition_at, flag_at, id_at, name_at, optional_at,
     outcome_at, ranges_at, transfer_at, u32_at, u64_at,
@@ -270,7 +270,7 @@ fn records_in(alloc: Global, bytes: &[u8]) -> Result<Vec<JournalRecord>, ReadErr
 {
     let (records, rest) = records_at(alloc, bytes)?;
     if !rest.is_empty() {
-        return Err(ReadError::Fault(Fault::Trailing));
+        return Err(ReadError::Fault(BatchFault::Trailing));
     }
     Ok(records)
 }
@@ -279,7 +279,7 @@ fn records_in(alloc: Global, bytes: &[u8]) -> Result<Vec<JournalRecord>, ReadErr
 ///
 /// # Errors
 ///
-/// `Fault` with the first fault from the front; `Memory` if memory runs out.
+/// `BatchFault` with the first fault from the front; `Memory` if memory runs out.
 pub fn read_records(alloc: Global, bytes: &[u8]) -> Result<Vec<JournalRecord>, ReadError>
     ensures found { IfOk result (λ v. AreRecords v.items
         × (bytes.now ≡ records_octets v.items)) }

@@ -1,4 +1,4 @@
-use crate::ranges::Ranges;
+use crate::ranges::RangeList;
 use cfdp_directives::{Addressing, Condition, Octets, Outcome};
 use cfdp_header::TransactionId;
 use cfdp_receiver::{Ending, FileInfo};
@@ -38,7 +38,7 @@ pub enum JournalRecord {
     /// The receiver received an EOF without an error.
     HeardEof(TransactionId, Ending),
     /// The receiver holds these offsets too. The flag is the same as in `Opened`, as it is now.
-    Held(TransactionId, bool, Ranges),
+    Held(TransactionId, bool, RangeList),
     /// The receiver has the whole file, and publishes it next, under this name and with so many
     /// octets.
     Publishing(TransactionId, Octets, u64),
@@ -54,7 +54,7 @@ pub enum JournalRecord {
     /// The user hasn't received yet that the transaction was abandoned because of this condition.
     PendingAbandoned(TransactionId, Condition),
     /// Transactions of this source, with these numbers, are forgotten.
-    Forgotten(u64, Ranges),
+    Forgotten(u64, RangeList),
 }
 
 /// What kind of record it is. The first octet of a record says so.

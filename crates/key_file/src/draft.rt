@@ -2,7 +2,7 @@
 ghost use Rattle.std.specs.Prelude.{◌≡◌, Some, None, IfOk, OnOk};
 ghost use Rattle.key_file.specs.Apart.{Adds, AreApart, Differ, DiffersFrom, IsDraft, IsSpi};
 
-use crate::fault::{KeyFileError, LineFault};
+use crate::fault::{KeyFileError, KeyLineFault};
 use frame_security::{LinkKeys, NamedKey};
 
 /// What a key is for.
@@ -36,7 +36,7 @@ impl Draft {
     ///
     /// `SpiAgain` or `KeyAgain` if another key has its SPI or is the same; `SecondSend` or
     /// `ThirdReceive` if there are enough of its direction.
-    pub fn add(&mut self, direction: Direction, key: NamedKey) -> Result<(), LineFault>
+    pub fn add(&mut self, direction: Direction, key: NamedKey) -> Result<(), KeyLineFault>
         ensures adds { OnOk result (Adds direction key self.old self.new) }
         ensures apart { IsDraft self.old → IsSpi key.spi → OnOk result (IsDraft self.new) }
     {
@@ -44,11 +44,11 @@ impl Draft {
         check_differs(self.receive, key)?;
         check_differs(self.former, key)?;
         match direction {
-            Direction::Send => put(&mut self.send, key, LineFault::SecondSend),
+            Direction::Send => put(&mut self.send, key, KeyLineFault::SecondSend),
             Direction::Receive if self.receive.is_none() => {
-                put(&mut self.receive, key, LineFault::ThirdReceive)
+                put(&mut self.receive, key, KeyLineFault::ThirdReceive)
             }
-            Direction::Receive => put(&mut self.former, key, LineFault::ThirdReceive),
+            Direction::Receive => put(&mut self.former, key, KeyLineFault::ThirdReceive),
         }
     }
 
@@ -75,7 +75,7 @@ impl Draft {
 /// # Errors
 ///
 /// `SpiAgain` or `KeyAgain` if it doesn't.
-fn check_differs(other: Option<NamedKey>, key: NamedKey) -> Result<(), LineFault>
+fn check_differs(other: Option<NamedKey>, key: NamedKey) -> Result<(), KeyLineFault>
     ensures { OnOk result (DiffersFrom key other) }
 {
     let Some(other) = other else {
@@ -83,9 +83,9 @@ fn check_differs(other: Option<NamedKey>, key: NamedKey) -> Result<(), LineFault
     };
     let (theirs, own) = (other.key, key.key);
     if other.spi == key.spi {
-        Err(LineFault::SpiAgain(key.spi))
+        Err(KeyLineFault::SpiAgain(key.spi))
     } else if theirs == own {
-        Err(LineFault::KeyAgain)
+        Err(KeyLineFault::KeyAgain)
     } else {
         Ok(())
     }
@@ -96,7 +96,7 @@ fn check_differs(other: Option<NamedKey>, key: NamedKey) -> Result<(), LineFault
 /// # Errors
 ///
 /// This fault if one is there.
-fn put(place: &mut Option<NamedKey>, key: NamedKey, fault: LineFault) -> Result<(), LineFault>
+fn put(place: &mut Option<NamedKey>, key: NamedKey, fault: KeyLineFault) -> Result<(), KeyLineFault>
     ensures { OnOk result ((place.old ≡ None) × (place.new ≡ Some key)) }
 {
     if place.is_some() {

@@ -3,7 +3,7 @@ use thiserror::Error;
 
 /// What is wrong with a line.
 #[derive(Clone, Copy, Debug, PartialEq, Eq, Error)]
-pub enum LineFault {
+pub enum KeyLineFault {
     /// It has another number of words than three.
     #[error("expected an SPI, send or receive, and a key")]
     Words,
@@ -39,7 +39,7 @@ pub enum KeyFileError {
         /// Its number, from 1.
         line: u64,
         /// What is wrong with it.
-        fault: LineFault,
+        fault: KeyLineFault,
     },
     /// No line has a key to send with.
     #[error("no key to send with")]

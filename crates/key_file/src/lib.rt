@@ -14,5 +14,5 @@ mod draft;
 mod fault;
 mod lines;
 
-pub use fault::{KeyFileError, LineFault};
+pub use fault::{KeyFileError, KeyLineFault};
 pub use lines::parse;

@@ -6,7 +6,7 @@ ghost use Rattle.key_file.specs.declared.draft.Direction.{Direction as ADirectio
 ghost use Rattle.key_file.specs.Text.{AddsLine, AreWordsOf, IsFileOf, SayKey, SpellsSpi, before_comment, direction_word};
 
 use crate::draft::{Direction, Draft};
-use crate::fault::{KeyFileError, LineFault};
+use crate::fault::{KeyFileError, KeyLineFault};
 use frame_security::{LinkKeys, NamedKey};
 use hex::FromHex;
 
@@ -37,7 +37,7 @@ pub fn parse(text: &str) -> Result<LinkKeys, KeyFileError>
 }
 
 /// Adds the key of a line, if it has one.
-fn add_line(draft: &mut Draft, line: &str) -> Result<(), LineFault>
+fn add_line(draft: &mut Draft, line: &str) -> Result<(), KeyLineFault>
     ensures apart { IsDraft draft.old → OnOk result (IsDraft draft.new) }
     ensures adds { OnOk result (AddsLine line.now draft.old draft.new) }
 {
@@ -63,7 +63,7 @@ fn before_comment(line: &str) -> &str
 /// # Errors
 ///
 /// `Words` if it has another number of words.
-fn words_in(text: &str) -> Result<Option<(&str, &str, &str)>, LineFault>
+fn words_in(text: &str) -> Result<Option<(&str, &str, &str)>, KeyLineFault>
     ensures { IfOk result (AreWordsOf text.now) }
 {
     let mut words = text.split_whitespace();
@@ -71,7 +71,7 @@ fn words_in(text: &str) -> Result<Option<(&str, &str, &str)>, LineFault>
         return Ok(None);
     };
     let (Some(direction), Some(key), None) = (words.next(), words.next(), words.next()) else {
-        return Err(LineFault::Words);
+        return Err(KeyLineFault::Words);
     };
     Ok(Some((spi, direction, key)))
 }
@@ -81,13 +81,13 @@ fn words_in(text: &str) -> Result<Option<(&str, &str, &str)>, LineFault>
 /// # Errors
 ///
 /// `Spi`, `Direction` or `Key`, by the first word that says none.
-fn key_in(spi: &str, direction: &str, key: &str) -> Result<(Direction, NamedKey), LineFault>
+fn key_in(spi: &str, direction: &str, key: &str) -> Result<(Direction, NamedKey), KeyLineFault>
     ensures apart { IfOk result (λ entry. IsSpi entry.1.spi) }
     ensures says { IfOk result (λ it. SayKey spi.now direction.now key.now it.0 it.1) }
 {
-    let spi = parse_spi(spi).ok_or(LineFault::Spi)?;
-    let direction = parse_direction(direction).ok_or(LineFault::Direction)?;
-    let key = <[u8; 32] as FromHex>::from_hex(key).map_err(|_| LineFault::Key)?;
+    let spi = parse_spi(spi).ok_or(KeyLineFault::Spi)?;
+    let direction = parse_direction(direction).ok_or(KeyLineFault::Direction)?;
+    let key = <[u8; 32] as FromHex>::from_hex(key).map_err(|_| KeyLineFault::Key)?;
     Ok((direction, NamedKey { spi, key }))
 }
 

@@ -5,7 +5,7 @@ use Rattle.std.proofs.lemmas.Bool.{eq-eqb, eqb-true}
 use Rattle.std.proofs.lemmas.List.{append_assoc, append-nil}
 use Rattle.std.proofs.lemmas.List.Elements.{Contains-append_cases}
 use Rattle.cfd_bits.specs.Field.{field}
-use Rattle.frame_fields.specs.Fields.{is_intact}
+use Rattle.aos_frame.specs.LinkFields.{is_intact}
 use Rattle.aos_frame.specs.Counts.{follows}
 use Rattle.aos_frame.specs.Frame.{IsChannel, IsLink, frame_fault, frame_len, idle_channel, lane_channel, other_lane, seen_in}
 use Rattle.aos_frame.specs.declared.config.ChannelConfig.{ChannelConfig}

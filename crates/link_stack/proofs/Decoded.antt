@@ -3,7 +3,7 @@ use Rattle.std.proofs.Common.{◌≡◌, ℕ, ◌+◌, ◌*◌, ◌%◌, ◌<◌
 use Rattle.std.proofs.lemmas.Bool.{eq-eqb, ne_eqb}
 use Rattle.cfd_bits.specs.Field.{field}
 use Rattle.cfd_bits.proofs.Fields.{length-octets}
-use Rattle.frame_fields.specs.Fields.{is_intact, sealed}
+use Rattle.aos_frame.specs.LinkFields.{is_intact, sealed}
 use Rattle.aos_frame.specs.Counts.{frame_counts, CountsFrame}
 use Rattle.aos_frame.specs.Frame.{IsChannel, SpellsFrame, frame_fault, frame_len, count_in, seen_in}
 use Rattle.aos_frame.specs.declared.config.ChannelConfig.{ChannelConfig}

@@ -2,7 +2,7 @@
 use Rattle.std.proofs.Common.{◌≡◌, ℕ, ◌+◌, ◌*◌, ◌%◌, ◌<◌, ◌≤◌, Bool, true, false, Option, Some, None, IfSome, List, [], ◌∷◌, ◌++◌, ◌⊎◌, length, drop, refl, sym, ap, ◌∙◌, arith, length-append}
 use Rattle.std.proofs.lemmas.Bool.{ne_eqb}
 use Rattle.cfd_bits.specs.Field.{field, octets}
-use Rattle.frame_fields.specs.Fields.{sealed}
+use Rattle.aos_frame.specs.LinkFields.{sealed}
 use Rattle.aos_frame.specs.Counts.{frame_counts, counts_of, CountsFrame}
 use Rattle.aos_frame.specs.declared.count.SeenCount.{SeenCount}
 use Rattle.aos_frame.specs.Frame.{IsChannel, frame_octets}

@@ -6,9 +6,9 @@ use Rattle.cfd_bits.specs.Field.{flag}
 use Rattle.mpdu.specs.MpduHeader.{pointer_octets}
 use Rattle.space_packet.specs.Packet.{Parts, SpellsPacket, flag_bits}
 use Rattle.space_packet.specs.declared.packet.SequenceFlags.TheVariants.{Unsegmented}
-use Rattle.frame_fields.specs.declared.config.FrameFields.{FrameFields}
-use Rattle.frame_fields.specs.Fields.{bare_in, behind_insert, extra, mpdu_in, mpdu_len, sealed}
-use Rattle.frame_fields.proofs.RoundTrip.{opens_sealed}
+use Rattle.aos_frame.specs.declared.fields.FrameFields.{FrameFields}
+use Rattle.aos_frame.specs.LinkFields.{bare_in, behind_insert, extra, mpdu_in, mpdu_len, sealed}
+use Rattle.aos_frame.proofs.RoundTrip.{opens_sealed}
 use Rattle.aos_frame.specs.Counts.{frame_counts}
 use Rattle.aos_frame.specs.Frame.{header_octets, frame_octets}
 use Rattle.aos_frame.specs.declared.config.ChannelConfig.{ChannelConfig}

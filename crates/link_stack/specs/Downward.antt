@@ -1,6 +1,6 @@
 -- The sending end of a link, and the stream of packets that each of its two lanes was given.
 use Rattle.std.specs.Prelude.{◌≡◌, ℕ, ◌-◌, ◌%◌, ◌*◌, ◌+◌, ◌^◌, ◌<◌, ◌≤◌, ◌++◌, ◌∷◌, nat_le, Bool, false, List, [], length, take, drop, replicate, Option, Some, None, if◌then◌else◌}
-use Rattle.frame_fields.specs.Fields.{sealed}
+use Rattle.aos_frame.specs.LinkFields.{sealed}
 use Rattle.aos_frame.specs.Counts.{frame_counts}
 use Rattle.aos_frame.specs.Frame.{lane_channel}
 use Rattle.aos_frame.specs.declared.config.ChannelConfig.{ChannelConfig}

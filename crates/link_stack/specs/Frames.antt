@@ -3,8 +3,8 @@ use Rattle.std.specs.Prelude.{◌≡◌, ℕ, ◌*◌, ◌%◌, ◌^◌, ◌<◌
 use Rattle.space_packet.specs.Packet.{Parts, packet_octets, apid_field, flags_field, flag_bits, secondary_field}
 use Rattle.space_packet.specs.declared.packet.PacketType.TheVariants.{Telemetry}
 use Rattle.space_packet.specs.declared.packet.SequenceFlags.TheVariants.{Unsegmented}
-use Rattle.frame_fields.specs.Fields.{sealed}
-use Rattle.frame_fields.specs.Fields as of_fields
+use Rattle.aos_frame.specs.LinkFields.{sealed}
+use Rattle.aos_frame.specs.LinkFields as of_fields
 use Rattle.aos_frame.specs.Counts.{frame_counts}
 use Rattle.aos_frame.specs.Frame.{frame_octets}
 use Rattle.aos_frame.specs.declared.config.ChannelConfig.{ChannelConfig}

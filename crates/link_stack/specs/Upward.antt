@@ -2,7 +2,7 @@
 -- stream leave.
 use Rattle.std.specs.Prelude.{◌≡◌, ◌⊎◌, ℕ, ◌+◌, ◌-◌, ◌*◌, ◌^◌, ◌<◌, ◌≤◌, nat_le, min, Bool, true, false, ◌==◌, ◌&&◌, not, if◌then◌else◌, Option, Some, None, IfSome, List, [], ◌∷◌, ◌++◌, length, take, drop, replicate}
 use Rattle.cfd_bits.specs.Field.{field}
-use Rattle.frame_fields.specs.Fields.{control_in}
+use Rattle.aos_frame.specs.LinkFields.{control_in}
 use Rattle.aos_frame.specs.Counts.{counts_of, follows, CountsFrame}
 use Rattle.aos_frame.specs.Frame.{frame_fault, lane_channel, seen_in}
 use Rattle.aos_frame.specs.declared.count.SeenCount.{SeenCount}

@@ -1,7 +1,7 @@
 //! One lane of the way down: PDUs to the frames of one virtual channel.
 ghost use Rattle.std.specs.Prelude.{◌≡◌, ℕ, ◌+◌, ◌*◌, ◌<◌, ◌≤◌, ◌++◌, List, [], ◌∷◌, true, false};
 ghost use Rattle.std.specs.Prelude.{length, take, drop, IfOk};
-ghost use Rattle.frame_fields.specs.Fields.{bare_in};
+ghost use Rattle.aos_frame.specs.LinkFields.{bare_in};
 ghost use Rattle.aos_frame.specs.Frame.{IsChannel, frame_len};
 ghost use Rattle.mpdu.specs.Stream.{stream};
 ghost use Rattle.mpdu.specs.Packing.{flush_of};
@@ -12,7 +12,7 @@ ghost use Rattle.link_stack.specs.Downward.{controlled, counted_from, first_lane
 ghost use Rattle.link_stack.specs.Downward as downward;
 
 use aos_frame::{ChannelConfig, FrameHeader, HEADER_LEN as FRAME_HEADER_LEN, VcCounter};
-use frame_fields::seal;
+use aos_frame::seal;
 use mpdu::{MPDU_HEADER_LEN, Packer, put_pointer};
 use space_packet::header::HEADER_LEN as PACKET_HEADER_LEN;
 use space_packet::{Packet, PacketType, SequenceFlags, header_of};

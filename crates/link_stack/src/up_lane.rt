@@ -14,7 +14,7 @@ ghost use Rattle.link_stack.specs.declared.drops.LinkDrop.TheVariants.{BadPacket
 
 use crate::drops::LinkDrop;
 use aos_frame::{ChannelConfig, FrameError, VcMonitor, decode};
-use frame_fields::control_field;
+use aos_frame::control_field;
 use mpdu::{MPDU_HEADER_LEN, Notes, ONLY_IDLE, Reassembler, read_pointer};
 use octet_strings::OctetStrings;
 use space_packet::{SequenceFlags, header};

@@ -2,8 +2,8 @@
 use Rattle.std.proofs.Common.{◌≡◌, ◌⊎◌, inl, inr, ℕ, ◌+◌, ◌<◌, ◌≤◌, ◌^◌, Option, Some, None, List, [], ◌∷◌, ◌++◌, length, map, refl, ap, subst, ◌∙◌, arith}
 use Rattle.std.specs.List.{Contains}
 use Rattle.std.proofs.lemmas.List.Elements.{Contains-append_cases, Contains-append_right}
-use Rattle.frame_fields.specs.Fields.{bare_in}
-use Rattle.frame_security.specs.declared.opening.Refusal.{Refusal}
+use Rattle.aos_frame.specs.LinkFields.{bare_in}
+use Rattle.frame_security.specs.declared.opening.FrameRefusal.{FrameRefusal}
 use Rattle.frame_security.specs.Frames.{number_in, secured}
 use Rattle.frame_security.specs.Opening.{OpenerState, after, after_by, refusal}
 use Rattle.frame_security.proofs.RoundTrip.{number_of_secured}
@@ -56,7 +56,7 @@ module _ (first : ℕ) (before since : List SealedIn) (x : SealedIn) (rises : Ri
         absurd (omega (arith, less, number, fresh, low))
     by (inr new) = (y, new, is)
 
-  goes-up : (o : OpenerState) (octets : List ℕ) (r : Option Refusal) → refusal o octets ≡ r → o.last ≤ (after_by r (number_in (bare_in o.security.fields octets)) o).last
+  goes-up : (o : OpenerState) (octets : List ℕ) (r : Option FrameRefusal) → refusal o octets ≡ r → o.last ≤ (after_by r (number_in (bare_in o.security.fields octets)) o).last
   goes-up o octets None e = (let fresh : o.last < number_in (bare_in o.security.fields octets) = (accepted o octets e).1 in omega (arith, fresh))
   goes-up o octets (Some cause) e = omega arith
 

@@ -5,10 +5,10 @@ use Rattle.std.proofs.lemmas.List.{length-take-le, take-append-drop}
 use Rattle.aos_frame.specs.Counts.{frame_counts}
 use Rattle.aos_frame.specs.declared.config.Lane.{Lane}
 use Rattle.any_order.specs.Kept.{EndKept, last_at, with_last}
-use Rattle.frame_fields.specs.Fields.{bare_in}
-use Rattle.frame_fields.proofs.RoundTrip.{opens_sealed}
+use Rattle.aos_frame.specs.LinkFields.{bare_in}
+use Rattle.aos_frame.proofs.RoundTrip.{opens_sealed}
 use Rattle.frame_security.specs.declared.config.Security.{Security}
-use Rattle.frame_security.specs.declared.opening.Refusal.{Refusal}
+use Rattle.frame_security.specs.declared.opening.FrameRefusal.{FrameRefusal}
 use Rattle.frame_security.specs.Frames as frames
 use Rattle.frame_security.specs.Frames.{IsSecurity, secured}
 use Rattle.frame_security.specs.Lives.{IsAuthenticAt}
@@ -55,7 +55,7 @@ module _ (theirs : EndKept) (all : List Numbered) (next : ℕ) (kept : AreKept a
     by x (inr e) = inr e
 
   -- What must be shown of octets that arrived.
-  record Takes (o : OpenerState) (a : Arrival) (r : Option Refusal) (old : EndKept) : Type 0 where
+  record Takes (o : OpenerState) (a : Arrival) (r : Option FrameRefusal) (old : EndKept) : Type 0 where
     new : EndKept
     accepts : AcceptsBy all o a.octets r a.handed_on old new
     took : TookLast all (after_by r (frames.number_in (bare_in o.security.fields a.octets)) o).last new
@@ -64,7 +64,7 @@ module _ (theirs : EndKept) (all : List Numbered) (next : ℕ) (kept : AreKept a
   step : (o : OpenerState) (octets : List ℕ) (handed_on : Bool) (old : EndKept) → o.security.mac_len ≤ 32 → TookLast all o.last old → AreNear all o.last old →
       (IsAuthenticAt o octets → (x : SealedIn) × Contains (map (λ (y : Numbered). y.sealed) all) x
       × (bare_in o.security.fields octets ≡ secured o.security x.frame.key x.frame.spi x.frame.number x.frame.bare)) →
-      (r : Option Refusal) → refusal o octets ≡ r → Takes o (record { octets = octets; handed_on = handed_on }) r old
+      (r : Option FrameRefusal) → refusal o octets ≡ r → Takes o (record { octets = octets; handed_on = handed_on }) r old
   step o octets true old most took close none (Some cause) e = record { new = old; accepts = refl; took = took; near = close }
   step o octets false old most took close none (Some cause) e = record { new = old; accepts = refl; took = took; near = close }
   step o octets false old most took close none None e =
@@ -104,7 +104,7 @@ module _ (theirs : EndKept) (all : List Numbered) (next : ℕ) (kept : AreKept a
             let high : y.number ≤ x.number + frame_counts = close x y in_all at same late (inr last_x) in
             omega (arith, high, num)
 
-  keeps : (r : Option Refusal) (n : ℕ) (o : OpenerState) (a : Arrival) (came : List Arrival) → NoneForgedOf o (map (λ (y : Numbered). y.sealed) all) (a ∷ came) → NoneForgedOf (after_by r n o) (map (λ (y : Numbered). y.sealed) all) came
+  keeps : (r : Option FrameRefusal) (n : ℕ) (o : OpenerState) (a : Arrival) (came : List Arrival) → NoneForgedOf o (map (λ (y : Numbered). y.sealed) all) (a ∷ came) → NoneForgedOf (after_by r n o) (map (λ (y : Numbered). y.sealed) all) came
   keeps None n o a came none = λ b at. none b (contains_more a came b at)
   keeps (Some cause) n o a came none = λ b at. none b (contains_more a came b at)
 

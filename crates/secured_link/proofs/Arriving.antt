@@ -1,8 +1,8 @@
 -- Exported: what comes over a secured wire is what its opener accepts of what arrived.
 use Rattle.std.proofs.Common.{◌≡◌, ◌≢◌, ◌⊎◌, inl, inr, ℕ, zero, suc, ◌<◌, true, Option, Some, None, Ok, Err, List, [], ◌∷◌, ◌++◌, refl, sym, ap, ap₂, ◌∙◌, append_assoc}
 use Rattle.cfdp_station.specs.Transmitting.{Times}
-use Rattle.frame_fields.specs.Fields.{bare_in}
-use Rattle.frame_security.specs.declared.opening.Refusal.{Refusal}
+use Rattle.aos_frame.specs.LinkFields.{bare_in}
+use Rattle.frame_security.specs.declared.opening.FrameRefusal.{FrameRefusal}
 use Rattle.frame_security.specs.Frames.{frame_in, number_in}
 use Rattle.frame_security.specs.Opening.{OpenerState, after, after_by, refusal}
 use Rattle.cfdp_port.specs.Calls.{WireCall}
@@ -26,7 +26,7 @@ opener-append o [] ys = refl
 opener-append o (a ∷ xs) ys = opener-append (after o a.octets) xs ys
 
 -- ---- what an answer brings
-answer_is : (r : Option Refusal) (bare : List ℕ) → what_came (opened_by r bare) ≡ frames_by true r bare ++ []
+answer_is : (r : Option FrameRefusal) (bare : List ℕ) → what_came (opened_by r bare) ≡ frames_by true r bare ++ []
 answer_is None bare = refl
 answer_is (Some cause) bare = refl
 
@@ -38,7 +38,7 @@ one_brings Calls room (Ok None) came old new (none, same) = (ap what_came none, 
 one_brings Calls room (Err fault) came old new (lost, same) = (ap what_came lost, same)
 
 -- nothing that comes changes no opener
-opened_some : (r : Option Refusal) (bare : List ℕ) → opened_by r bare ≢ Ok None
+opened_some : (r : Option FrameRefusal) (bare : List ℕ) → opened_by r bare ≢ Ok None
 opened_some None bare e = absurd cc
 opened_some (Some cause) bare e = absurd cc
 
@@ -49,7 +49,7 @@ nothing_brings Calls room (Ok None) old new (none, same) = same
 nothing_brings Calls room (Err fault) old new (lost, same) = same
 
 -- no octets change how frames are secured
-pub after_security : (r : Option Refusal) (n : ℕ) (o : OpenerState) → (after_by r n o).security ≡ o.security
+pub after_security : (r : Option FrameRefusal) (n : ℕ) (o : OpenerState) → (after_by r n o).security ≡ o.security
 after_security None n o = refl
 after_security (Some cause) n o = refl
 

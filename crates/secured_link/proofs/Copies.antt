@@ -6,12 +6,12 @@ use Rattle.aos_frame.specs.Counts.{frame_counts}
 use Rattle.aos_frame.specs.declared.config.Lane.{Lane}
 use Rattle.aos_frame.specs.declared.config.Lane.TheVariants.{Directives, Data}
 use Rattle.aos_frame.specs.declared.config.LinkConfig.{LinkConfig}
-use Rattle.any_link.specs.Passing.{Comes, ComesOne}
+use Rattle.promises.specs.Passing.{Comes, ComesOne}
 use Rattle.any_order.specs.Kept.{EndKept, all_kept, last_at, with_last}
 use Rattle.any_order.specs.Refusing.{IsNearLast}
 use Rattle.cfdp_station.specs.Transmitting.{Times}
-use Rattle.frame_fields.specs.Fields.{bare_in}
-use Rattle.frame_security.specs.declared.opening.Refusal.{Refusal}
+use Rattle.aos_frame.specs.LinkFields.{bare_in}
+use Rattle.frame_security.specs.declared.opening.FrameRefusal.{FrameRefusal}
 use Rattle.frame_security.specs.Frames as frames
 use Rattle.frame_security.specs.Frames.{frame_in}
 use Rattle.frame_security.specs.Opening.{OpenerState, after, after_by, refusal}
@@ -50,7 +50,7 @@ near_by (Some before) n few up =
     let high : n ≤ before + frame_counts = few in
     record { in_front = high; behind = omega (arith, low) }
 
-pub keeps_size : (r : Option Refusal) (n : ℕ) (o : OpenerState) → o.security.mac_len ≤ 32 → (after_by r n o).security.mac_len ≤ 32
+pub keeps_size : (r : Option FrameRefusal) (n : ℕ) (o : OpenerState) → o.security.mac_len ≤ 32 → (after_by r n o).security.mac_len ≤ 32
 keeps_size None n o most = most
 keeps_size (Some cause) n o most = most
 
@@ -102,7 +102,7 @@ module _ (theirs : EndKept) (all : List Numbered) (next : ℕ) (kept : AreKept a
             omega (arith, up, num)
 
   -- octets that came
-  step : (link : LinkConfig) (o : OpenerState) (a : Arrival) (old new : EndKept) → o.security.mac_len ≤ 32 → TookLast all o.last old → (r : Option Refusal) (handed_on : Bool) → refusal o a.octets ≡ r → AcceptsBy all o a.octets r handed_on old new →
+  step : (link : LinkConfig) (o : OpenerState) (a : Arrival) (old new : EndKept) → o.security.mac_len ≤ 32 → TookLast all o.last old → (r : Option FrameRefusal) (handed_on : Bool) → refusal o a.octets ≡ r → AcceptsBy all o a.octets r handed_on old new →
       ((more : List (List ℕ)) (end : EndKept) → Comes link more theirs new end
       → Comes link (frames_by handed_on r (frame_in o.security (bare_in o.security.fields a.octets)) ++ more) theirs old end)
       × TookLast all (after_by r (frames.number_in (bare_in o.security.fields a.octets)) o).last new

@@ -5,8 +5,8 @@ use Rattle.std.proofs.lemmas.List.{get_or_append_left, get_or_at}
 use Rattle.std.proofs.lemmas.List.Elements.{Contains-append_cases, Contains-append_left, Contains-append_right}
 use Rattle.aos_frame.specs.declared.config.Lane.{Lane}
 use Rattle.aos_frame.specs.declared.config.Lane.TheVariants.{Directives, Data}
-use Rattle.any_link.specs.Passing.{with_sent}
-use Rattle.any_link.specs.Serving.{Served, StartsAnew, life_from}
+use Rattle.promises.specs.Passing.{with_sent}
+use Rattle.promises.specs.Serving.{Served, StartsAnew, life_from}
 use Rattle.any_order.specs.Kept.{EndKept, LifeKept, frames_in, with_frame}
 use Rattle.cfdp_station.specs.Transmitting.{Times}
 use Rattle.cfdp_station.specs.declared.config.StationConfig.{StationConfig}

@@ -6,8 +6,8 @@ use Rattle.std.proofs.lemmas.List.Elements.{Contains-append_cases, Contains-appe
 use Rattle.aos_frame.specs.Counts.{frame_counts}
 use Rattle.aos_frame.specs.declared.config.Lane.{Lane}
 use Rattle.aos_frame.specs.declared.config.Lane.TheVariants.{Directives, Data}
-use Rattle.frame_fields.specs.Fields.{bare_in}
-use Rattle.frame_security.specs.declared.opening.Refusal.{Refusal}
+use Rattle.aos_frame.specs.LinkFields.{bare_in}
+use Rattle.frame_security.specs.declared.opening.FrameRefusal.{FrameRefusal}
 use Rattle.frame_security.specs.Frames.{frame_in, number_in, secured}
 use Rattle.frame_security.specs.Lives.{AreSomeOf, Sealed}
 use Rattle.frame_security.specs.Opening.{OpenerState, after, after_by, refusal}
@@ -134,7 +134,7 @@ pub record Stands (all : List SealedIn) (next last : ℕ) (from : Lane → List 
   pub lanes : (lane : Lane) → InLane (from lane) (taken lane) (bares_in lane rest)
 
 -- ---- what is accepted
-keeps : (all : List SealedIn) (r : Option Refusal) (n : ℕ) (o : OpenerState) (a : Arrival) (came : List Arrival) → NoneForgedOf o all (a ∷ came) → NoneForgedOf (after_by r n o) all came
+keeps : (all : List SealedIn) (r : Option FrameRefusal) (n : ℕ) (o : OpenerState) (a : Arrival) (came : List Arrival) → NoneForgedOf o all (a ∷ came) → NoneForgedOf (after_by r n o) all came
 keeps all None n o a came none = λ b at. none b (contains_more a came b at)
 keeps all (Some cause) n o a came none = λ b at. none b (contains_more a came b at)
 
@@ -225,7 +225,7 @@ module _ (all : List SealedIn) (next : ℕ) (from : Lane → List (List ℕ)) wh
   step : (o : OpenerState) (a : Arrival) (taken : Lane → ℕ) → AreNear taken → o.security.mac_len ≤ 32 → Stands all next o.last from taken →
       (refusal o a.octets ≡ None → (x : SealedIn) × Contains all x
       × (bare_in o.security.fields a.octets ≡ secured o.security x.frame.key x.frame.spi x.frame.number x.frame.bare)) →
-      (r : Option Refusal) (room : Bool) → refusal o a.octets ≡ r →
+      (r : Option FrameRefusal) (room : Bool) → refusal o a.octets ≡ r →
       ComesOf taken (frames_by room r (frame_in o.security (bare_in o.security.fields a.octets))) (after_by r (number_in (bare_in o.security.fields a.octets)) o).last
   step o a taken short most s none (Some cause) true e = record { now = taken; in_order = λ more end h. h; stands = s; near = short }
   step o a taken short most s none (Some cause) false e = record { now = taken; in_order = λ more end h. h; stands = s; near = short }
@@ -249,7 +249,7 @@ module _ (all : List SealedIn) (next : ℕ) (from : Lane → List (List ℕ)) wh
           near = near_on y.lane (taken y.lane + c.lost + 1) taken (omega arith) short;
         }
 
-  keeps_size : (r : Option Refusal) (n : ℕ) (o : OpenerState) → o.security.mac_len ≤ 32 → (after_by r n o).security.mac_len ≤ 32
+  keeps_size : (r : Option FrameRefusal) (n : ℕ) (o : OpenerState) → o.security.mac_len ≤ 32 → (after_by r n o).security.mac_len ≤ 32
   keeps_size None n o most = most
   keeps_size (Some cause) n o most = most
 

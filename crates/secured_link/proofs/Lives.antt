@@ -2,8 +2,8 @@
 use Rattle.std.proofs.Common.{◌≡◌, ℕ, ◌+◌, ◌<◌, ◌≤◌, Bool, true, false, Option, Some, None, List, [], ◌∷◌, ◌++◌, map, refl, sym, ap, subst, ◌∙◌, arith, append_assoc}
 use Rattle.std.specs.List.{Contains}
 use Rattle.std.proofs.lemmas.List.{map-append}
-use Rattle.frame_fields.specs.Fields.{bare_in}
-use Rattle.frame_security.specs.declared.opening.Refusal.{Refusal}
+use Rattle.aos_frame.specs.LinkFields.{bare_in}
+use Rattle.frame_security.specs.declared.opening.FrameRefusal.{FrameRefusal}
 use Rattle.frame_security.specs.Frames.{frame_in, number_in}
 use Rattle.frame_security.specs.Lives.{AreSomeOf, IsAuthenticAt, Sealed, WasSealed}
 use Rattle.frame_security.specs.Opening.{OpenerState, after, after_by, refusal}
@@ -32,14 +32,14 @@ module _ (all : List Sealed) (first : ℕ) (rising_all : Rise itself first all) 
     has : (z : Sealed) → Contains all z → noted < z.number → Contains rest z
 
   -- What one arrival leaves.
-  record Leaves (o : OpenerState) (octets : List ℕ) (r : Option Refusal) (handed_on : Bool) (before : ℕ) (rest : List Sealed) : Type 0 where
+  record Leaves (o : OpenerState) (octets : List ℕ) (r : Option FrameRefusal) (handed_on : Bool) (before : ℕ) (rest : List Sealed) : Type 0 where
     behind : List Sealed
     left : Left (noted_by handed_on r (number_in (bare_in o.security.fields octets)) before) behind
     low : noted_by handed_on r (number_in (bare_in o.security.fields octets)) before ≤ (after_by r (number_in (bare_in o.security.fields octets)) o).last
     takes : (tail : List (List ℕ)) → AreSomeOf (bares behind) tail → AreSomeOf (bares rest) (frames_by handed_on r (frame_in o.security (bare_in o.security.fields octets)) ++ tail)
 
   step : (o : OpenerState) (octets : List ℕ) (before : ℕ) (rest : List Sealed) → o.security.mac_len ≤ 32 → before ≤ o.last → Left before rest → (IsAuthenticAt o octets → WasSealed o.security all octets) →
-      (r : Option Refusal) (handed_on : Bool) → refusal o octets ≡ r → Leaves o octets r handed_on before rest
+      (r : Option FrameRefusal) (handed_on : Bool) → refusal o octets ≡ r → Leaves o octets r handed_on before rest
   step o octets before rest most low left none (Some cause) true e = record { behind = rest; left = left; low = low; takes = λ tail h. h }
   step o octets before rest most low left none (Some cause) false e = record { behind = rest; left = left; low = low; takes = λ tail h. h }
   step o octets before rest most low left none None false e =
@@ -71,7 +71,7 @@ module _ (all : List Sealed) (first : ℕ) (rising_all : Rise itself first all) 
   abbrev NoneForgedFor : OpenerState → List Arrival → Type 0
   NoneForgedFor o came = (a : Arrival) → Contains came a → IsAuthenticAt o a.octets → WasSealed o.security all a.octets
 
-  keeps : (r : Option Refusal) (n : ℕ) (o : OpenerState) (a : Arrival) (came : List Arrival) → NoneForgedFor o (a ∷ came) → NoneForgedFor (after_by r n o) came
+  keeps : (r : Option FrameRefusal) (n : ℕ) (o : OpenerState) (a : Arrival) (came : List Arrival) → NoneForgedFor o (a ∷ came) → NoneForgedFor (after_by r n o) came
   keeps None n o a came none = λ b at. none b (contains_more a came b at)
   keeps (Some cause) n o a came none = λ b at. none b (contains_more a came b at)
 

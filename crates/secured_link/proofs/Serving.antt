@@ -7,10 +7,10 @@ use Rattle.aos_frame.specs.declared.config.Lane.TheVariants.{Directives, Data}
 use Rattle.aos_frame.specs.declared.config.LinkConfig.{LinkConfig}
 use Rattle.cfdp_header.specs.Files.{FileMap}
 use Rattle.cfdp_directives.specs.User.Put.{Put}
-use Rattle.any_link.specs.Passing as passing
-use Rattle.any_link.specs.Passing.{with_sent}
-use Rattle.any_link.specs.Serving.{Deed, DoesDeed, Goes, HaveServed, Served}
-use Rattle.any_link.specs.Serving.{Wishes, Says, Tells, LetsGo, Turns, Stops, Starts}
+use Rattle.promises.specs.Passing as passing
+use Rattle.promises.specs.Passing.{with_sent}
+use Rattle.promises.specs.Serving.{Deed, DoesDeed, Goes, HaveServed, Served}
+use Rattle.promises.specs.Serving.{Wishes, Says, Tells, LetsGo, Turns, Stops, Starts}
 use Rattle.any_order.specs.Calls.{Setup, Side, One, Two, other, setup_of}
 use Rattle.any_order.specs.Kept.{EndKept, with_last}
 use Rattle.cfdp_station.specs.Station.{StationState}
@@ -18,7 +18,7 @@ use Rattle.cfdp_station.specs.Transmitting.{Times}
 use Rattle.cfdp_station.specs.declared.config.StationConfig.{StationConfig}
 use Rattle.frame_security.specs.declared.config.Security.{Security}
 use Rattle.frame_security.specs.declared.keys.LinkKeys.{LinkKeys}
-use Rattle.frame_security.specs.declared.opening.Refusal.{Refusal}
+use Rattle.frame_security.specs.declared.opening.FrameRefusal.{FrameRefusal}
 use Rattle.frame_security.specs.Opening.{OpenerState, after, refusal}
 use Rattle.frame_security.specs.Sealing.{SealerState}
 use Rattle.cfdp_port.specs.Calls.{WireCall, Asked, Readied, Sent, Timed}
@@ -61,7 +61,7 @@ last_before : (lane : Lane) (n : ℕ) (k : EndKept) → ((with_last lane n k).be
 last_before Directives n k = (refl, refl)
 last_before Data n k = (refl, refl)
 
-accepts_one : (all : List Numbered) (o : OpenerState) (octets : List ℕ) (r : Option Refusal) (handed_on : Bool) (old new : EndKept) → AcceptsBy all o octets r handed_on old new → (new.before ≡ old.before) × (new.latest ≡ old.latest)
+accepts_one : (all : List Numbered) (o : OpenerState) (octets : List ℕ) (r : Option FrameRefusal) (handed_on : Bool) (old new : EndKept) → AcceptsBy all o octets r handed_on old new → (new.before ≡ old.before) × (new.latest ≡ old.latest)
 accepts_one all o octets None true old new is =
     let l = last_before is.one.sealed.lane is.one.number old in
     (ap (λ (k : EndKept). k.before) is.last ∙ l.0, ap (λ (k : EndKept). k.latest) is.last ∙ l.1)

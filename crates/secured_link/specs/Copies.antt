@@ -4,8 +4,8 @@ use Rattle.std.specs.Prelude.{◌≡◌, ◌⊎◌, ℕ, ◌+◌, ◌<◌, ◌�
 use Rattle.aos_frame.specs.Counts.{frame_counts}
 use Rattle.aos_frame.specs.declared.config.Lane.{Lane}
 use Rattle.any_order.specs.Kept.{EndKept, LifeKept, frames_in, last_at, with_last}
-use Rattle.frame_fields.specs.Fields.{bare_in}
-use Rattle.frame_security.specs.declared.opening.Refusal.{Refusal}
+use Rattle.aos_frame.specs.LinkFields.{bare_in}
+use Rattle.frame_security.specs.declared.opening.FrameRefusal.{FrameRefusal}
 use Rattle.frame_security.specs.Frames.{secured}
 use Rattle.frame_security.specs.Opening.{OpenerState, after, refusal}
 use Rattle.secured_wire.specs.Direction.{Arrival, SealedIn}
@@ -69,7 +69,7 @@ pub record IsAccepted (all : List Numbered) (o : OpenerState) (octets : List ℕ
 
 -- Refused octets change no last number, and neither does a frame that isn't handed on.
 abbrev pub AcceptsBy : (all : List Numbered) → (o : OpenerState) → (octets : List ℕ)
-    → Option Refusal → (handed_on : Bool) → (old new : EndKept) → Type 0
+    → Option FrameRefusal → (handed_on : Bool) → (old new : EndKept) → Type 0
 AcceptsBy all o octets None true old new = IsAccepted all o octets old new
 AcceptsBy all o octets None false old new = new ≡ old
 AcceptsBy all o octets (Some cause) handed_on old new = new ≡ old

@@ -1,8 +1,8 @@
 -- What is handed on over a secured wire, over all lives of its receiving end. A life begins when an
 -- opener is made, and when its keys change.
 use Rattle.std.specs.Prelude.{ℕ, ◌+◌, ◌<◌, ◌≤◌, ◌^◌, ⊤, Bool, true, false, Option, Some, None, List, [], ◌∷◌, ◌++◌, length, Contains}
-use Rattle.frame_fields.specs.Fields.{bare_in}
-use Rattle.frame_security.specs.declared.opening.Refusal.{Refusal}
+use Rattle.aos_frame.specs.LinkFields.{bare_in}
+use Rattle.frame_security.specs.declared.opening.FrameRefusal.{FrameRefusal}
 use Rattle.frame_security.specs.Frames.{number_in}
 use Rattle.frame_security.specs.Lives.{IsAuthenticAt, Sealed, WasSealed}
 use Rattle.frame_security.specs.Opening.{OpenerState, after, refusal}
@@ -21,7 +21,7 @@ pub record Receiving : Type 0 where
   pub came : List Arrival
 
 -- the sequence number of the frame that was handed on last, if `before` is that before these octets
-abbrev pub noted_by : (handed_on : Bool) → Option Refusal → (number before : ℕ) → ℕ
+abbrev pub noted_by : (handed_on : Bool) → Option FrameRefusal → (number before : ℕ) → ℕ
 noted_by true None number before = number
 noted_by true (Some cause) number before = before
 noted_by false fault number before = before

@@ -13,9 +13,9 @@ use Rattle.cfdp_port.specs.Port.{PortState, port_state}
 use Rattle.cfdp_port.specs.Turn.{AsksOn, TellsTime}
 use Rattle.any_order.specs.Calls.{Setup, Side, One, Two, other, setup_of}
 use Rattle.any_order.specs.Kept.{EndKept, LifeKept}
-use Rattle.any_link.specs.Passing.{PartReads, TurnReads, with_sent}
-use Rattle.any_link.specs.Serving.{AreFirst, Deed, DoesDeed, Served, Stations, StartsAnew}
-use Rattle.any_link.specs.Serving.{Starts, Stops, Turns}
+use Rattle.promises.specs.Passing.{PartReads, TurnReads, with_sent}
+use Rattle.promises.specs.Serving.{AreFirst, Deed, DoesDeed, Served, Stations, StartsAnew}
+use Rattle.promises.specs.Serving.{Starts, Stops, Turns}
 use Rattle.secured_wire.specs.Keeping.{KeeperCall}
 use Rattle.secured_wire.specs.Passing.{arrivals, sealed_by_call}
 use Rattle.secured_wire.specs.Secured.{Secures, SecuredState}

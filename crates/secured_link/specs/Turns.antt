@@ -7,7 +7,7 @@ use Rattle.cfdp_port.specs.Calls.{WireCall}
 use Rattle.cfdp_port.specs.Pair.{PairState, Turns}
 use Rattle.cfdp_port.specs.Passing.{frames_left}
 use Rattle.ports_in_order.specs.InOrder.{PassInOrder, Passage}
-use Rattle.frame_fields.specs.Fields.{bare_in}
+use Rattle.aos_frame.specs.LinkFields.{bare_in}
 use Rattle.frame_security.specs.Frames.{secured}
 use Rattle.frame_security.specs.Opening.{OpenerState, after, refusal}
 use Rattle.secured_wire.specs.Direction.{Arrival, NoneForgedOf, SealedIn}

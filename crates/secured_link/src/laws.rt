@@ -3,9 +3,9 @@ ghost use Rattle.std.specs.Prelude.{◌≡◌, ◌⊎◌, ℕ, ◌+◌, ◌<◌,
 ghost use Rattle.std.specs.Prelude.{map, Contains, IfSome, IsTrue, None, Ok, Some, true};
 ghost use Rattle.aos_frame.specs.Counts.{frame_counts};
 ghost use Rattle.aos_frame.specs.declared.config.LinkConfig.{LinkConfig};
-ghost use Rattle.any_link.specs.Passing.{Comes, EndRead, with_sent};
-ghost use Rattle.any_link.specs.Promise.{AreDelivered, KeepPromise};
-ghost use Rattle.any_link.specs.Serving.{Goes, HaveServed, Served, StartsAnew, served_at};
+ghost use Rattle.promises.specs.Passing.{Comes, EndRead, with_sent};
+ghost use Rattle.promises.specs.Promise.{AreDelivered, KeepPromise};
+ghost use Rattle.promises.specs.Serving.{Goes, HaveServed, Served, StartsAnew, served_at};
 ghost use Rattle.any_order.specs.Calls.{AreJoined, Setup, Side};
 ghost use Rattle.any_order.specs.Kept.{EndKept, last_at, with_last};
 ghost use Rattle.cfdp_header.specs.Files.{FileMap};
@@ -40,7 +40,7 @@ ghost use Rattle.secured_wire.specs.Direction.{Arrival, NoneForgedOf};
 ghost use Rattle.secured_wire.specs.Passing.{arrivals};
 ghost use Rattle.secured_wire.specs.Secured.{SecuredState, Secures};
 
-use any_link::{stations_keep_the_promise_in_any_order, what_left_the_spool_lies_in_the_inbox};
+use promises::{stations_keep_the_promise_in_any_order, what_left_the_spool_lies_in_the_inbox};
 use cfdp_port::{PeerWire, Wire};
 use cfdp_service::Spool;
 use ports_in_order::turns_are_of_a_world;
@@ -193,7 +193,7 @@ pub fn what_is_sealed_is_accepted()
 /// that its station completed, in that order. This holds if no octets that arrived were forged and
 /// few frames were lost in a row (`IsAccepted`), if a station that restarts goes on with its
 /// sequence numbers, and if the files to send are as
-/// [`stations_keep_the_promise_in_any_order`](any_link::stations_keep_the_promise_in_any_order)
+/// [`stations_keep_the_promise_in_any_order`](promises::stations_keep_the_promise_in_any_order)
 /// asks. Nothing is asked of what the network does.
 pub fn stations_over_secured_wires_keep_the_promise<W: PeerWire, K: Keeper>()
     ensures { (c : Setup) (files : Side → FileMap) (now : SecuredPair W) → AreJoined c

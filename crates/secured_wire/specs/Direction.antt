@@ -2,8 +2,8 @@
 -- frames are accepted of the octets that arrived.
 use Rattle.std.specs.Prelude.{◌≡◌, ℕ, Bool, true, false, Option, List, [], ◌∷◌, ◌++◌, Contains}
 use Rattle.aos_frame.specs.declared.config.Lane.{Lane}
-use Rattle.frame_fields.specs.Fields.{bare_in}
-use Rattle.frame_security.specs.declared.opening.Refusal.{Refusal}
+use Rattle.aos_frame.specs.LinkFields.{bare_in}
+use Rattle.frame_security.specs.declared.opening.FrameRefusal.{FrameRefusal}
 use Rattle.frame_security.specs.Frames.{frame_in, secured}
 use Rattle.frame_security.specs.Lives.{IsAuthenticAt, Sealed, given_by}
 use Rattle.frame_security.specs.Opening.{OpenerState, after, refusal}
@@ -26,7 +26,7 @@ pub record Arrival : Type 0 where
   pub handed_on : Bool
 
 -- the bare frame, if the octets aren't refused and it is handed on
-abbrev pub frames_by : (handed_on : Bool) → Option Refusal → (bare : List ℕ) → List (List ℕ)
+abbrev pub frames_by : (handed_on : Bool) → Option FrameRefusal → (bare : List ℕ) → List (List ℕ)
 frames_by true fault bare = given_by fault bare
 frames_by false fault bare = []
 

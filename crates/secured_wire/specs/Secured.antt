@@ -1,8 +1,8 @@
 -- A wire that secures what is sent over the wire below it, and verifies what arrives there. Its
 -- keeper notes the numbers of accepted frames, and brings keys.
 use Rattle.std.specs.Prelude.{◌≡◌, ◌⊎◌, ◌+◌, ◌-◌, ◌^◌, ◌<◌, ◌≤◌, ℕ, true, false, List, length, Option, Some, None, Result, Ok, Err}
-use Rattle.frame_fields.specs.Fields.{bare_in}
-use Rattle.frame_security.specs.declared.opening.Refusal.{Refusal}
+use Rattle.aos_frame.specs.LinkFields.{bare_in}
+use Rattle.frame_security.specs.declared.opening.FrameRefusal.{FrameRefusal}
 use Rattle.frame_security.specs.declared.keys.LinkKeys.{LinkKeys}
 use Rattle.frame_security.specs.Frames.{frame_in, number_in}
 use Rattle.frame_security.specs.Keys.{opener_with, sealer_with}
@@ -24,7 +24,7 @@ abbrev pub Came : Type 0
 Came = Result (Option (List ℕ)) WireFault
 
 -- the bare frame, if the octets aren't refused; refused octets are lost
-abbrev pub opened_by : Option Refusal → (bare : List ℕ) → Came
+abbrev pub opened_by : Option FrameRefusal → (bare : List ℕ) → Came
 opened_by None bare = Ok (Some bare)
 opened_by (Some cause) bare = Err (record {})
 
@@ -34,13 +34,13 @@ opened o frame = opened_by (refusal o frame) (frame_in o.security (bare_in o.sec
 module _ (Calls : KeeperCall → Type 0) where
   -- Octets that arrived were verified. If they are refused, the cause was reported to the keeper.
   -- If they aren't, the keeper noted their number, and the caller's buffer has room for the frame.
-  abbrev pub IsHandedOn : (room : ℕ) → Option Refusal → (number : ℕ) → (bare : List ℕ) → Type 0
+  abbrev pub IsHandedOn : (room : ℕ) → Option FrameRefusal → (number : ℕ) → (bare : List ℕ) → Type 0
   IsHandedOn room None number bare = Calls (Keeps number true) × (length bare ≤ room)
   IsHandedOn room (Some cause) number bare = Calls (Refuses cause)
 
   -- An accepted frame is lost only if the keeper can't note its number, or if the buffer has no
   -- room for it.
-  abbrev pub IsNotHandedOn : (room : ℕ) → Option Refusal → (number : ℕ) → (bare : List ℕ) → Type 0
+  abbrev pub IsNotHandedOn : (room : ℕ) → Option FrameRefusal → (number : ℕ) → (bare : List ℕ) → Type 0
   IsNotHandedOn room None number bare =
       Calls (Keeps number false) ⊎ (Calls (Keeps number true) × (room < length bare))
   IsNotHandedOn room (Some cause) number bare = ⊥

@@ -1,7 +1,7 @@
 //! What keeps the numbers of a secured wire, and brings its keys.
 ghost use Rattle.secured_wire.specs.Keeping.{Brings, Keeps, KeeperCall, LosesNone, Refuses};
 
-use frame_security::{LinkKeys, Refusal};
+use frame_security::{LinkKeys, FrameRefusal};
 
 /// What keeps the sequence numbers of a secured wire over restarts, and brings its keys.
 pub trait Keeper: Drop {
@@ -21,7 +21,7 @@ pub trait Keeper: Drop {
         ensures { calls (Brings result) };
 
     /// Notes that octets that arrived were refused for this cause.
-    fn refuses(&mut self, cause: Refusal)
+    fn refuses(&mut self, cause: FrameRefusal)
         ensures { calls (Refuses cause) };
 }
 
@@ -47,5 +47,5 @@ impl Keeper for NoKeeper {
         None
     }
 
-    fn refuses(&mut self, _cause: Refusal) {}
+    fn refuses(&mut self, _cause: FrameRefusal) {}
 }

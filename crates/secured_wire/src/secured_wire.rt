@@ -9,7 +9,7 @@ ghost use Rattle.secured_wire.specs.Secured.{AsksBehind, Opens, Secures};
 use crate::keeper::Keeper;
 use cfd_bits::put_bytes;
 use cfdp_port::{PeerWire, Wire, WireFault};
-use frame_fields::HEADER_LEN;
+use aos_frame::HEADER_LEN;
 use frame_security::{Opener, Refused, Sealer};
 use std::alloc::{AllocError, Global};
 use std::marker::Model;

@@ -19,7 +19,7 @@ use cfdp_entity::Record;
 use cfdp_header::TransactionId;
 use cfdp_receiver::{Ending, FileInfo, Receiver, ReceiverPhase};
 use cfdp_sender::{Sender, SenderPhase, Transfer};
-use journal_records::{JournalRecord, Ranges};
+use journal_records::{JournalRecord, RangeList};
 use std::alloc::{AllocError, Global};
 
 /// Appends the facts of a transaction that the journal lacks, and returns what it has then.
@@ -191,7 +191,7 @@ fn receiver_facts(
         ≡ out.old.items ++ receiver_facts id receiver.now noted) }
     ensures noted { IfOk result (λ now. now ≡ receiver_noted receiver.now noted) }
 {
-    let flagged = JournalRecord::Held(id, true, Ranges::from_vec(Vec::new(alloc)));
+    let flagged = JournalRecord::Held(id, true, RangeList::from_vec(Vec::new(alloc)));
     let large = new_fact(receiver.is_large(), noted.is_large, flagged);
     push_some(out, large)?;
     let metadata = metadata_fact(alloc, id, receiver.metadata(), noted.has_metadata)?;
@@ -374,7 +374,7 @@ fn note_held(
             if !ranges.is_empty() {
                 let is_large = receiver.is_large();
                 noted.is_large = is_large;
-                let ranges = Ranges::from_vec(ranges);
+                let ranges = RangeList::from_vec(ranges);
                 out.push(JournalRecord::Held(id, is_large, ranges))?;
             }
             Ok(())

@@ -11,11 +11,11 @@ use crate::place::{JournalError, JournalPlace};
 use crate::ranges::lacks_some;
 use cfdp_directives::{Indication, Octets, Outcome};
 use cfdp_entity::Record;
-use cfdp_forgotten::Numbers;
+use cfdp_extents::Numbers;
 use cfdp_header::TransactionId;
 use cfdp_station::Station;
 use cfdp_store::{Inbox, Outbox};
-use journal_records::{JournalRecord, Owner, Ranges};
+use journal_records::{JournalRecord, Owner, RangeList};
 use std::alloc::{AllocError, Global};
 use std::cell::{Cell, RefCell};
 use std::collections::BTreeMap;
@@ -469,7 +469,7 @@ fn note_gone<O: Outbox, I: Inbox>(
         if let Some(Noted::Gone) = noted.remove(&id) {
             let mut range = Vec::new(alloc);
             range.push((id.number, id.number.saturating_add(1)))?;
-            out.push(JournalRecord::Forgotten(id.source, Ranges::from_vec(range)))?;
+            out.push(JournalRecord::Forgotten(id.source, RangeList::from_vec(range)))?;
         } else {
             let _ = noted.insert(id, Noted::Gone)?;
         }
@@ -499,7 +499,7 @@ fn note_forgotten<O: Outbox, I: Inbox>(
     station: &Station<O, I>,
 ) -> Result<(), AllocError> {
     for (source, numbers) in station.forgotten() {
-        let ranges = Ranges::from_vec(ranges_of(alloc, numbers)?);
+        let ranges = RangeList::from_vec(ranges_of(alloc, numbers)?);
         out.push(JournalRecord::Forgotten(*source, ranges))?;
     }
     Ok(())

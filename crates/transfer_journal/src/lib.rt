@@ -39,5 +39,5 @@ pub use kept::{KeptEnd, KeptReceiver, KeptSender, KeptTransfer, PendingEnd, Publ
 pub use place::{JournalError, JournalPlace};
 pub use publishing::{Republisher, publish_again};
 pub use reading::{SurveyError, read_survey};
-pub use restoring::{Restorable, Restored, Resumed, restore};
+pub use restoring::{Restorable, Restored, ResumedTransaction, restore};
 pub use survey::{ForgottenRange, Survey};

@@ -57,7 +57,7 @@ pub fn read_survey<P: JournalPlace>(
 fn survey_of(alloc: Global, octets: &[u8], addressing: Addressing) -> Result<Survey, ReadError> {
     let journal = read_journal(alloc, octets)?;
     if journal.end < octets.len() && has_batch_behind(&octets[journal.end..]) {
-        return Err(ReadError::Fault(journal_records::Fault::Trailing));
+        return Err(ReadError::Fault(journal_records::BatchFault::Trailing));
     }
     Ok(Survey::of(alloc, addressing, journal.records)?)
 }

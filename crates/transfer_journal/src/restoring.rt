@@ -74,7 +74,7 @@ impl<O: SeekingOutbox, I: ResumingInbox> Restorable for Station<O, I> {
 
 /// A transaction that goes on.
 #[derive(Debug, Drop)]
-pub struct Resumed {
+pub struct ResumedTransaction {
     /// Which it is.
     pub id: TransactionId,
     /// The file's name: in the outbox, or in the inbox; empty if it isn't known.
@@ -97,7 +97,7 @@ pub struct Resumed {
 pub struct Restored {
     alloc: Global,
     /// Those that go on.
-    pub resumed: Vec<Resumed>,
+    pub resumed: Vec<ResumedTransaction>,
     /// Those that don't, and why.
     pub lost: Vec<(TransactionId, RestoreError)>,
     /// What the user may not have heard.
@@ -174,10 +174,10 @@ impl Restored {
         station: &mut R,
         sender: KeptSender,
         is_pending: bool,
-    ) -> Result<(Resumed, Result<(), RestoreError>), AllocError> {
+    ) -> Result<(ResumedTransaction, Result<(), RestoreError>), AllocError> {
         let transfer = &sender.transfer;
         let sent = sender.sent.min(transfer.size);
-        let resumed = Resumed {
+        let resumed = ResumedTransaction {
             id: transfer.addressing.id,
             name: Vec::from_slice(self.alloc, transfer.source.as_slice())?,
             destination: Vec::from_slice(self.alloc, transfer.destination.as_slice())?,
@@ -206,9 +206,9 @@ impl Restored {
         &self,
         station: &mut R,
         receiver: KeptReceiver,
-    ) -> Result<(Resumed, Result<(), RestoreError>), AllocError> {
+    ) -> Result<(ResumedTransaction, Result<(), RestoreError>), AllocError> {
         let (committed, held) = receiver.committed();
-        let mut resumed = Resumed {
+        let mut resumed = ResumedTransaction {
             id: committed.addressing.id,
             name: Vec::new(self.alloc),
             destination: Vec::new(self.alloc),

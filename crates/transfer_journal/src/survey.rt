@@ -18,7 +18,7 @@ use cfdp_directives::Addressing;
 use cfdp_header::TransactionId;
 use cfdp_receiver::ReceiverPhase;
 use indexmap::IndexSet;
-use journal_records::{JournalRecord, Owner, Ranges};
+use journal_records::{JournalRecord, Owner, RangeList};
 use std::alloc::{AllocError, Global};
 use std::collections::BTreeSet;
 
@@ -305,7 +305,7 @@ fn id_of(record: &JournalRecord) -> Option<TransactionId>
 }
 
 // Returns the source and the numbers of the transactions that a record says are forgotten.
-fn forgotten_by(record: &JournalRecord) -> Option<(u64, &Ranges)>
+fn forgotten_by(record: &JournalRecord) -> Option<(u64, &RangeList)>
     ensures { option_map (λ those. (those.0, those.1.now)) result ≡ forgotten_by «record».now }
 {
     match record {

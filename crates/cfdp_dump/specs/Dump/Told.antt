@@ -4,10 +4,10 @@ use Rattle.std.specs.Int.{is_in_range}
 use Rattle.std.specs.List.{flat_map}
 use Rattle.captures.specs.Texts.{fault_text, passed_text}
 use Rattle.space_packet.specs.Packet.{apid_field, count_field, flags_field, secondary_field}
-use Rattle.vc_packets.specs.Carrying.{CarriedText}
+use Rattle.cfdp_dump.specs.Carrying.{CarriedText}
 use Rattle.cfdp_dump.specs.Spelled.Refusal.{has_details, refusal_text}
 use Rattle.cfdp_dump.specs.Spelled.Told.{TellsAsFrame, TellsAsPdu, end_of}
-use Rattle.cfdp_dump.specs.declared.spelled.refusal.Refusal.TheVariants.{Hex}
+use Rattle.cfdp_dump.specs.declared.spelled.refusal.LineRefusal.TheVariants.{Hex}
 use Rattle.cfdp_dump.specs.declared.dump.DumpRequest.{DumpRequest}
 use Rattle.cfdp_dump.specs.declared.dump.remark.Remark.{Remark}
 use Rattle.cfdp_dump.specs.declared.dump.remark.Remark.TheVariants.{Missing, OnlyIdle, CutOff, BadHeaders, Unfollowed, Packet, PassedBy, BadCapture}

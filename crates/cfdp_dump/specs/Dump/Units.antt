@@ -5,9 +5,9 @@ use Rattle.aos_frame.specs.declared.error.FrameError.{FrameError}
 use Rattle.aos_frame.specs.declared.header.FrameHeader.{FrameHeader}
 use Rattle.captures.specs.Packets.{Captured, Faulty, ItemText, PassedOver}
 use Rattle.captures.specs.Units.{unit_fault, unit_in}
-use Rattle.frame_fields.specs.Fields.{mpdu_in}
-use Rattle.vc_packets.specs.Carrying.{CarriedText, FrameCarries, IsUnfollowed}
-use Rattle.vc_packets.specs.declared.channel.Channel.{Channel}
+use Rattle.aos_frame.specs.LinkFields.{mpdu_in}
+use Rattle.cfdp_dump.specs.Carrying.{CarriedText, FrameCarries, IsUnfollowed}
+use Rattle.cfdp_dump.specs.declared.channel.Channel.{Channel}
 use Rattle.cfdp_dump.specs.Spelled.Lines.{WritesLines}
 use Rattle.cfdp_dump.specs.Spelled.Shape.{channel_in}
 use Rattle.cfdp_dump.specs.Dump.Told.{AsFrame, AsPdu, Says, TellsTold, Told, carried_told}

@@ -6,25 +6,25 @@ use Rattle.aos_frame.specs.declared.error.FrameError.{FrameError}
 use Rattle.aos_frame.specs.declared.error.FrameError.TheVariants.{Length}
 use Rattle.cfdp_dump.specs.declared.spelled.form.DumpForm.{DumpForm}
 use Rattle.cfdp_dump.specs.declared.spelled.form.DumpForm.TheVariants.{Short, Long, Fields}
-use Rattle.cfdp_dump.specs.declared.spelled.refusal.Refusal.{Refusal}
+use Rattle.cfdp_dump.specs.declared.spelled.refusal.LineRefusal.{LineRefusal}
 use Rattle.cfdp_dump.specs.declared.spelled.shape.FrameShape.{FrameShape}
 use Rattle.cfdp_dump.specs.Spelled.Shape.{frame_len}
-use Rattle.cfdp_dump.specs.declared.spelled.refusal.Refusal.TheVariants.{Hex, Pdu, Frame}
+use Rattle.cfdp_dump.specs.declared.spelled.refusal.LineRefusal.TheVariants.{Hex, Pdu, Frame}
 
 -- the number of a refusal
-abbrev pub refusal_number : Refusal → ℕ
+abbrev pub refusal_number : LineRefusal → ℕ
 refusal_number Hex = 0
 refusal_number (Pdu e) = pdu_refusal_number e
 refusal_number (Frame e) = frames.refusal_number e
 
 -- its name
-abbrev pub refusal_name : Refusal → List ℕ
+abbrev pub refusal_name : LineRefusal → List ℕ
 refusal_name Hex = codes "Hex"
 refusal_name (Pdu e) = pdu_refusal_name e
 refusal_name (Frame e) = frames.refusal_name e
 
 -- the line that shows it
-abbrev pub refusal_text : Refusal → List ℕ
+abbrev pub refusal_text : LineRefusal → List ℕ
 refusal_text refusal = codes "error " ++ decimal (refusal_number refusal) ++ codes " "
     ++ refusal_name refusal
 

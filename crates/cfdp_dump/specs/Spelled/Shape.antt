@@ -1,7 +1,7 @@
 -- What the frames of a link are made of, and the places of their fields (CCSDS 732.0-B-4, 4.1).
 use Rattle.std.specs.Prelude.{ℕ, ◌+◌, ◌-◌, ◌≤◌, List, drop, length, take}
-use Rattle.frame_fields.specs.Fields.{behind_insert, control_len, extra, mpdu_len}
-use Rattle.frame_fields.specs.declared.config.FrameFields.{FrameFields}
+use Rattle.aos_frame.specs.LinkFields.{behind_insert, control_len, extra, mpdu_len}
+use Rattle.aos_frame.specs.declared.fields.FrameFields.{FrameFields}
 use Rattle.aos_frame.specs.Frame.{own_channel}
 use Rattle.aos_frame.specs.declared.config.ChannelConfig.{ChannelConfig}
 use Rattle.aos_frame.specs.declared.config.LinkConfig.{LinkConfig}

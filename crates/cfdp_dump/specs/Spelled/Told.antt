@@ -8,12 +8,12 @@ use Rattle.cfdp_directives.specs.Pdu.Content.{view}
 use Rattle.cfdp_directives.specs.Pdu.Grammar.{SpellsPdu}
 use Rattle.aos_frame.specs.declared.header.FrameHeader.{FrameHeader}
 use Rattle.aos_frame.specs.declared.error.FrameError.{FrameError}
-use Rattle.frame_fields.specs.Fields.{insert_in, mpdu_in}
+use Rattle.aos_frame.specs.LinkFields.{insert_in, mpdu_in}
 use Rattle.aos_frame.specs.Frame.{SpellsFrame, frame_fault}
 use Rattle.mpdu.specs.MpduHeader.{pointer_of}
 use Rattle.cfdp_dump.specs.declared.spelled.form.DumpForm.{DumpForm}
 use Rattle.cfdp_dump.specs.declared.spelled.form.DumpForm.TheVariants.{Short, Long, Fields}
-use Rattle.cfdp_dump.specs.declared.spelled.refusal.Refusal.TheVariants.{Pdu}
+use Rattle.cfdp_dump.specs.declared.spelled.refusal.LineRefusal.TheVariants.{Pdu}
 use Rattle.cfdp_dump.specs.Spelled.Fields.{frame_fields, pdu_fields}
 use Rattle.cfdp_dump.specs.declared.spelled.shape.FrameShape.{FrameShape}
 use Rattle.cfdp_dump.specs.Spelled.Lines.{cycle_word, frame_text, lane_word, long_text, part_text, parts_text, pdu_text}

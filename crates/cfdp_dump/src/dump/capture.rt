@@ -8,11 +8,11 @@ ghost use Rattle.cfdp_dump.specs.Dump.Units.{TellsItem, WritesUnit};
 use crate::dump::DumpRequest;
 use crate::dump::remark::Remark;
 use crate::dump::unit::{write_remark, write_unit};
-use captures::{Capture, Item, Packet, unit_of};
+use captures::{Capture, Item, CapturedPacket, unit_of};
 use std::alloc::Global;
 use std::io;
 use std::io::Write;
-use vc_packets::Channels;
+use crate::channels::Channels;
 
 /// Writes what the packets of a capture carry, in order, and what can't be read of it.
 ///

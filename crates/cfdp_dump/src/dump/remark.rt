@@ -2,7 +2,7 @@
 ghost use Rattle.std.specs.Prelude.{Some};
 ghost use Rattle.cfdp_dump.specs.Dump.Told.{remark_text};
 
-use captures::{CaptureFault, Passed};
+use captures::{CaptureFault, SkipCause};
 use std::fmt;
 
 /// What a dump says of a frame, of a packet in it, or of a capture.
@@ -21,7 +21,7 @@ pub(crate) enum Remark {
     /// A packet ends in a frame: its APID, its sequence count, and its octets.
     Packet(u64, u64, usize),
     /// Nothing is read in a captured packet.
-    PassedBy(Passed),
+    PassedBy(SkipCause),
     /// A capture can't be read from this octet on.
     BadCapture(CaptureFault, usize),
 }

@@ -4,13 +4,13 @@ ghost use Rattle.std.specs.List.{flat_map};
 ghost use Rattle.std.specs.Option.{option_map};
 ghost use Rattle.std.specs.Result.{result_err};
 ghost use Rattle.aos_frame.specs.Frame.{SpellsFrame, frame_fault};
-ghost use Rattle.frame_fields.specs.Fields.{mpdu_in};
+ghost use Rattle.aos_frame.specs.LinkFields.{mpdu_in};
 ghost use Rattle.cfdp_dump.specs.Spelled.Lines.{WritesLines};
 ghost use Rattle.cfdp_dump.specs.Spelled.Shape.{IsShape, channel_in};
 ghost use Rattle.cfdp_dump.specs.Dump.Told as told;
 ghost use Rattle.cfdp_dump.specs.Dump.Told.{Says, TellsTold, carried_told, packet_told, said};
 ghost use Rattle.cfdp_dump.specs.Dump.Units.{TellsDeep, TellsUnit, WritesUnit};
-ghost use Rattle.vc_packets.specs.Carrying.{carried_text};
+ghost use Rattle.cfdp_dump.specs.Carrying.{carried_text};
 
 use crate::dump::remark::Remark;
 use crate::dump::{DumpKind, DumpRequest};
@@ -22,7 +22,8 @@ use octet_strings::OctetStrings;
 use space_packet::header;
 use std::io;
 use std::io::Write;
-use vc_packets::{Carried, Channels};
+use crate::channel::Carried;
+use crate::channels::Channels;
 
 /// Writes what a unit spells, and in a deep dump what a frame carries.
 ///

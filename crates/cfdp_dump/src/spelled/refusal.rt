@@ -10,7 +10,7 @@ use std::fmt;
 
 /// Why a line of a dump is no PDU, or no frame.
 #[derive(Clone, Copy)]
-pub enum Refusal {
+pub enum LineRefusal {
     /// It isn't pairs of hexadecimal digits.
     Hex,
     /// Its octets are no PDU.
@@ -19,7 +19,7 @@ pub enum Refusal {
     Frame(FrameError),
 }
 
-impl fmt::Display for Refusal {
+impl fmt::Display for LineRefusal {
     ghost output = { λ refusal. Some (refusal_text refusal) };
 
     fn fmt<W: fmt::Write>(&self, f: &mut fmt::Formatter<W>) -> fmt::Result {
@@ -27,14 +27,14 @@ impl fmt::Display for Refusal {
     }
 }
 
-impl Refusal {
+impl LineRefusal {
     fn number(self) -> u8
         ensures { result ≡ Rattle.cfdp_dump.specs.Spelled.Refusal.refusal_number self }
     {
         match self {
-            Refusal::Hex => 0,
-            Refusal::Pdu(error) => error.number(),
-            Refusal::Frame(error) => error.number(),
+            LineRefusal::Hex => 0,
+            LineRefusal::Pdu(error) => error.number(),
+            LineRefusal::Frame(error) => error.number(),
         }
     }
 
@@ -42,9 +42,9 @@ impl Refusal {
         ensures { result.now ≡ Rattle.cfdp_dump.specs.Spelled.Refusal.refusal_name self }
     {
         match self {
-            Refusal::Hex => "Hex",
-            Refusal::Pdu(error) => error.name(),
-            Refusal::Frame(error) => error.name(),
+            LineRefusal::Hex => "Hex",
+            LineRefusal::Pdu(error) => error.name(),
+            LineRefusal::Frame(error) => error.name(),
         }
     }
 }
@@ -70,7 +70,7 @@ impl fmt::Display for FrameRefusal {
     ghost output = { λ it. Some (frame_fault_text it.form it.error it.shape it.count) };
 
     fn fmt<W: fmt::Write>(&self, f: &mut fmt::Formatter<W>) -> fmt::Result {
-        let refusal = Refusal::Frame(self.error);
+        let refusal = LineRefusal::Frame(self.error);
         if is_length(self.error) && self.form.has_details() {
             let (count, whole) = (self.count, self.shape.frame_len());
             write!(f, "{refusal} {count} octets, not {whole}")

@@ -6,7 +6,7 @@ use cfdp_command_line::LoopRequest;
 use cfdp_files::Reservation;
 use cfdp_port::Wire;
 use cfdp_station::StationConfig;
-use frame_fields::FrameFields;
+use aos_frame::FrameFields;
 use frame_security::{LinkKeys, Security};
 use secured_wire::{NoKeeper, SecuredWire};
 use station_pair::WorldConfig;

@@ -10,8 +10,8 @@ use cfdp_datagrams::{
     Carrier, CarrierWire, DatagramWire, SharedNumbers, StationKeeper, UdpTransport, frame_len,
 };
 use cfdp_exchange::Exchange;
-use cfdp_journal::{
-    Board, BoardSetup, Form, Journal, JournalSetup, KeptLog, Log, LossyLog, PduWatch, SeenPdus,
+use cfdp_log::{
+    Board, BoardSetup, Form, StationLog, LogSetup, KeptLog, Log, LossyLog, PduWatch, SeenPdus,
     Style,
 };
 use cfdp_operator::{
@@ -28,7 +28,7 @@ use cfdp_station::{Limits, StationConfig};
 use cfdp_store::{ResumingInbox, SeekingOutbox};
 use cfdp_watch::{Onlooker, Progress, Ran, Screen, Shown};
 use frame_security::{Opener, Sealer};
-use host_journal::TransferJournal;
+use host_journal::HostJournal;
 use secured_wire::SecuredWire;
 use station_pair::WorldConfig;
 use std::alloc::AllocError;
@@ -81,7 +81,7 @@ struct Served<'a, O: SeekingOutbox, I: ResumingInbox, S: Spool> {
 /// The journal of a station, and what it said before the start.
 #[derive(Clone, Copy)]
 pub struct Transfers<'a> {
-    pub journal: &'a TransferJournal<'a>,
+    pub journal: &'a HostJournal<'a>,
     pub found: &'a Found,
 }
 
@@ -354,12 +354,12 @@ fn operated<'a, O: SeekingOutbox, I: ResumingInbox, W: PeerWire, S: Spool, L: Lo
 fn begun_journal<'a>(
     context: Context<'a>,
     has_console: bool,
-) -> Result<Journal<'a, KeptLog<LossyLog<'a>>>, AllocError> {
+) -> Result<StationLog<'a, KeptLog<LossyLog<'a>>>, AllocError> {
     let rt = context.rt;
     let setup = journal_setup(context);
     let out = LossyLog::new(setup.log)?;
     let lines = has_console.then(|| LogLines::new(rt.alloc()));
-    Journal::new(setup, KeptLog::new(out, lines))
+    StationLog::new(setup, KeptLog::new(out, lines))
 }
 
 /// Returns what the operator of a station has before the first command.
@@ -367,7 +367,7 @@ fn operator_post<'a>(
     context: Context<'a>,
     own: &StationConfig,
     sources: LineSources<'a>,
-    journal: Journal<'a, KeptLog<LossyLog<'a>>>,
+    journal: StationLog<'a, KeptLog<LossyLog<'a>>>,
 ) -> OperatorPost<'a> {
     let request = context.request;
     let policy = own.entity.policy;
@@ -447,7 +447,7 @@ fn finished<S: Spool>(clerk: Clerk<S, OperatorConsole<'_>>, exit: Exit) -> Exit 
 }
 
 /// How the log is written.
-fn journal_setup(context: Context<'_>) -> JournalSetup<'_> {
+fn journal_setup(context: Context<'_>) -> LogSetup<'_> {
     let Context {
         rt,
         request,
@@ -461,7 +461,7 @@ fn journal_setup(context: Context<'_>) -> JournalSetup<'_> {
         (false, false) => Style::Text,
     };
     let own = request.numbers.id;
-    JournalSetup {
+    LogSetup {
         log: Log { rt, own, style },
         outbox: outbox_of(request),
         exchange,

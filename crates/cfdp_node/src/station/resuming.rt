@@ -15,7 +15,7 @@ use cfdp_service::{
 };
 use cfdp_station::RestoreError;
 use cfdp_store::{ResumingInbox, SeekingOutbox};
-use host_journal::{PublishRules, TransferJournal, publish_again, read_survey};
+use host_journal::{PublishRules, HostJournal, publish_again, read_survey};
 use station_pair::WorldConfig;
 use std::alloc::{AllocError, Global};
 use std::borrow::CowStr;
@@ -24,7 +24,7 @@ use std::collections::BTreeSet;
 use std::os::unix::fs::MetadataExt;
 use std::{fmt, fs};
 use transfer_journal::{
-    JournalError, KeptEnd, Owner, Restored, Resumed, Survey, SurveyError, restore,
+    JournalError, KeptEnd, Owner, Restored, ResumedTransaction, Survey, SurveyError, restore,
 };
 use valid_config::Valid;
 
@@ -357,7 +357,7 @@ pub fn run_resumed<O, I, W, S, C, L>(
     teller: Teller<'_>,
     options: ServiceOptions,
     ends: ServiceEnds<O, I, W>,
-    journal: (&TransferJournal<'_>, Option<Survey>),
+    journal: (&HostJournal<'_>, Option<Survey>),
     clerk: &mut Clerk<S, C>,
     lookout: &mut L,
 ) -> Result<Ended, AllocError>
@@ -408,8 +408,8 @@ fn take_back<S: Spool, C: Console>(clerk: &mut Clerk<S, C>, restored: Restored) 
 }
 
 /// Gives a clerk back a put that goes on, or whose end it may not have heard.
-fn take_back_one<S: Spool, C: Console>(clerk: &mut Clerk<S, C>, one: Resumed) {
-    let Resumed {
+fn take_back_one<S: Spool, C: Console>(clerk: &mut Clerk<S, C>, one: ResumedTransaction) {
+    let ResumedTransaction {
         id,
         name,
         destination,
@@ -467,7 +467,7 @@ impl fmt::Display for Share {
     }
 }
 
-fn tell_resumed(rt: &HostRuntime, teller: Teller<'_>, one: &Resumed) {
+fn tell_resumed(rt: &HostRuntime, teller: Teller<'_>, one: &ResumedTransaction) {
     let TransactionId { source, number } = one.id;
     let name = Name(one.name.as_slice());
     let share = Share {

@@ -1,14 +1,14 @@
 //! What the words after `--set` set.
 ghost use Rattle.std.specs.Prelude.{◌≡◌, ◌+◌, false, true, Some, IfSome, unwrap_or};
-ghost use Rattle.frame_fields.specs.Fields.{no_fields};
+ghost use Rattle.aos_frame.specs.LinkFields.{no_fields};
 
 use crate::transfers::secured_links::{SECURITY_HEADER, bare_link};
 use cfdp_command_line::CarrierKind;
-use cfdp_config::OPTIONS;
+use cfdp_settings_file::OPTIONS;
 use cfdp_datagrams::{Carrier, PacketForm};
 use cfdp_report::{Keys, Nearest, Setting, Settings, consider_keys, parse_setting};
 use cfdp_station::{LinkConfig, StationConfig};
-use frame_fields::FrameFields;
+use aos_frame::FrameFields;
 use frame_security::Security;
 use space_packet::PacketType;
 use station_pair::WorldConfig;

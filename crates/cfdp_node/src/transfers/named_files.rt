@@ -2,7 +2,7 @@
 use crate::failure::FileError;
 use cfdp_report::{Exit, Input, Name};
 use cfdp_store::{FolderError, FolderOutbox, NameRule, SeekingOutbox};
-use past::Past;
+use ghost_list::GhostList;
 use std::alloc::AllocError;
 use std::cell::Cell;
 use std::fs;
@@ -47,7 +47,7 @@ pub fn folder_outbox<'a>(
     names: NameRule,
 ) -> Result<FolderOutbox<&'a HostRuntime>, AllocError> {
     // What is expected of files is for clauses alone, and none speaks of what a disk has.
-    let expected = Snapshot::of(&Past::new());
+    let expected = Snapshot::of(&GhostList::new());
     FolderOutbox::with_names(rt, rt.alloc(), path, names, expected)
 }
 

@@ -1,11 +1,11 @@
 //! Frames of links that are secured: those that a station makes, and their keys.
 ghost use Rattle.std.specs.Prelude.{◌≡◌, ◌+◌, IfSome};
-ghost use Rattle.frame_fields.specs.Fields.{no_fields};
+ghost use Rattle.aos_frame.specs.LinkFields.{no_fields};
 
 use crate::failure::FileError;
 use cfdp_files::read_keys;
 use cfdp_station::LinkConfig;
-use frame_fields::FrameFields;
+use aos_frame::FrameFields;
 use frame_security::LinkKeys;
 
 /// The octets of a frame that its security header has.

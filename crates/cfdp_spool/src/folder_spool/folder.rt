@@ -9,7 +9,7 @@ use crate::folder_spool::place::{Place, Way};
 use crate::folder_spool::stamp::FileStamp;
 use cfdp_files::{LockError, LockedFile};
 use cfdp_store::NameRule;
-use past::Past;
+use ghost_list::GhostList;
 use std::fs::{File, ReadDir};
 use std::io::ErrorKind;
 use std::marker::Model;
@@ -28,8 +28,8 @@ pub struct SpoolFolder<'a> {
     names: NameRule,
     /// Whether files that were sent are removed.
     removes_sent: bool,
-    told: Past<Told>,
-    done: Past<Done>,
+    told: GhostList<Told>,
+    done: GhostList<Done>,
     _held: LockedFile,
 }
 
@@ -131,7 +131,7 @@ impl<'a> SpoolFolder<'a> {
         ensures err { OnErr result (self.new ≡ self.old) }
     {
         let found = self.look(name, place)?;
-        self.notes(Done::Saw(Past::of(name), place, found));
+        self.notes(Done::Saw(GhostList::of(name), place, found));
         Ok(found)
     }
 
@@ -145,7 +145,7 @@ impl<'a> SpoolFolder<'a> {
         let path = self.file(name, Place::Spool)?;
         let is_free = fs::symlink_metadata(self.rt, path.as_str()).is_err();
         if is_free {
-            self.notes(Done::Free(Past::of(name)));
+            self.notes(Done::Free(GhostList::of(name)));
         }
         Ok(is_free)
     }
@@ -158,7 +158,7 @@ impl<'a> SpoolFolder<'a> {
     {
         let (old, new) = (self.file(name, from)?, self.file(name, to)?);
         fs::rename(self.rt, old.as_str(), new.as_str())?;
-        self.notes(Done::Moved(Past::of(name), from, to));
+        self.notes(Done::Moved(GhostList::of(name), from, to));
         Ok(())
     }
 
@@ -169,7 +169,7 @@ impl<'a> SpoolFolder<'a> {
         ensures err { OnErr result (self.new ≡ self.old) }
     {
         fs::remove_file(self.rt, self.file(name, Place::Leaving)?.as_str())?;
-        self.notes(Done::Removed(Past::of(name)));
+        self.notes(Done::Removed(GhostList::of(name)));
         Ok(())
     }
 
@@ -190,7 +190,7 @@ impl<'a> SpoolFolder<'a> {
             Err(error) if error.kind() != ErrorKind::AlreadyExists => return Err(error),
             _ => {}
         }
-        self.notes(Done::Stands(Past::of(name)));
+        self.notes(Done::Stands(GhostList::of(name)));
         Ok(true)
     }
 
@@ -210,7 +210,7 @@ impl<'a> SpoolFolder<'a> {
               ++ (record { name = name.now; way = way; stamp = stamp }) ∷ [];
         } }
     {
-        let name = Past::of(name);
+        let name = GhostList::of(name);
         let told = Told { name, way, stamp };
         self.told.put(&told);
         drop(told);
@@ -237,7 +237,7 @@ impl<'a> SpoolFolder<'a> {
     {
         let answer = self.try_to_leave(name, stamp, way);
         if answer.is_err() {
-            self.notes(Done::Refused(Past::of(name)));
+            self.notes(Done::Refused(GhostList::of(name)));
         }
         answer
     }
@@ -349,8 +349,8 @@ impl<'a> SpoolFolder<'a> {
             path: String::from_str(rt.alloc(), path).map_err(io::Error::from)?,
             names,
             removes_sent,
-            told: Past::new(),
-            done: Past::new(),
+            told: GhostList::new(),
+            done: GhostList::new(),
             _held: held,
         };
         folder.give_all_back()?;

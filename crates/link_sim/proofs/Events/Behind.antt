@@ -13,7 +13,7 @@ use Rattle.aos_frame.specs.declared.config.ChannelConfig.{ChannelConfig}
 use Rattle.aos_frame.specs.declared.config.Lane.{Lane}
 use Rattle.aos_frame.specs.declared.config.Lane.TheVariants.{Directives, Data}
 use Rattle.aos_frame.proofs.Spelling.{length-header_octets}
-use Rattle.frame_fields.proofs.RoundTrip.{opens_sealed}
+use Rattle.aos_frame.proofs.RoundTrip.{opens_sealed}
 use Rattle.mpdu.specs.MpduHeader.{pointer_octets}
 use Rattle.mpdu.specs.Stream.{IsPacket, is_idle, stream, zone, first_header_pointer}
 use Rattle.mpdu.specs.Packets.{busy, packets_of}

@@ -10,7 +10,7 @@ use Rattle.cfdp_header.specs.declared.value.Header.{Header}
 use Rattle.cfdp_header.specs.Header.{direction_bit}
 use Rattle.cfdp_header.specs.declared.value.TransactionId.{TransactionId}
 use Rattle.cfdp_header.specs.Ids.{id_cmp}
-use Rattle.cfdp_forgotten.specs.Forgotten.{IdSet}
+use Rattle.cfdp_extents.specs.Forgotten.{IdSet}
 use Rattle.cfdp_directives.specs.declared.pdu.codes.Acknowledged.TheVariants as acknowledged
 use Rattle.cfdp_directives.specs.Pdu.Addressing.{addressing_of as addressing_in}
 use Rattle.cfdp_directives.specs.Pdu.Content.{Content, FileData, Metadata, Eof, Finished, Ack, Nak, Prompt, KeepAlive}

@@ -12,7 +12,7 @@ use Rattle.aos_frame.specs.declared.config.Lane.{Lane}
 use Rattle.aos_frame.specs.declared.config.Lane.TheVariants.{Directives, Data}
 use Rattle.aos_frame.specs.declared.config.ChannelConfig.{ChannelConfig}
 use Rattle.aos_frame.proofs.Spelling.{length-header_octets, length-sealed}
-use Rattle.frame_fields.proofs.RoundTrip.{opens_sealed}
+use Rattle.aos_frame.proofs.RoundTrip.{opens_sealed}
 use Rattle.mpdu.specs.MpduHeader.{pointer_octets}
 use Rattle.mpdu.specs.Stream.{stream, zone, first_header_pointer}
 use Rattle.link_stack.specs.Downward.{DownState, LinkSenderState, frame_lane, has_whole, lane_down, sealed_frame}

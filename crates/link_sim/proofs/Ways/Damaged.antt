@@ -3,7 +3,7 @@ use Rattle.std.proofs.Common.{◌≡◌, ℕ, Bool, true, false, ◌==◌, ◌&&
 use Rattle.std.proofs.lemmas.List.{get_or-set_other}
 use Rattle.cfd_bits.specs.Counting.{raised}
 use Rattle.cfd_bits.specs.Field.{field}
-use Rattle.frame_fields.specs.Fields.{is_intact}
+use Rattle.aos_frame.specs.LinkFields.{is_intact}
 use Rattle.aos_frame.specs.Frame.{frame_fault, frame_len, idle_channel, lane_channel}
 use Rattle.aos_frame.specs.declared.config.ChannelConfig.{ChannelConfig}
 use Rattle.aos_frame.specs.declared.config.Lane.{Lane}

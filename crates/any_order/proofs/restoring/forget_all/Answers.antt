@@ -1,6 +1,6 @@
 use Rattle.std.proofs.Common.{◌≡◌, ℕ, true, List, ◌∷◌, refl, ap, subst, ◌∙◌}
 use Rattle.cfdp_header.specs.declared.value.TransactionId.{TransactionId}
-use Rattle.cfdp_forgotten.specs.Forgotten.{NumberSet, ids_of}
+use Rattle.cfdp_extents.specs.Forgotten.{NumberSet, ids_of}
 use Rattle.cfdp_entity.specs.Entity.{EntityState, is_forgotten}
 use Rattle.any_order.proofs.Forgetting.{AreStill, IsNumber, WereForgotten, forgets-none, only-both, still-all, still-less, still-none, were-all, were-first, were-rest}
 use Rattle.any_order.proofs.restoring.forget_all.Goals as goal

@@ -1,7 +1,7 @@
 use Rattle.std.proofs.Common.{sym, inr, refl}
 use Rattle.cfdp_dump.specs.Spelled.Told.{TellsAsPdu, end_of}
 use Rattle.cfdp_dump.specs.Spelled.Refusal.{refusal_text}
-use Rattle.cfdp_dump.specs.declared.spelled.refusal.Refusal.TheVariants.{Pdu}
+use Rattle.cfdp_dump.specs.declared.spelled.refusal.LineRefusal.TheVariants.{Pdu}
 use Rattle.cfdp_dump.proofs.TextLines.{line_with_end}
 use Rattle.cfdp_dump.proofs.spelled.write_pdu.Goals as goal
 

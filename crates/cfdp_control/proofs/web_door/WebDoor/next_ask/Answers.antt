@@ -1,6 +1,6 @@
 use Rattle.std.proofs.Common.{inr, subst}
 use Rattle.cfdp_console.specs.declared.guard.Guard.{Guard}
-use Rattle.cfdp_web.specs.Serving.{AttendsInTurn, staying}
+use Rattle.cfdp_console.specs.Serving.{AttendsInTurn, staying}
 use Rattle.cfdp_control.proofs.web_door.WebDoor.next_ask.Goals as goal
 
 pub returns : goal.returns

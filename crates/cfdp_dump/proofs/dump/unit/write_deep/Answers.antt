@@ -1,5 +1,5 @@
 use Rattle.std.proofs.Common.{sym}
-use Rattle.vc_packets.specs.Carrying.{carried_text}
+use Rattle.cfdp_dump.specs.Carrying.{carried_text}
 use Rattle.cfdp_dump.proofs.Runs.{deep_carried, deep_none, deep_unfollowed}
 use Rattle.cfdp_dump.proofs.dump.unit.write_deep.Goals as goal
 

@@ -1,5 +1,5 @@
 use Rattle.std.proofs.Common.{◌≡◌, ◌+◌, length, ap, ◌∙◌, arith}
-use Rattle.frame_fields.specs.Fields.{extra}
+use Rattle.aos_frame.specs.LinkFields.{extra}
 use Rattle.frame_security.specs.declared.config.Security.{Security}
 use Rattle.frame_security.specs.Sealing.{SealerState}
 use Rattle.frame_security.proofs.Parts.{bare_placed}

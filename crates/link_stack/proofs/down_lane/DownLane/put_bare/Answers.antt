@@ -1,6 +1,6 @@
 use Rattle.std.proofs.Common.{◌≡◌, ℕ, ◌+◌, ◌++◌, List, length, sym, ap, subst, arith, length-append}
-use Rattle.frame_fields.specs.declared.config.FrameFields.{FrameFields}
-use Rattle.frame_fields.specs.Fields.{extra}
+use Rattle.aos_frame.specs.declared.fields.FrameFields.{FrameFields}
+use Rattle.aos_frame.specs.LinkFields.{extra}
 use Rattle.link_stack.specs.Downward.{LinkSenderState, MakesBare}
 use Rattle.link_stack.proofs.Sent.{bare_at}
 use Rattle.link_stack.proofs.down_lane.DownLane.put_bare.Goals as goal

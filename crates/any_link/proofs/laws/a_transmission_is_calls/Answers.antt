@@ -1,9 +1,0 @@
-use Rattle.cfdp_port.proofs.GainLemmas.{GoesOnLaws}
-use Rattle.any_link.proofs.Transmitting.{transmits_made}
-use Rattle.any_link.proofs.laws.a_transmission_is_calls.Goals as goal
-
-pub returns : goal.returns
-returns c =
-    let on = c.an_entity_goes_on.ensures in
-    let gains : GoesOnLaws = record { ticked = on.ticked; heard = on.heard; dropped = on.dropped; served = on.served } in
-    λ config theirs old new answer frame puts t stand same. transmits_made gains config theirs puts answer frame old new t stand same

@@ -1,3 +1,0 @@
-pub mod Passing
-pub mod Serving
-pub mod Promise

@@ -1,6 +1,0 @@
-use Rattle.std.proofs.Common.{refl}
-use Rattle.any_link_resumes.proofs.Restarts.{lives_with, served_with}
-use Rattle.any_link_resumes.proofs.laws.stations_that_restart_are_such.Goals as goal
-
-pub returns : goal.returns
-returns g c = λ config files now served. (lives_with now, served_with g.W.Wire.steps config files now served, refl)

@@ -1,2 +1,0 @@
-mod Commits
-mod Owing

@@ -1,4 +1,0 @@
-pub mod Greatest
-pub mod Sets
-pub mod Few
-pub mod Joined

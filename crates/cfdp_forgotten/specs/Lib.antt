@@ -1,2 +1,0 @@
-pub mod Forgotten
-pub mod Few

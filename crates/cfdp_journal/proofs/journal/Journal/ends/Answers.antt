@@ -1,8 +1,0 @@
-use Rattle.cfdp_journal.specs.Journal.Lines.{Completes}
-use Rattle.cfdp_journal.proofs.JournalLines.{logs_kept}
-use Rattle.cfdp_journal.proofs.journal.Journal.ends.Goals as goal
-
-pub returns-clause-logs : goal.returns-clause-logs
-returns-clause-logs g c =
-    logs_kept (Completes c.args.self.now.totals.complete c.args.self.now.totals.asked) c.args.self.now c.tells_end.new.self c.write_out.new.self
-    c.tells_end.ensures.logs c.write_out.ensures.own c.write_out.ensures.style c.write_out.ensures.kept c.write_out.ensures.before

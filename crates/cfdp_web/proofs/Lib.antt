@@ -1,3 +1,0 @@
-mod Attending
-mod InTurn
-mod Known

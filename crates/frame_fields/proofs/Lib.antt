@@ -1,4 +1,0 @@
-pub mod RoundTrip
-mod Intact
-mod Bare
-mod Placed

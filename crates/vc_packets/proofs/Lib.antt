@@ -1,2 +1,0 @@
-mod Missing
-mod Places
