@@ -6,10 +6,10 @@ ghost use Rattle.cfdp_c.specs.Held.{has_folders, state_of};
 
 use crate::noting_inbox::NotingInbox;
 use cfdp_directives::Indication;
-use libc_folders::{FolderRefusal, HeldFolder, SystemFiles, look_at_folder};
 use cfdp_station::{Station, StationConfig, Valid};
 use cfdp_store::{FolderOutbox, MemoryInbox, MemoryOutbox};
 use ghost_list::GhostList;
+use libc_folders::{FolderRefusal, HeldFolder, SystemFiles, look_at_folder};
 use std::alloc::{AllocError, Global};
 use std::collections::BTreeSet;
 use std::snapshot::Snapshot;

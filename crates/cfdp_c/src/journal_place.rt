@@ -1,7 +1,7 @@
 //! Where the journal of a station in a library lies, by calls of the C library.
-use libc_folders::{SystemFile, SystemFiles};
 use cfdp_header::TransactionId;
 use cfdp_store::NameRule;
+use libc_folders::{SystemFile, SystemFiles};
 use std::alloc::{AllocError, Global};
 use std::cell::Cell;
 use std::fs::{Files, OpenFile, OpenOptions};

@@ -3,9 +3,9 @@ ghost use Rattle.std.specs.FinMap as map;
 ghost use Rattle.std.specs.Prelude.{◌≡◌, IfOk};
 
 use crate::journal_place::LibraryPlace;
-use libc_folders::SystemFiles;
 use cfdp_header::TransactionId;
 use cfdp_store::{FolderInbox, Inbox, NameRule, ResumingInbox, StoreError};
+use libc_folders::SystemFiles;
 use std::alloc::{AllocError, Global};
 use transfer_journal::TransferJournal;
 

@@ -8,11 +8,11 @@ use crate::held::{
 use crate::journal_place::LibraryPlace;
 use crate::noting_inbox::{LibraryJournal, NotingInbox};
 use cfdp_directives::Addressing;
-use libc_folders::{HeldFolder, SystemFiles, is_held};
 use cfdp_header::TransactionId;
 use cfdp_station::{Config, EntityConfig, Station, StationConfig, Valid};
 use cfdp_store::FolderOutbox;
 use ghost_list::GhostList;
+use libc_folders::{HeldFolder, SystemFiles, is_held};
 use std::alloc::{AllocError, Global};
 use std::io::ErrorKind;
 use std::snapshot::Snapshot;

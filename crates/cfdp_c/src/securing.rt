@@ -8,8 +8,8 @@ ghost use Rattle.cfdp_c.specs.Securing.{IsUsable, Opens, Seals, opener_of, secur
 use crate::codes::{BAD_ARGUMENT, NO_ROOM, NUMBERS_SPENT, OK, of_refusal};
 use crate::config::flag;
 use crate::room::put_both;
-use cfdp_station::{Config, FrameFields, Valid};
 use aos_frame::HEADER_LEN;
+use cfdp_station::{Config, FrameFields, Valid};
 use frame_security::{Opener, Sealer, Security};
 
 /// How the frames of one direction are secured (CCSDS 355.0-B-2), with one key.

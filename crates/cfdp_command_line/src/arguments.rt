@@ -30,9 +30,9 @@ use crate::station::{
     StationRequest, is_carrier, is_unit, owned_words, station_command, station_request,
 };
 use aos_frame::{FrameFields, LEAST_ZONE, MOST_ZONE};
-use cfdp_settings_file::value_said;
 use cfdp_dump::{DumpForm, DumpKind, DumpRequest, FrameShape};
 use cfdp_report::SettingsHelp;
+use cfdp_settings_file::value_said;
 use cfdp_watch::Shown;
 use clap::error::ErrorKind;
 use clap::{Arg, ArgAction, ArgMatches, Command, Error, value_parser};
@@ -500,7 +500,10 @@ fn play_request(alloc: Global, arguments: &ArgMatches<'_>) -> Result<Option<Invo
 
 /// What the words after `station` ask for, `None` if a number is out of its range, or a carrier, a
 /// unit or a rule of names is none.
-fn serving_request(alloc: Global, arguments: &ArgMatches<'_>) -> Result<Option<Invocation>, AllocError>
+fn serving_request(
+    alloc: Global,
+    arguments: &ArgMatches<'_>,
+) -> Result<Option<Invocation>, AllocError>
     ensures asked { IfOk result (λ found. option_map asked found
         ≡ option_map asks.station (station_of (rows_of (found_of arguments.now)))) }
     ensures zone { IfOk result (λ found. IfSome found HasShape) }

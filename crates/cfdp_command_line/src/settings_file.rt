@@ -1,8 +1,10 @@
 //! The settings file that `--config` names, and the one that `--print-config` prints.
 ghost use Rattle.std.specs.Prelude.{◌≡◌, ◌⊎◌, ◌++◌, map, take, drop, IfErr, IfOk, OnOk};
 
-use cfdp_settings_file::{EXAMPLE, OPTIONS, SettingsError, is_said, key_line, settings_words, value_said};
 use cfdp_report::cause_text;
+use cfdp_settings_file::{
+    EXAMPLE, OPTIONS, SettingsError, is_said, key_line, settings_words, value_said,
+};
 use std::alloc::{AllocError, Global};
 use std::{env, fs};
 

@@ -88,7 +88,11 @@ impl WebAnswer {
     /// # Errors
     ///
     /// `AllocError` if there is no memory for it.
-    pub fn shows(alloc: Global, look: &Look, shown: ConsoleView<'_>) -> Result<WebAnswer, AllocError> {
+    pub fn shows(
+        alloc: Global,
+        look: &Look,
+        shown: ConsoleView<'_>,
+    ) -> Result<WebAnswer, AllocError> {
         let value = match look {
             Look::Page => return page(alloc),
             Look::Metrics => return metrics(alloc, shown),

@@ -11,7 +11,7 @@ ghost use Rattle.cfdp_console.specs.Asking.{May};
 ghost use Rattle.cfdp_console.specs.Hearing.{Heard, HearsNothing, HearsRequest, IsGone, Listens};
 ghost use Rattle.cfdp_console.specs.Hearing.{Reads, Waits, octets_of, requests_of};
 
-use crate::answer::{WebAnswer, Answering};
+use crate::answer::{Answering, WebAnswer};
 use crate::asking::{Ask, judge};
 use crate::denial::Denial;
 use crate::guard::Guard;

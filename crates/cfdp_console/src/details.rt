@@ -8,7 +8,7 @@ use crate::documents::{insert, number};
 use crate::passed::Traffic;
 use crate::ranges::RangeSummary;
 use crate::rounds::{Round, Rounds};
-use crate::shown::{Parts, ConsoleView, TimerShown};
+use crate::shown::{ConsoleView, Parts, TimerShown};
 use serde_json::{Map, Value, json};
 use std::alloc::{AllocError, Global};
 

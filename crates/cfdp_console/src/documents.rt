@@ -9,7 +9,7 @@ use crate::ledger::{Closed, Way};
 use crate::log_lines::LogLine;
 use crate::samples::Samples;
 use crate::shown::{
-    ShownCounters, Dropped, Failed, LinkStatus, NoteShown, Open, OpenPhases, ConsoleView, Told,
+    ConsoleView, Dropped, Failed, LinkStatus, NoteShown, Open, OpenPhases, ShownCounters, Told,
 };
 use cfdp_header::TransactionId;
 use serde_json::{Map, Value, json};
@@ -280,7 +280,11 @@ pub fn status_value(alloc: Global, shown: ConsoleView<'_>) -> Result<Value, Allo
 }
 
 /// Adds what failed, what was noted and what was dropped to the object of `/status`.
-fn insert_lists(alloc: Global, object: &mut Value, shown: ConsoleView<'_>) -> Result<(), AllocError> {
+fn insert_lists(
+    alloc: Global,
+    object: &mut Value,
+    shown: ConsoleView<'_>,
+) -> Result<(), AllocError> {
     let status = shown.status;
     let failed = failed_values(alloc, status.failed.as_slice())?;
     insert(alloc, object, "failed", failed)?;

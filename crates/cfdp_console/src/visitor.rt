@@ -4,12 +4,12 @@ ghost use Rattle.std.specs.Io.KnownBytes.{Consumes};
 ghost use Rattle.cfdp_console.specs.Hearing.{Heard, HearsNothing, Listens, Reads};
 ghost use Rattle.cfdp_console.specs.Came.{HasHeard, most_octets};
 
-use crate::piece::Piece;
-use crate::stream::WebStream;
 use crate::answer::WebAnswer;
 use crate::asking::Ask;
 use crate::caller::Caller;
 use crate::guard::Guard;
+use crate::piece::Piece;
+use crate::stream::WebStream;
 use ghost_list::GhostList;
 use std::alloc::{AllocError, Global};
 use std::hash::RandomState;

@@ -3,11 +3,11 @@ ghost use Rattle.std.specs.Prelude.{◌≡◌, ◌↔◌, ◌<◌, ◌≤◌, ve
 ghost use Rattle.cfdp_console.specs.Serving.{AreKnownOrNew, AttendsAt, AttendsInTurn, most_visitors};
 ghost use Rattle.cfdp_console.specs.Serving.{staying};
 
-use crate::stream::WebStream;
-use crate::visitor::Visitor;
 use crate::answer::WebAnswer;
 use crate::asking::Ask;
 use crate::guard::Guard;
+use crate::stream::WebStream;
+use crate::visitor::Visitor;
 use std::alloc::{AllocError, Global};
 use std::hash::RandomState;
 

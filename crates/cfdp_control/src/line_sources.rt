@@ -5,7 +5,7 @@ use crate::line::{LineFault, Speaker};
 use crate::standard_input::StandardInput;
 use crate::stream::{Listener, Stream, socket_path, unix_listener};
 use crate::web_door::WebDoor;
-use cfdp_console::{WebAnswer, Ask};
+use cfdp_console::{Ask, WebAnswer};
 use cfdp_exchange::Watched;
 use cfdp_report::cause_text;
 use libc::net::POLLIN;

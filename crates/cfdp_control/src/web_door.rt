@@ -5,9 +5,8 @@ ghost use Rattle.cfdp_control.specs.Door.{AsksAtDoor};
 
 use crate::cause::address_cause;
 use crate::line_sources::is_passing;
-use cfdp_console::{WebAnswer, Ask, Guard};
+use cfdp_console::{Ask, Guard, Visitors, WebAnswer, WebStream, reply};
 use cfdp_exchange::Watched;
-use cfdp_console::{Visitors, WebStream, reply};
 use libc::net::{POLLIN, POLLOUT};
 use std::alloc::AllocError;
 use std::hash::RandomState;

@@ -1,7 +1,7 @@
 //! What keeps the numbers of a station's secured wire, and brings its keys.
 use crate::shared_numbers::SharedNumbers;
 use cfdp_exchange::Exchange;
-use frame_security::{LinkKeys, FrameRefusal};
+use frame_security::{FrameRefusal, LinkKeys};
 use secured_wire::Keeper;
 
 /// The keeper of a station's secured wire. It notes accepted numbers in the state file, brings the

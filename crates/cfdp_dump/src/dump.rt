@@ -22,6 +22,7 @@ mod rows;
 mod step;
 mod unit;
 
+use crate::channels::Channels;
 use crate::dump::bad_hex::BadPlace;
 use crate::dump::capture::write_capture;
 use crate::dump::step::{Piece, take_line};
@@ -35,7 +36,6 @@ use hex::FromHexError;
 use std::alloc::{AllocError, Global};
 use std::io;
 use std::io::{BufWriter, ErrorKind, Read, Write};
-use crate::channels::Channels;
 
 /// The longest input of a dump, in octets: 64 MiB.
 const MAX_FILE: usize = 67_108_864;

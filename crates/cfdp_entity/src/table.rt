@@ -68,9 +68,9 @@ use cfdp_store::{
     Inbox, MemoryInbox, MemoryOutbox, Outbox, ResumingInbox, SeekingOutbox, StoreError, Stored,
 };
 use cfdp_timers::{Effects, Kind};
+use ghost_list::Counted;
 use indexmap::IndexMap;
 use indexmap::map::Iter;
-use ghost_list::Counted;
 use std::alloc::{AllocError, Global};
 use std::marker::Model;
 use std::mem;

@@ -5,8 +5,8 @@ use crate::journal::style::unix_time;
 use crate::journal::totals::{CONDITIONS, Totals};
 use crate::pdu_watch::SeenPdu;
 use cfdp_console::{
-    ShownCounters, Details, Dropped, TransferEnd, Failed, FrameCounts, Ledger, LinkStatus, Names, NoteShown,
-    OpenPhases, Samples, Status, Told, Way,
+    Details, Dropped, Failed, FrameCounts, Ledger, LinkStatus, Names, NoteShown, OpenPhases,
+    Samples, ShownCounters, Status, Told, TransferEnd, Way,
 };
 use cfdp_directives::{Condition, Delivery, FileStatus, Indication, Limits};
 use cfdp_exchange::{CarrierDrop, Exchange, NoteKind, REFUSALS, refusal_name};

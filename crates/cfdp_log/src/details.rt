@@ -1,6 +1,6 @@
 //! The details of one transaction of a running station.
 use crate::journal::overview::timer_word;
-use cfdp_console::{Details, Ledger, Parts, Traffic, RangeSummary, TimerShown};
+use cfdp_console::{Details, Ledger, Parts, RangeSummary, TimerShown, Traffic};
 use cfdp_directives::Limits;
 use cfdp_header::TransactionId;
 use cfdp_receiver::Receiver;

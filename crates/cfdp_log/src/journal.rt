@@ -25,7 +25,7 @@ use cfdp_directives::Indication;
 use cfdp_exchange::{Exchange, Note};
 use cfdp_header::TransactionId;
 use cfdp_report::Exit;
-use cfdp_service::{SpoolOutcome, PutNames, Reply};
+use cfdp_service::{PutNames, Reply, SpoolOutcome};
 use cfdp_station::{PutError, Station};
 use cfdp_store::{Inbox, Outbox};
 use std::alloc::AllocError;

@@ -18,7 +18,7 @@ pub use journal::overview::{Clock, Form, Waiting};
 pub use journal::stopped::Stopped;
 pub use journal::style::{Log, Style};
 pub use journal::totals::{Failures, Totals};
-pub use journal::{StationLog, LogSetup};
+pub use journal::{LogSetup, StationLog};
 pub use kept_log::KeptLog;
 pub use line_queue::{LineQueue, MOST_WAITING};
 pub use lossy_log::LossyLog;

@@ -28,7 +28,7 @@ use cfdp_spool::FolderSpool;
 use cfdp_station::StationConfig;
 use cfdp_watch::{Progress, shown_status};
 use frame_security::LinkKeys;
-use host_journal::{HostSetup, HostJournal, new_journal};
+use host_journal::{HostJournal, HostSetup, new_journal};
 use station_pair::{Side, WorldConfig};
 use std::alloc::Global;
 use std::borrow::CowStr;

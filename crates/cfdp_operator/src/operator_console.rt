@@ -3,7 +3,7 @@ use crate::refusals::{FileLimits, Refusing, put_fault, sendable_names};
 use crate::teller::Teller;
 use crate::unit::unit_word;
 use cfdp_command_line::TimeUnit;
-use cfdp_console::{WebAnswer, Ask, Look, ConsoleView};
+use cfdp_console::{Ask, ConsoleView, Look, WebAnswer};
 use cfdp_control::{
     Asked, CommandHelp, LineFault, LineSources, Speaker, parse_command, printed_names, split_form,
 };
@@ -12,10 +12,10 @@ use cfdp_exchange::{Exchange, NoteTopic};
 use cfdp_files::{SecretError, read_keys};
 use cfdp_header::TransactionId;
 use cfdp_log::{
-    Board, Clock, Form, StationLog, KeptLog, LossyLog, Moment, SeenPdus, Stopped, Waiting,
+    Board, Clock, Form, KeptLog, LossyLog, Moment, SeenPdus, StationLog, Stopped, Waiting,
 };
 use cfdp_report::{Exit, Fault};
-use cfdp_service::{OperatorCommand, Console, SpoolOutcome, PutNames, Reply};
+use cfdp_service::{Console, OperatorCommand, PutNames, Reply, SpoolOutcome};
 use cfdp_station::{Phase, Request, Station};
 use cfdp_store::{Inbox, NameRule, Outbox};
 use cfdp_watch::Progress;
@@ -286,7 +286,8 @@ impl<'a> OperatorConsole<'a> {
             OperatorCommand::Change(_, request) => {
                 self.asker = Some((speaker, matches!(request, Request::Suspend)));
             }
-            OperatorCommand::Put { .. } | OperatorCommand::Stop | OperatorCommand::StopNow => self.is_done(speaker, ""),
+            OperatorCommand::Put { .. } | OperatorCommand::Stop | OperatorCommand::StopNow =>
+                self.is_done(speaker, ""),
         }
     }
 

@@ -6,7 +6,7 @@ ghost use Rattle.cfdp_service.specs.Clerk.{Leaves, LeavesOpen, OpensNone};
 ghost use Rattle.cfdp_service.specs.Clerk.{WishesAsked, WishesFile, asked_file};
 ghost use Rattle.cfdp_service.specs.Limits.{has_too_many, is_too_long, limits_files};
 
-use crate::console::{OperatorCommand, Console, SpoolOutcome};
+use crate::console::{Console, OperatorCommand, SpoolOutcome};
 use crate::giving_up::{GapCount, refuse_silent};
 use crate::spool::Spool;
 use crate::tries::Tries;
@@ -231,7 +231,9 @@ impl<S: Spool, C: Console> Clerk<S, C> {
                 Some(OperatorCommand::Put { names, is_first }) => {
                     let _ = self.add(names, is_first);
                 }
-                Some(OperatorCommand::Change(id, request)) => return Some(Wish::Change(id, request)),
+                Some(OperatorCommand::Change(id, request)) => return Some(Wish::Change(
+                    id, request,
+                )),
                 Some(OperatorCommand::Stop) => self.stage = self.stage.stopped(),
                 Some(OperatorCommand::StopNow) => self.stage = Stage::Halted,
                 None => return None,

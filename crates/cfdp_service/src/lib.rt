@@ -21,7 +21,7 @@ mod user;
 mod wish;
 
 pub use clerk::{Clerk, ClerkLimits};
-pub use console::{OperatorCommand, Console, SpoolOutcome};
+pub use console::{Console, OperatorCommand, SpoolOutcome};
 pub use laws::{what_is_sent_was_heard_complete, what_is_sent_was_told_complete};
 pub use running::{Ended, ServiceEnds, ServiceOptions, run, run_restored};
 pub use serving::serve;

@@ -6,6 +6,7 @@ pub mod Folder
 pub mod Fuse
 pub mod Memory
 pub mod Names
+pub mod PartNames
 pub mod Pieces
 pub mod Rereading
 pub mod Resuming

@@ -66,7 +66,8 @@ impl Catalog {
     {
         self.stamps
             .insert(Vec::from_slice(self.alloc, name)?, stamp)?;
-        self.shown.put(&Shown::Found(GhostList::of(name), stamp.len));
+        self.shown
+            .put(&Shown::Found(GhostList::of(name), stamp.len));
         Ok(())
     }
 
@@ -98,7 +99,6 @@ impl Catalog {
             (seen_by self.old.expected.value self.old.shown).files
             (seen_by self.new.expected.value self.new.shown).files }
     {
-        self.shown
-            .put(&Shown::Read(GhostList::of(name), offset, GhostList::of(octets)));
+        self.shown.put(&Shown::Read(GhostList::of(name), offset, GhostList::of(octets)));
     }
 }

@@ -6,6 +6,7 @@ ghost use Rattle.cfdp_store.specs.Disk.{published_by, staged_by};
 ghost use Rattle.cfdp_store.specs.Staged.{OthersKeep, front, staged_for, written};
 
 use crate::folder_error::FolderError;
+use crate::part_names::part_path;
 use cfdp_header::TransactionId;
 use ghost_list::GhostList;
 use std::alloc::Global;
@@ -57,8 +58,7 @@ impl<F: Files + Drop> Parts<F> {
     fn path(&self, id: TransactionId) -> Result<String, FolderError>
         ensures { IfErr result (λ error. error ≢ FolderError.Name) }
     {
-        let folder = self.folder.as_str();
-        Ok(format!(in self.alloc; "{folder}/.part-{}-{}", id.source, id.number)?)
+        Ok(part_path(self.alloc, self.folder.as_str(), id)?)
     }
 
     fn close(&mut self, id: TransactionId)
@@ -314,7 +314,8 @@ impl<F: Files + Drop> Parts<F> {
             self.lose(id);
             return Err(error);
         }
-        self.done.put(&Done::Wrote(id, offset, GhostList::of(octets)));
+        self.done
+            .put(&Done::Wrote(id, offset, GhostList::of(octets)));
         Ok(())
     }
 

@@ -17,6 +17,6 @@ mod host_place;
 mod publishing;
 mod seeing;
 
-pub use host_place::{HostPlace, HostSetup, HostJournal, new_journal, read_survey};
+pub use host_place::{HostJournal, HostPlace, HostSetup, new_journal, read_survey};
 pub use publishing::{PublishRules, publish_again};
 pub use seeing::sees;

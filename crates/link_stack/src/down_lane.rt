@@ -11,8 +11,7 @@ ghost use Rattle.link_stack.specs.Downward.{packing, IsDown, IsFixed, MakesBare,
 ghost use Rattle.link_stack.specs.Downward.{controlled, counted_from, first_lane_down, idle_zones};
 ghost use Rattle.link_stack.specs.Downward as downward;
 
-use aos_frame::{ChannelConfig, FrameHeader, HEADER_LEN as FRAME_HEADER_LEN, VcCounter};
-use aos_frame::seal;
+use aos_frame::{ChannelConfig, FrameHeader, HEADER_LEN as FRAME_HEADER_LEN, VcCounter, seal};
 use mpdu::{MPDU_HEADER_LEN, Packer, put_pointer};
 use space_packet::header::HEADER_LEN as PACKET_HEADER_LEN;
 use space_packet::{Packet, PacketType, SequenceFlags, header_of};

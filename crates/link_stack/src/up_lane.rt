@@ -13,8 +13,7 @@ ghost use Rattle.link_stack.specs.Upward.{TakesFront, IsUpOf, control_after, fir
 ghost use Rattle.link_stack.specs.declared.drops.LinkDrop.TheVariants.{BadPacket, NoMemory};
 
 use crate::drops::LinkDrop;
-use aos_frame::{ChannelConfig, FrameError, VcMonitor, decode};
-use aos_frame::control_field;
+use aos_frame::{ChannelConfig, FrameError, VcMonitor, control_field, decode};
 use mpdu::{MPDU_HEADER_LEN, Notes, ONLY_IDLE, Reassembler, read_pointer};
 use octet_strings::OctetStrings;
 use space_packet::{SequenceFlags, header};

@@ -40,10 +40,10 @@ ghost use Rattle.secured_wire.specs.Direction.{Arrival, NoneForgedOf};
 ghost use Rattle.secured_wire.specs.Passing.{arrivals};
 ghost use Rattle.secured_wire.specs.Secured.{SecuredState, Secures};
 
-use promises::{stations_keep_the_promise_in_any_order, what_left_the_spool_lies_in_the_inbox};
 use cfdp_port::{PeerWire, Wire};
 use cfdp_service::Spool;
 use ports_in_order::turns_are_of_a_world;
+use promises::{stations_keep_the_promise_in_any_order, what_left_the_spool_lies_in_the_inbox};
 use secured_wire::{Keeper, SecuredWire};
 
 /// Over secured wires each lane keeps its order, whatever the network does and whoever else sends:

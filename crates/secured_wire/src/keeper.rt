@@ -1,7 +1,7 @@
 //! What keeps the numbers of a secured wire, and brings its keys.
 ghost use Rattle.secured_wire.specs.Keeping.{Brings, Keeps, KeeperCall, LosesNone, Refuses};
 
-use frame_security::{LinkKeys, FrameRefusal};
+use frame_security::{FrameRefusal, LinkKeys};
 
 /// What keeps the sequence numbers of a secured wire over restarts, and brings its keys.
 pub trait Keeper: Drop {

@@ -7,9 +7,9 @@ ghost use Rattle.cfdp_port.specs.Calls.{brought};
 ghost use Rattle.secured_wire.specs.Secured.{AsksBehind, Opens, Secures};
 
 use crate::keeper::Keeper;
+use aos_frame::HEADER_LEN;
 use cfd_bits::put_bytes;
 use cfdp_port::{PeerWire, Wire, WireFault};
-use aos_frame::HEADER_LEN;
 use frame_security::{Opener, Refused, Sealer};
 use std::alloc::{AllocError, Global};
 use std::marker::Model;

@@ -5,14 +5,14 @@ ghost use Rattle.cfdp_dump.specs.Spelled.Shape.{IsShape};
 ghost use Rattle.cfdp_dump.specs.Dump.{WritesCapture};
 ghost use Rattle.cfdp_dump.specs.Dump.Units.{TellsItem, WritesUnit};
 
+use crate::channels::Channels;
 use crate::dump::DumpRequest;
 use crate::dump::remark::Remark;
 use crate::dump::unit::{write_remark, write_unit};
-use captures::{Capture, Item, CapturedPacket, unit_of};
+use captures::{Capture, CapturedPacket, Item, unit_of};
 use std::alloc::Global;
 use std::io;
 use std::io::Write;
-use crate::channels::Channels;
 
 /// Writes what the packets of a capture carry, in order, and what can't be read of it.
 ///

@@ -12,6 +12,8 @@ ghost use Rattle.cfdp_dump.specs.Dump.Told.{Says, TellsTold, carried_told, packe
 ghost use Rattle.cfdp_dump.specs.Dump.Units.{TellsDeep, TellsUnit, WritesUnit};
 ghost use Rattle.cfdp_dump.specs.Carrying.{carried_text};
 
+use crate::channel::Carried;
+use crate::channels::Channels;
 use crate::dump::remark::Remark;
 use crate::dump::{DumpKind, DumpRequest};
 use crate::spelled::shape::FrameShape;
@@ -22,8 +24,6 @@ use octet_strings::OctetStrings;
 use space_packet::header;
 use std::io;
 use std::io::Write;
-use crate::channel::Carried;
-use crate::channels::Channels;
 
 /// Writes what a unit spells, and in a deep dump what a frame carries.
 ///

@@ -17,7 +17,7 @@ use crate::journal::style::{Log, Style};
 use cfdp_directives::{Condition, Indication};
 use cfdp_exchange::Note;
 use cfdp_report::{Answer, Answered, Name, condition_words, write_answer, write_indications};
-use cfdp_service::{SpoolOutcome, PutNames};
+use cfdp_service::{PutNames, SpoolOutcome};
 use cfdp_station::{PutError, RequestError, Station};
 use cfdp_store::{Inbox, Outbox};
 use station_pair::Refusal;

@@ -2,11 +2,11 @@
 use crate::failure::{Failure, SetupError};
 use crate::looping::LoopOptions;
 use crate::transfers::secured_links::{SECURITY_HEADER, bare_link, keys_in};
+use aos_frame::FrameFields;
 use cfdp_command_line::LoopRequest;
 use cfdp_files::Reservation;
 use cfdp_port::Wire;
 use cfdp_station::StationConfig;
-use aos_frame::FrameFields;
 use frame_security::{LinkKeys, Security};
 use secured_wire::{NoKeeper, SecuredWire};
 use station_pair::WorldConfig;

@@ -11,7 +11,7 @@ use cfdp_datagrams::{
 };
 use cfdp_exchange::Exchange;
 use cfdp_log::{
-    Board, BoardSetup, Form, StationLog, LogSetup, KeptLog, Log, LossyLog, PduWatch, SeenPdus,
+    Board, BoardSetup, Form, KeptLog, Log, LogSetup, LossyLog, PduWatch, SeenPdus, StationLog,
     Style,
 };
 use cfdp_operator::{

@@ -15,7 +15,7 @@ use cfdp_service::{
 };
 use cfdp_station::RestoreError;
 use cfdp_store::{ResumingInbox, SeekingOutbox};
-use host_journal::{PublishRules, HostJournal, publish_again, read_survey};
+use host_journal::{HostJournal, PublishRules, publish_again, read_survey};
 use station_pair::WorldConfig;
 use std::alloc::{AllocError, Global};
 use std::borrow::CowStr;

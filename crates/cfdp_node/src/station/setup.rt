@@ -3,12 +3,12 @@ ghost use Rattle.std.specs.Prelude.{◌≡◌, ◌+◌, false, true, Some, IfSom
 ghost use Rattle.aos_frame.specs.LinkFields.{no_fields};
 
 use crate::transfers::secured_links::{SECURITY_HEADER, bare_link};
+use aos_frame::FrameFields;
 use cfdp_command_line::CarrierKind;
-use cfdp_settings_file::OPTIONS;
 use cfdp_datagrams::{Carrier, PacketForm};
 use cfdp_report::{Keys, Nearest, Setting, Settings, consider_keys, parse_setting};
+use cfdp_settings_file::OPTIONS;
 use cfdp_station::{LinkConfig, StationConfig};
-use aos_frame::FrameFields;
 use frame_security::Security;
 use space_packet::PacketType;
 use station_pair::WorldConfig;

@@ -3,9 +3,9 @@ ghost use Rattle.std.specs.Prelude.{◌≡◌, ◌+◌, IfSome};
 ghost use Rattle.aos_frame.specs.LinkFields.{no_fields};
 
 use crate::failure::FileError;
+use aos_frame::FrameFields;
 use cfdp_files::read_keys;
 use cfdp_station::LinkConfig;
-use aos_frame::FrameFields;
 use frame_security::LinkKeys;
 
 /// The octets of a frame that its security header has.
