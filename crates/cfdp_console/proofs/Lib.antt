@@ -6,4 +6,4 @@ mod Summing
 mod Takes
 mod Attending
 mod InTurn
-mod Known
+mod KnownVisitors

@@ -1,6 +1,6 @@
 use Rattle.std.proofs.Common.{subst, sym}
 use Rattle.cfdp_console.specs.Serving.{AreKnownOrNew}
-use Rattle.cfdp_console.proofs.Known.{known_all, known_rest}
+use Rattle.cfdp_console.proofs.KnownVisitors.{known_all, known_rest}
 use Rattle.cfdp_console.proofs.visitors.Visitors.makes_room.Goals as goal
 
 pub returns-then-len-ge-MOST_VISITORS-clause-known :

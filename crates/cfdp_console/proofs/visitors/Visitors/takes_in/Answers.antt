@@ -1,4 +1,4 @@
-use Rattle.cfdp_console.proofs.Known.{known_all, known_pushed}
+use Rattle.cfdp_console.proofs.KnownVisitors.{known_all, known_pushed}
 use Rattle.cfdp_console.proofs.visitors.Visitors.takes_in.Goals as goal
 
 pub returns-then-has_room : goal.returns-then-has_room
