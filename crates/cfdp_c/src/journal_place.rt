@@ -1,12 +1,10 @@
 //! Where the journal of a station in a library lies, by calls of the C library.
-use cfdp_header::TransactionId;
-use cfdp_store::NameRule;
 use libc_folders::{SystemFile, SystemFiles};
 use std::alloc::{AllocError, Global};
 use std::cell::Cell;
 use std::fs::{Files, OpenFile, OpenOptions};
 use std::io::{self, ErrorKind};
-use transfer_journal::{JournalError, JournalPlace, Publication, Republisher};
+use transfer_journal::{JournalError, JournalPlace};
 
 /// Where a journal lies: in a file of the system. Its clock is what the station's user gave it.
 #[derive(Drop)]
@@ -26,6 +24,11 @@ impl LibraryPlace {
             inbox: String::from_str(alloc, inbox)?,
             now: Cell::new(None),
         })
+    }
+
+    /// Returns the folder that the station receives into.
+    pub fn folder(&self) -> &str {
+        self.inbox.as_str()
     }
 
     /// Gives it the time. A time that is earlier than the last one counts as that.
@@ -90,53 +93,4 @@ impl JournalPlace for LibraryPlace {
     fn now(&self) -> Option<u64> {
         self.now.get()
     }
-}
-
-impl Republisher for LibraryPlace {
-    fn publish_part(&self, id: TransactionId, file: &Publication) -> io::Result<()> {
-        let name = file.name.as_slice();
-        if !NameRule::Portable.allows(name) {
-            return Err(io::Error::from(ErrorKind::InvalidFilename));
-        }
-        let Ok(name) = str::from_utf8(name) else {
-            return Err(io::Error::from(ErrorKind::InvalidFilename));
-        };
-        let (folder, TransactionId { source, number }) = (self.inbox.as_str(), id);
-        let part = format!(in self.alloc; "{folder}/.part-{source}-{number}")?;
-        let path = format!(in self.alloc; "{folder}/{name}")?;
-        match SystemFiles.symlink_metadata(part.as_str()) {
-            Ok(found) if found.is_file() => {}
-            Ok(_) => return Err(io::Error::from(ErrorKind::InvalidInput)),
-            // It was renamed before the station was killed, or removed since it couldn't be.
-            Err(error) if error.kind() == ErrorKind::NotFound => {
-                return find_published(path.as_str(), file.size);
-            }
-            Err(error) => return Err(error),
-        }
-        cut(part.as_str(), file.size)?;
-        SystemFiles.rename(part.as_str(), path.as_str())?;
-        opened(folder)?.sync_all()
-    }
-}
-
-/// Looks whether a plain file of this size has the path of a file whose part is gone.
-fn find_published(path: &str, size: u64) -> io::Result<()> {
-    let found = SystemFiles.symlink_metadata(path)?;
-    if found.is_file() && found.len() == size {
-        Ok(())
-    } else {
-        Err(io::Error::from(ErrorKind::NotFound))
-    }
-}
-
-/// Cuts a part to the size of its file.
-fn cut(part: &str, size: u64) -> io::Result<()> {
-    let mut how = OpenOptions::new();
-    how.read(true).write(true);
-    let file = SystemFiles.open_file(&how, part)?;
-    if file.metadata()?.len() < size {
-        return Err(io::Error::from(ErrorKind::UnexpectedEof));
-    }
-    file.set_len(size)?;
-    file.sync_all()
 }

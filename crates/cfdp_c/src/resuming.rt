@@ -10,15 +10,15 @@ use crate::noting_inbox::{LibraryJournal, NotingInbox};
 use cfdp_directives::Addressing;
 use cfdp_header::TransactionId;
 use cfdp_station::{Config, EntityConfig, Station, StationConfig, Valid};
-use cfdp_store::FolderOutbox;
+use cfdp_store::{FolderOutbox, NameRule};
 use ghost_list::GhostList;
 use libc_folders::{HeldFolder, SystemFiles, is_held};
 use std::alloc::{AllocError, Global};
 use std::io::ErrorKind;
 use std::snapshot::Snapshot;
 use transfer_journal::{
-    JournalError, JournalPlace, JournalSetup, Owner, Restored, Survey, SurveyError, folder_of,
-    publish_again, read_survey, restore,
+    JournalError, JournalPlace, JournalSetup, Owner, PublishRules, Restored, Survey, SurveyError,
+    folder_of, publish_again, read_survey, restore,
 };
 
 /// How many times as long as from one note of progress to the next it is until it is tried again to
@@ -157,7 +157,13 @@ fn found_at(
         Some(found) => found.start.saturating_add(1),
         None => 1,
     };
-    publish_again(place, &mut survey);
+    let rules = PublishRules {
+        folder: place.folder(),
+        replaces: true,
+        most_size: 0,
+        names: NameRule::Portable,
+    };
+    publish_again(&SystemFiles, alloc, rules, &mut survey);
     Ok(Found {
         survey,
         owner: Owner { start, ..own },

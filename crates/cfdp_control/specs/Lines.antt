@@ -2,15 +2,12 @@
 use Rattle.std.specs.Prelude.{◌≡◌, ◌≢◌, ◌∷◌, ◌++◌, ◌<◌, ◌≤◌, ◌⊎◌, ℕ, List, [], All, length, Option, Some, None, Result, Ok, Err, String, string_bytes, ⊤}
 use Rattle.std.specs.Str.{IsUtf8}
 use Rattle.std.specs.declared.alloc.Global.{Global}
+use Rattle.cfdp_console.specs.LastLines.{HasNoEnd}
 use Rattle.cfdp_control.specs.declared.line.LineFault.{LineFault}
 use Rattle.cfdp_control.specs.declared.line.LineFault.TheVariants as fault
 use Rattle.cfdp_control.specs.declared.line_buffer.LineBuffer.{LineBuffer}
 use Rattle.cfdp_control.specs.declared.line_buffer.Taken.{Taken}
 use Rattle.cfdp_control.specs.declared.line_buffer.Taken.TheVariants.{Line, TooLong}
-
--- No octet of it is a line feed.
-abbrev pub HasNoEnd : List ℕ → Type 0
-HasNoEnd octets = All (λ octet. octet ≢ 10) octets
 
 -- This is the first line of these octets, and `after` is what follows its line feed.
 pub record IsFirst (before line after : List ℕ) : Type 0 where

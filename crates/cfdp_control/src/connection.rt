@@ -1,6 +1,7 @@
 //! A connection over which lines come and are answered.
 ghost use Rattle.std.specs.Prelude.{◌≡◌, ◌≢◌, ◌⊎◌, ◌<◌, [], vec_len, IfNone, IsFalse, IsTrue};
-ghost use Rattle.cfdp_control.specs.Lines.{Gives, HasNoEnd, came_to, waiting_in};
+ghost use Rattle.cfdp_console.specs.LastLines.{HasNoEnd};
+ghost use Rattle.cfdp_control.specs.Lines.{Gives, came_to, waiting_in};
 
 use crate::line::LineFault;
 use crate::line_buffer::LineBuffer;

@@ -37,7 +37,8 @@ pub struct LineBuffer {
 }
 
 impl LineBuffer {
-    ghost use Rattle.cfdp_control.specs.Lines.{Gives, GoesWith, HasNoEnd, Takes, came_to};
+    ghost use Rattle.cfdp_console.specs.LastLines.{HasNoEnd};
+    ghost use Rattle.cfdp_control.specs.Lines.{Gives, GoesWith, Takes, came_to};
 
     /// Returns an empty buffer.
     pub fn new(alloc: Global) -> LineBuffer

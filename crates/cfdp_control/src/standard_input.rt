@@ -1,6 +1,7 @@
 //! Lines of standard input.
 ghost use Rattle.std.specs.Prelude.{IfNone};
-ghost use Rattle.cfdp_control.specs.Lines.{Gives, HasNoEnd, waiting_in};
+ghost use Rattle.cfdp_console.specs.LastLines.{HasNoEnd};
+ghost use Rattle.cfdp_control.specs.Lines.{Gives, waiting_in};
 
 use crate::line::LineFault;
 use crate::line_buffer::LineBuffer;

@@ -4,7 +4,8 @@ use Rattle.std.specs.Prelude.{IsTrue, OnOk, is_ok}
 use Rattle.std.proofs.lemmas.Bool.{false≢true}
 use Rattle.std.proofs.lemmas.List.Elements.{All-append, All-nil}
 use Rattle.cfdp_log.specs.Queue.{KeepsLine, KeepsOrLoses, LosesLine, QueueState, StaysLogged, TellsLost, WritesFirst, logged_by}
-use Rattle.cfdp_log.specs.Lossy.{HasLogged, HasNoEnd, IsLoggedAs, KeepsMore, LogsLines, LossyState, SaysLost, Keeps, Loses, Nothing, Says}
+use Rattle.cfdp_console.specs.LastLines.{HasNoEnd}
+use Rattle.cfdp_log.specs.Lossy.{HasLogged, IsLoggedAs, KeepsMore, LogsLines, LossyState, SaysLost, Keeps, Loses, Nothing, Says}
 
 pub ok_holds : {A E : Type 0} (r : Result A E) (P : Type 0) → is_ok r ≡ true → OnOk r P → P
 ok_holds (Ok x) P is holds = holds

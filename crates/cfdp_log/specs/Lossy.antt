@@ -1,11 +1,8 @@
 -- What becomes of the lines of a log that loses some.
-use Rattle.std.specs.Prelude.{◌≡◌, ◌≢◌, ◌⊎◌, ◌++◌, ◌∷◌, ℕ, Bool, true, List, [], All, codes, decimal}
+use Rattle.std.specs.Prelude.{◌≡◌, ◌≢◌, ◌⊎◌, ◌++◌, ◌∷◌, ℕ, Bool, true, List, [], codes, decimal}
+use Rattle.cfdp_console.specs.LastLines.{HasNoEnd}
 use Rattle.cfdp_log.specs.Journal.Totals.{counted}
 use Rattle.cfdp_log.specs.Queue.{QueueState, logged_by}
-
--- No octet of it is a line feed.
-abbrev pub HasNoEnd : List ℕ → Type 0
-HasNoEnd octets = All (λ octet. octet ≢ 10) octets
 
 -- It ends by words that say how many lines were lost, in plain text or as the end of an object.
 abbrev pub SaysLost : (lost : ℕ) → List ℕ → Type 0

@@ -1,7 +1,8 @@
 //! A log over standard output that loses lines if standard output takes none.
 ghost use Rattle.std.specs.Prelude.{◌≡◌, ◌++◌, ◌∷◌, [], List, ℕ, IfOk, IsTrue, OnOk};
 ghost use Rattle.std.specs.Prelude.{codes, decimal};
-ghost use Rattle.cfdp_log.specs.Lossy.{HasLogged, HasNoEnd, KeepsMore, SaysLost};
+ghost use Rattle.cfdp_console.specs.LastLines.{HasNoEnd};
+ghost use Rattle.cfdp_log.specs.Lossy.{HasLogged, KeepsMore, SaysLost};
 ghost use Rattle.cfdp_log.specs.Queue.{StaysLogged};
 
 use crate::journal::json::{begin_object, end_object};

@@ -16,7 +16,7 @@ const PAUSE: u64 = 1_000 * MILLISECOND;
 const AGAIN: u64 = 60_000 * MILLISECOND;
 
 /// The journal of the program's station.
-pub type HostJournal<'a> = transfer_journal::HostJournal<HostPlace<'a>>;
+pub type HostJournal<'a> = transfer_journal::TransferJournal<HostPlace<'a>>;
 
 /// Where the journal of the program's station lies: in a file of the system. Its clock counts
 /// nanoseconds.
@@ -127,7 +127,7 @@ pub fn new_journal<'a>(rt: &'a HostRuntime, setup: HostSetup<'a>) -> HostJournal
         pause: PAUSE,
         again: AGAIN,
     };
-    transfer_journal::HostJournal::new(rt.alloc(), HostPlace::new(rt, path, inbox), times)
+    transfer_journal::TransferJournal::new(rt.alloc(), HostPlace::new(rt, path, inbox), times)
 }
 
 /// Returns what the journal at a path says, which must be of this station; `None` if there is no

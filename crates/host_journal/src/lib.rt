@@ -14,9 +14,7 @@
 #![tactic(auto)]
 
 mod host_place;
-mod publishing;
 mod seeing;
 
 pub use host_place::{HostJournal, HostPlace, HostSetup, new_journal, read_survey};
-pub use publishing::{PublishRules, publish_again};
 pub use seeing::sees;

@@ -2,13 +2,10 @@
 //! a time.
 use crate::system_file::SystemFile;
 use crate::system_files::SystemFiles;
+use cfdp_store::remove_parts;
 use std::alloc::{AllocError, Global};
 use std::collections::BTreeSet;
-use std::fs::{self, FileType};
 use std::io::{self, ErrorKind};
-
-/// What the name of a part file begins with. After it come the two numbers of its transaction.
-const PART: &str = ".part-";
 
 /// Why a folder can't be had.
 #[derive(Clone, Copy, Debug, PartialEq)]
@@ -72,7 +69,7 @@ impl HeldFolder {
     /// Removes the part files of a station that died from this folder, whose path this is, except
     /// for those with these names.
     pub fn clear(&self, alloc: Global, path: &str, kept: &BTreeSet<String>) {
-        remove_parts(alloc, path, kept);
+        remove_parts(&(SystemFiles, alloc), path, kept);
     }
 }
 
@@ -103,43 +100,4 @@ fn refusal_of(error: &io::Error) -> FolderRefusal {
         return FolderRefusal::InUse;
     }
     FolderRefusal::Missing
-}
-
-/// Removes the part files of a folder, as far as they can be removed, except for those with these
-/// names.
-fn remove_parts(alloc: Global, path: &str, kept: &BTreeSet<String>) {
-    let Ok(entries) = fs::read_dir(&(SystemFiles, alloc), path) else {
-        return;
-    };
-    for entry in entries {
-        if let Ok(entry) = entry
-            && is_part_name(entry.file_name())
-            && is_plain(entry.file_type())
-            && !kept.contains(entry.file_name())
-        {
-            let _ = fs::remove_file(&SystemFiles, entry.path());
-        }
-    }
-}
-
-/// Returns `true` if this is the name of a part file.
-fn is_part_name(name: &str) -> bool {
-    match name.strip_prefix(PART) {
-        Some(numbers) => match numbers.split_once('-') {
-            Some((source, number)) => is_number(source) && is_number(number),
-            None => false,
-        },
-        None => false,
-    }
-}
-
-fn is_number(word: &str) -> bool {
-    !word.is_empty() && word.as_bytes().iter().all(|octet| octet.is_ascii_digit())
-}
-
-fn is_plain(kind: io::Result<FileType>) -> bool {
-    match kind {
-        Ok(kind) => kind.is_file(),
-        Err(_) => false,
-    }
 }

@@ -157,7 +157,7 @@ others_known own puts puts_then added old new same more k = subst (λ (l : Servi
   begun = begun_more own puts added puts_then k.earlier old more k.begun;
 })
 
--- ---- here something was done, as `any_link` has it
+-- ---- here something was done, as `Serving` has it
 module _ (all : AllLaws) (c t : StationConfig) (there : FileMap) (joined : IsJoinedTo c t) (link : c.receives ≡ t.sends) (theirs : EndKept) {W : Type 0} (Steps : W → WireCall → W → Type 0) (deed : Deed)
     (old new : ServiceLife) (puts puts_then : List Put) (does : DoesDeed Steps deed c theirs (shade old.served) (shade new.served) puts puts_then)
     (h : Held c t old.served.begun there puts (shade old.served).kept theirs) where

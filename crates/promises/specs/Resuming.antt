@@ -1,4 +1,4 @@
--- Two stations in service over a link that keeps no order, as `any_link` has them. A station that
+-- Two stations in service over a link that keeps no order, as `Serving` has them. A station that
 -- was killed may restart, or it may resume.
 use Rattle.std.specs.Prelude.{◌≡◌, ◌+◌, ◌<◌, ◌≤◌, ℕ, List, [], ◌++◌, length, map, slice_get, take}
 use Rattle.std.specs.Prelude.{Contains, Some, None}
@@ -30,7 +30,7 @@ use Rattle.cfdp_service.specs.Calls.{UserCall, Hears}
 use Rattle.promises.specs.Serving.{AreFirst, Deed, DoesDeed, Served, Starts, Stations, life_from}
 
 -- ---- a life of a station
--- A station in its present life, with the calls of its user in this life, as `any_link` has it. If
+-- A station in its present life, with the calls of its user in this life, as `Serving` has it. If
 -- it resumed as this life began: the records that came back then, and what its user heard before
 -- all these calls, since the user of the life before may not have heard it. Otherwise there is
 -- neither.
@@ -56,7 +56,7 @@ abbrev pub life_of : Side → BothLives → ServiceLife
 life_of One w = w.one
 life_of Two w = w.two
 
--- both stations, as `any_link` has them
+-- both stations, as `Serving` has them
 abbrev pub stations_of : BothLives → Stations
 stations_of w = record { one = w.one.served; two = w.two.served; puts = w.puts }
 
@@ -103,7 +103,7 @@ AreSummed records = (place : ℕ) (id : TransactionId) (r : ReceiverState) (m : 
     → SumsStaged (kind_told r.metadata) r.held m r.sums
 
 -- ---- what is done
--- What is done at a station, as `any_link` has it, or that it resumes, and counts its frames from
+-- What is done at a station, as `Serving` has it, or that it resumes, and counts its frames from
 -- this number on.
 pub data ServiceEvent : Type 0 where
   Does : Deed → ServiceEvent

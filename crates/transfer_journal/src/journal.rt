@@ -14,7 +14,7 @@ use cfdp_entity::Record;
 use cfdp_extents::Numbers;
 use cfdp_header::TransactionId;
 use cfdp_station::Station;
-use cfdp_store::{Inbox, Outbox};
+use cfdp_store::{Inbox, Outbox, part_path};
 use journal_records::{JournalRecord, Owner, RangeList};
 use std::alloc::{AllocError, Global};
 use std::cell::{Cell, RefCell};
@@ -396,8 +396,7 @@ fn sync_part<P: JournalPlace>(alloc: Global, place: &P, id: TransactionId) -> io
     let Some(folder) = place.inbox() else {
         return Ok(());
     };
-    let TransactionId { source, number } = id;
-    let path = format!(in alloc; "{folder}/.part-{source}-{number}")?;
+    let path = part_path(alloc, folder, id)?;
     place.open(path.as_str())?.sync_data()
 }
 

@@ -37,7 +37,7 @@ pub use journal::{JournalSetup, TransferJournal};
 pub use journal_records::Owner;
 pub use kept::{KeptEnd, KeptReceiver, KeptSender, KeptTransfer, PendingEnd, Publication};
 pub use place::{JournalError, JournalPlace};
-pub use publishing::{Republisher, publish_again};
+pub use publishing::{PublishRules, publish_again};
 pub use reading::{SurveyError, read_survey};
 pub use restoring::{Restorable, Restored, ResumedTransaction, restore};
 pub use survey::{ForgottenRange, Survey};

@@ -15,7 +15,7 @@ use cfdp_service::{
 };
 use cfdp_station::RestoreError;
 use cfdp_store::{ResumingInbox, SeekingOutbox};
-use host_journal::{HostJournal, PublishRules, publish_again, read_survey};
+use host_journal::{HostJournal, read_survey};
 use station_pair::WorldConfig;
 use std::alloc::{AllocError, Global};
 use std::borrow::CowStr;
@@ -24,7 +24,8 @@ use std::collections::BTreeSet;
 use std::os::unix::fs::MetadataExt;
 use std::{fmt, fs};
 use transfer_journal::{
-    JournalError, KeptEnd, Owner, Restored, ResumedTransaction, Survey, SurveyError, restore,
+    JournalError, KeptEnd, Owner, PublishRules, Restored, ResumedTransaction, Survey, SurveyError,
+    publish_again, restore,
 };
 use valid_config::Valid;
 
@@ -317,7 +318,7 @@ pub fn held_folder<'a>(
         most_size: request.limits.most_size,
         names: request.names,
     };
-    publish_again(rt, &mut survey, rules);
+    publish_again(rt, rt.alloc(), rules, &mut survey);
     found.survey.set(Some(survey));
     Ok(held)
 }
