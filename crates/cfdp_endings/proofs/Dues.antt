@@ -1,16 +1,16 @@
 -- Each PDU that leaves lowers how many may still leave.
-use Rattle.std.proofs.Common.{◌≡◌, ℕ, zero, suc, ◌+◌, ◌-◌, ◌<◌, ◌≤◌, ◌==◌, ◌&&◌, ◌||◌, ◌⊎◌, inl, inr, min, nat_lt, not, is_none, is_some, Bool, true, false, List, [], ◌∷◌, ◌++◌, drop, get_or, length, position, take, slice_get, Option, Some, None, refl, sym, ap, subst, ◌∙◌, arith, if◌then◌else◌}
+use Rattle.std.proofs.Common.{◌≡◌, ℕ, zero, suc, ◌+◌, ◌-◌, ◌<◌, ◌≤◌, ◌||◌, min, nat_lt, not, is_some, Bool, true, false, List, [], ◌∷◌, drop, get_or, length, position, slice_get, Option, Some, None, refl, sym, ap, subst, ◌∙◌, arith, if◌then◌else◌}
 use Rattle.std.specs.FinSet as set
 use Rattle.std.specs.Option.{option_or, option_map}
-use Rattle.std.proofs.lemmas.Bool.{false≢true, cond_both, cases_lt, and_from, and_parts, le-leb, lt-ltb, ltb-true}
+use Rattle.std.proofs.lemmas.Bool.{false≢true, cond_both, ltb-true}
 use Rattle.std.proofs.lemmas.List.Quantifiers.{position-Some}
 use Rattle.indexmap.specs.IndexMap.{set_value_at}
-use Rattle.cfdp_extents.specs.Offsets.{Offsets, range}
-use Rattle.cfdp_extents.specs.Terms.{front_of, gaps_of}
+use Rattle.cfdp_extents.specs.Offsets.{range}
+use Rattle.cfdp_extents.specs.Terms.{front_of}
 use Rattle.std.specs.Cmp.{nat_cmp_total}
 use Rattle.std.proofs.lemmas.List.{length-drop}
 use Rattle.cfdp_extents.specs.Front.{IsFront}
-use Rattle.cfdp_extents.proofs.CallerLemmas.{AllRangesIn, ranges-in, contains-range, front-is}
+use Rattle.cfdp_extents.proofs.CallerLemmas.{front-is}
 use Rattle.cfdp_header.specs.Files.{FileMap}
 use Rattle.cfdp_directives.specs.declared.user.limits.Times.{Times}
 use Rattle.cfdp_directives.specs.declared.user.telling.Outcome.{Outcome}
@@ -40,56 +40,12 @@ use Rattle.cfdp_entity.specs.Steps.{takes, sender_takes, receiver_takes}
 use Rattle.cfdp_entity.specs.Strays.{StrayAck}
 use Rattle.cfdp_entity.specs.Table.{Entry, has_due, next_due, step_of}
 use Rattle.cfdp_entity.proofs.CallerLemmas.{next-due}
-use Rattle.cfdp_endings.specs.Dues.{count_below, one_if, sender_dues, nak_dues, receiver_dues, seen_dues, records_dues, entity_dues, ArePolls}
+use Rattle.cfdp_endings.specs.Dues.{count_below, sender_dues, nak_dues, receiver_dues, seen_dues, records_dues, entity_dues, ArePolls}
 use Rattle.cfdp_endings.specs.Entity.{IsOwing, IsTimely}
+use Rattle.cfdp_endings.proofs.Counts.{count-taken, first_in}
+use Rattle.cfdp_endings.proofs.Cursor.{cursor-moves}
 use Rattle.cfdp_endings.proofs.Tables.{MachineLaws, owe-at}
 use Rattle.cfdp_endings.proofs.Entities.{served-timely}
-
--- ---- counts of offsets
-one-most : (b : Bool) → one_if b ≤ 1
-one-most b = cond_both b 1 0 (λ n. n ≤ 1) (λ _. omega arith) (λ _. omega arith)
-
-fewer : (a b : Bool) → (b ≡ true → a ≡ true) → one_if b ≤ one_if a
-fewer true b h = one-most b
-fewer false true h = absurd (false≢true (h refl))
-fewer false false h = omega arith
-
-count-subset : (s t : Offsets) (n : ℕ) → ((k : ℕ) → set.contains t k ≡ true → set.contains s k ≡ true) → count_below t n ≤ count_below s n
-unfolding count_below
-count-subset s t zero h = omega arith
-count-subset s t (suc n) h = omega (arith, count-subset s t n h, fewer (set.contains s n) (set.contains t n) (h n))
-
-count-less : (s t : Offsets) (n k : ℕ) → ((j : ℕ) → set.contains t j ≡ true → set.contains s j ≡ true) → k < n → set.contains s k ≡ true → set.contains t k ≡ false → count_below t n + 1
-    ≤ count_below s n
-unfolding count_below
-count-less s t zero k h l in_s out = absurd (omega arith)
-count-less s t (suc n) k h l in_s out = elim (cases k n l) [
-  | inl here ↦ omega (
-    arith,
-    count-subset s t n h,
-    ap {B = ℕ} (λ b. if b then 1 else 0) (ap (set.contains s) (sym here) ∙ in_s),
-    ap {B = ℕ} (λ b. if b then 1 else 0) (ap (set.contains t) (sym here) ∙ out),
-  )
-  | inr below ↦ omega (arith, count-less s t n k h below in_s out, fewer (set.contains s n) (set.contains t n) (h n))
-]
-  where
-    cases : (k n : ℕ) → k < suc n → (k ≡ n) ⊎ (k < n)
-    cases k n l = elim (cases_lt k n) [ inl below ↦ inr below | inr past ↦ inl (omega arith) ]
-
-not_both : (a b : Bool) → b ≡ true → (a && not b) ≡ false
-not_both a true e = elim a as (λ a. (a && false) ≡ false) [ true ↦ refl | false ↦ refl ]
-not_both a false e = absurd (false≢true e)
-
-first_in : (start end : ℕ) → start < end → set.contains (range start end) start ≡ true
-first_in start end some = contains-range start end start ∙ and_from _ _ (le-leb start start (omega arith)) (lt-ltb start end some)
-
--- a range taken off whose first offset is there
-count-taken : (s : Offsets) (n start end : ℕ) → start < end → start < n → set.contains s start ≡ true → count_below (set.difference s (range start end)) n + 1 ≤ count_below s n
-count-taken s n start end some l here =
-    count-less s (set.difference s (range start end)) n start
-    (λ j h. (and_parts (set.contains s j) _ (sym (set.contains-difference nat_cmp_total s (range start end) j) ∙ h)).0)
-    l here
-    (set.contains-difference nat_cmp_total s (range start end) start ∙ not_both (set.contains s start) (set.contains (range start end) start) (first_in start end some))
 
 some_is : {X : Type 0} (x y : X) → Some x ≡ Some y → y ≡ x
 some_is x y e = cc
@@ -177,54 +133,6 @@ module _ (file : List ℕ) (x : SenderState) where
   sender-falls Refused d inside e = (falls d inside e).refused
 
 -- ---- a receiver
--- the end of the last of the pairs of a NAK
-ends-further : (passes : ℕ → Bool) (from limit end n : ℕ) (rs : List (ℕ × ℕ)) → (from < end) × (end ≤ limit) → AllRangesIn passes from limit rs → (from < last_end end (take n rs))
-    × (last_end end (take n rs) ≤ limit)
-ends-further passes from limit end zero rs b h = b
-ends-further passes from limit end (suc n) [] b h = b
-ends-further passes from limit end (suc n) (r ∷ rs) b h =
-    let low : from ≤ r.0 = h.0.low in
-    let some : r.0 < r.1 = h.0.some in
-    let high : r.1 ≤ limit = h.0.high in
-    ends-further passes from limit r.1 n rs (omega arith, high) h.1
-
-ends-in : (passes : ℕ → Bool) (from limit end n : ℕ) (rs : List (ℕ × ℕ)) → 0 < n → 0 < length rs → AllRangesIn passes from limit rs → (from < last_end end (take n rs))
-    × (last_end end (take n rs) ≤ limit)
-ends-in passes from limit end zero rs some more h = absurd (omega arith)
-ends-in passes from limit end (suc n) [] some more h = absurd (omega arith)
-ends-in passes from limit end (suc n) (r ∷ rs) some more h =
-    let low : from ≤ r.0 = h.0.low in
-    let wide : r.0 < r.1 = h.0.some in
-    let high : r.1 ≤ limit = h.0.high in
-    ends-further passes from limit r.1 n rs (omega arith, high) h.1
-
-module _ (r : ReceiverState) (from : ℕ) where
-  abbrev Moves : List (ℕ × ℕ) → Type 0
-  Moves pairs = has_more pairs ≡ true → (from < last_end 0 (asked pairs)) × (last_end 0 (asked pairs) ≤ scope_limit r)
-
-  abbrev here : List (ℕ × ℕ)
-  here = gaps_of r.held from (scope_limit r)
-
-  in_here : AllRangesIn (λ n. not (set.contains r.held n)) from (from + (scope_limit r - from)) here
-  unfolding gaps_of
-  in_here = ranges-in (λ n. not (set.contains r.held n)) from (scope_limit r - from)
-
-  -- a NAK that has more to ask for than it says moves the cursor on
-  cursor-moves : Moves (missing_pairs from r)
-  cursor-moves = cond_both (is_none r.metadata && (from == 0)) ((0, 0) ∷ []) [] (λ l. Moves (l ++ here))
-      (λ _ more.
-      let many : 32 < 1 + length here = (let m : 32 < suc (length here) = ltb-true 32 (suc (length here)) more in omega arith) in
-      let b = ends-in (λ n. not (set.contains r.held n)) from (from + (scope_limit r - from)) 0 31 here (omega arith) (omega arith) in_here in
-      let low : from < last_end 0 (take 31 here) = b.0 in
-      let high : last_end 0 (take 31 here) ≤ from + (scope_limit r - from) = b.1 in
-      (low, omega arith))
-      (λ _ more.
-      let many : 32 < length here = ltb-true 32 (length here) more in
-      let b = ends-in (λ n. not (set.contains r.held n)) from (from + (scope_limit r - from)) 0 32 here (omega arith) (omega arith) in_here in
-      let low : from < last_end 0 (take 32 here) = b.0 in
-      let high : last_end 0 (take 32 here) ≤ from + (scope_limit r - from) = b.1 in
-      (low, omega arith))
-
 abbrev ReceiverFalls : ReceiverState → Due → Type 0
 ReceiverFalls r d = receiver_dues (receiver_taken d r) < receiver_dues r
 

@@ -4,5 +4,7 @@ mod Tables
 mod Entities
 mod Rounds
 mod Closing
+pub mod Counts
+pub mod Cursor
 mod Dues
 mod Worked

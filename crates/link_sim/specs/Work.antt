@@ -2,18 +2,18 @@
 -- PDU that is sent or heard. A PDU on its way counts what it may cause if it is heard, and one more
 -- for itself; a PDU that is due counts more than it does once it is on its way. `most` is a number
 -- that no file's size and no offset held passes.
-use Rattle.std.specs.Prelude.{◌≡◌, ℕ, ◌+◌, ◌-◌, ◌*◌, ◌==◌, ◌<◌, ◌≤◌, zero, suc, Bool, true, List, [], ◌∷◌, length, drop, sum_by, Option, Some, None, IfSome, if◌then◌else◌}
+use Rattle.std.specs.Prelude.{◌≡◌, ℕ, ◌+◌, ◌-◌, ◌*◌, ◌==◌, ◌<◌, ◌≤◌, Bool, true, List, [], ◌∷◌, length, drop, sum_by, Option, Some, None, IfSome, if◌then◌else◌}
 use Rattle.std.specs.FinSet as set
 use Rattle.cfd_bits.specs.Field.{field}
 use Rattle.cfdp_header.specs.Header.{header_len_told}
 use Rattle.cfdp_directives.specs.Pdu.Content.{Content, FileData, Metadata, Eof, Finished, Ack, Nak, Prompt, KeepAlive}
-use Rattle.cfdp_extents.specs.Offsets.{Offsets}
 use Rattle.cfdp_sender.specs.declared.phase.SenderPhase.{SenderPhase}
 use Rattle.cfdp_sender.specs.declared.phase.SenderPhase.TheVariants as sending
 use Rattle.cfdp_sender.specs.State.{SenderState}
 use Rattle.cfdp_receiver.specs.declared.state.ReceiverPhase.{ReceiverPhase}
 use Rattle.cfdp_receiver.specs.declared.state.ReceiverPhase.TheVariants as receiving
 use Rattle.cfdp_receiver.specs.State.{ReceiverState}
+use Rattle.cfdp_endings.specs.Dues.{count_below}
 use Rattle.cfdp_entity.specs.Entity.{EntityState}
 use Rattle.cfdp_entity.specs.Seen.{Seen, Sends, Receives}
 use Rattle.cfdp_entity.specs.Table.{Entry}
@@ -23,11 +23,6 @@ use Rattle.link_sim.specs.OneWay.{OneWayState}
 use Rattle.link_sim.specs.World.State.{WorldState, on_way_from, way_from}
 use Rattle.station_pair.specs.declared.side.Side.{Side}
 use Rattle.station_pair.specs.declared.side.Side.TheVariants.{One, Two}
-
--- how many offsets of a set lie below n
-unfoldable pub count_below : Offsets → ℕ → ℕ
-count_below held zero = 0
-count_below held (suc n) = count_below held n + (if set.contains held n then 1 else 0)
 
 -- ---- a PDU on its way
 -- A NAK: each offset below `most` may be asked for, and Metadata. File data and Metadata that are

@@ -1,13 +1,12 @@
 -- Each PDU that a receiver sends or hears, or that opens one, lowers the work that remains.
-use Rattle.std.proofs.Common.{◌≡◌, ℕ, zero, suc, ◌+◌, ◌-◌, ◌*◌, ◌<◌, ◌≤◌, Bool, true, false, not, List, [], ◌∷◌, ◌++◌, length, take, Option, Some, None, IfSome, is_none, is_some, refl, sym, subst, arith, ◌==◌, ◌&&◌, if◌then◌else◌}
+use Rattle.std.proofs.Common.{◌≡◌, ℕ, ◌+◌, ◌-◌, ◌*◌, ◌<◌, ◌≤◌, Bool, true, false, not, List, [], ◌∷◌, length, Option, Some, None, IfSome, is_none, is_some, refl, sym, subst, arith, ◌==◌, ◌&&◌, if◌then◌else◌}
 use Rattle.std.specs.FinMap as map
 use Rattle.std.specs.FinSet as set
 use Rattle.std.proofs.Math.Nat.{mul-le-mul_right, add-mul}
-use Rattle.std.proofs.lemmas.Bool.{ltb-true, cond_both}
+use Rattle.std.proofs.lemmas.Bool.{cond_both}
 use Rattle.cfdp_header.specs.Files.{FileMap}
 use Rattle.cfdp_extents.specs.Offsets.{Offsets, range}
-use Rattle.cfdp_extents.specs.Terms.{gaps_of}
-use Rattle.cfdp_extents.proofs.CallerLemmas.{AllRangesIn, ranges-in, end-within}
+use Rattle.cfdp_extents.proofs.CallerLemmas.{end-within}
 use Rattle.cfdp_directives.specs.declared.pdu.addressing.Addressing.{Addressing}
 use Rattle.cfdp_directives.specs.declared.pdu.codes.Acknowledged.TheVariants as acknowledged
 use Rattle.cfdp_directives.specs.declared.user.indication.Indication.TheVariants as indication
@@ -29,6 +28,7 @@ use Rattle.cfdp_receiver.specs.Due.{keep_alive_first, pairs_first, nak_first, fi
 use Rattle.cfdp_receiver.specs.Pieces.{new_pieces, staged_with}
 use Rattle.cfdp_receiver.specs.Steps.{ReceiverAfter, leaving, telling, heard, closed, faulted, agrees, published_by, completed_by, completed, is_supported, receives_metadata, exceeds, with_data, receives_new, receives_data, contradicts, first_eof, cancelled_by, receives_eof, acknowledged_by, prompted_for, opened_closed}
 use Rattle.cfdp_receiver.specs.Sound.{hears_content, receiver_hears, opens_hearing}
+use Rattle.cfdp_endings.proofs.Cursor.{cursor-moves}
 use Rattle.cfdp_entity.specs.Steps.{receiver_after}
 use Rattle.link_sim.specs.Work.{nak_work, nak_due_work, heard_work, opening_work, content_work, ack_work, cursor_work, receiving_work, receiver_work, IsReceiverWithin}
 use Rattle.link_sim.proofs.Course.Receives.{after-is}
@@ -51,54 +51,6 @@ nak-moves most from next some within =
 nak-ends : (most from : ℕ) → nak_work most < nak_due_work most from
 unfolding nak_due_work
 nak-ends most from = omega (arith, more-times 0 (most - from + 1) (nak_work most + 1) (omega arith))
-
--- ---- the end of the last pair of a NAK
-ends-further : (passes : ℕ → Bool) (from limit end n : ℕ) (rs : List (ℕ × ℕ)) → (from < end) × (end ≤ limit) → AllRangesIn passes from limit rs → (from < last_end end (take n rs))
-    × (last_end end (take n rs) ≤ limit)
-ends-further passes from limit end zero rs b h = b
-ends-further passes from limit end (suc n) [] b h = b
-ends-further passes from limit end (suc n) (r ∷ rs) b h =
-    let low : from ≤ r.0 = h.0.low in
-    let some : r.0 < r.1 = h.0.some in
-    let high : r.1 ≤ limit = h.0.high in
-    ends-further passes from limit r.1 n rs (omega arith, high) h.1
-
-ends-in : (passes : ℕ → Bool) (from limit end n : ℕ) (rs : List (ℕ × ℕ)) → 0 < n → 0 < length rs → AllRangesIn passes from limit rs → (from < last_end end (take n rs))
-    × (last_end end (take n rs) ≤ limit)
-ends-in passes from limit end zero rs some more h = absurd (omega arith)
-ends-in passes from limit end (suc n) [] some more h = absurd (omega arith)
-ends-in passes from limit end (suc n) (r ∷ rs) some more h =
-    let low : from ≤ r.0 = h.0.low in
-    let wide : r.0 < r.1 = h.0.some in
-    let high : r.1 ≤ limit = h.0.high in
-    ends-further passes from limit r.1 n rs (omega arith, high) h.1
-
-module _ (r : ReceiverState) (from : ℕ) where
-  abbrev Moves : List (ℕ × ℕ) → Type 0
-  Moves pairs = has_more pairs ≡ true → (from < last_end 0 (asked pairs)) × (last_end 0 (asked pairs) ≤ scope_limit r)
-
-  abbrev here : List (ℕ × ℕ)
-  here = gaps_of r.held from (scope_limit r)
-
-  in_here : AllRangesIn (λ n. not (set.contains r.held n)) from (from + (scope_limit r - from)) here
-  unfolding gaps_of
-  in_here = ranges-in (λ n. not (set.contains r.held n)) from (scope_limit r - from)
-
-  -- a NAK that has more to ask for than it says moves the cursor on
-  cursor-moves : Moves (missing_pairs from r)
-  cursor-moves = cond_both (is_none r.metadata && (from == 0)) ((0, 0) ∷ []) [] (λ l. Moves (l ++ here))
-      (λ _ more.
-      let many : 32 < 1 + length here = (let m : 32 < suc (length here) = ltb-true 32 (suc (length here)) more in omega arith) in
-      let b = ends-in (λ n. not (set.contains r.held n)) from (from + (scope_limit r - from)) 0 31 here (omega arith) (omega arith) in_here in
-      let low : from < last_end 0 (take 31 here) = b.0 in
-      let high : last_end 0 (take 31 here) ≤ from + (scope_limit r - from) = b.1 in
-      (low, omega arith))
-      (λ _ more.
-      let many : 32 < length here = ltb-true 32 (length here) more in
-      let b = ends-in (λ n. not (set.contains r.held n)) from (from + (scope_limit r - from)) 0 32 here (omega arith) (omega arith) in_here in
-      let low : from < last_end 0 (take 32 here) = b.0 in
-      let high : last_end 0 (take 32 here) ≤ from + (scope_limit r - from) = b.1 in
-      (low, omega arith))
 
 limit-by-within : (most : ℕ) (ending : Option Ending) (held : Offsets) → ((n : ℕ) → set.contains held n ≡ true → n < most) → ((e : Ending) → ending ≡ Some e → e.size ≤ most) → limit_by ending held
     ≤ most

@@ -1,13 +1,13 @@
 -- Each PDU that a sender sends or hears lowers the work that remains, also if the outbox can't read
 -- its data.
-use Rattle.std.proofs.Common.{◌≡◌, inl, inr, ◌⊎◌, ℕ, zero, suc, ◌+◌, ◌-◌, ◌*◌, ◌<◌, ◌≤◌, min, Bool, true, false, not, List, [], ◌∷◌, Option, Some, None, refl, sym, ap, subst, ◌∙◌, arith, ◌==◌, ◌&&◌, ◌||◌, nat_lt, if◌then◌else◌}
+use Rattle.std.proofs.Common.{◌≡◌, ℕ, ◌+◌, ◌-◌, ◌*◌, ◌<◌, ◌≤◌, min, Bool, true, false, not, List, [], ◌∷◌, Option, Some, None, refl, sym, ap, subst, ◌∙◌, arith, ◌==◌, ◌&&◌, ◌||◌, nat_lt, if◌then◌else◌}
 use Rattle.std.specs.FinSet as set
 use Rattle.std.specs.Cmp.{nat_cmp_total}
-use Rattle.std.proofs.lemmas.Bool.{false≢true, ltb-true, le-leb, lt-ltb, and_parts, and_from, cond_both, cases_lt}
-use Rattle.cfdp_extents.specs.Offsets.{Offsets, range}
+use Rattle.std.proofs.lemmas.Bool.{false≢true, ltb-true, cond_both}
+use Rattle.cfdp_extents.specs.Offsets.{range}
 use Rattle.cfdp_extents.specs.Front.{IsFront}
 use Rattle.cfdp_extents.specs.Terms.{front_of}
-use Rattle.cfdp_extents.proofs.CallerLemmas.{contains-range, front-is}
+use Rattle.cfdp_extents.proofs.CallerLemmas.{front-is}
 use Rattle.cfdp_directives.specs.declared.pdu.codes.Acknowledged.TheVariants as acknowledged
 use Rattle.cfdp_directives.specs.declared.user.telling.Outcome.{Outcome}
 use Rattle.cfdp_directives.specs.Pdu.Codes.{no_error}
@@ -22,58 +22,9 @@ use Rattle.cfdp_sender.specs.InFile.{IsInFile}
 use Rattle.cfdp_sender.specs.Due.{sender_due, ack_first, phase_due, prompt_first, data_due, rest_due, sender_says}
 use Rattle.cfdp_sender.specs.Steps.{SenderAfter, closed, sender_sends, hearing, hears_ack, asks, asks_all, asks_in, sender_hears_finished}
 use Rattle.cfdp_entity.specs.Steps.{sender_after}
-use Rattle.link_sim.specs.Work.{count_below, content_work, eof_due_work, eof_work, sender_work}
-
--- ---- counts of offsets
-one_or_none : (b : Bool) → (if b then 1 else 0) ≤ 1
-one_or_none b = cond_both b 1 0 (λ n. n ≤ 1) (λ _. omega arith) (λ _. omega arith)
-
-pub count-within : (held : Offsets) (n : ℕ) → count_below held n ≤ n
-unfolding count_below
-count-within held zero = omega arith
-count-within held (suc n) = omega (arith, count-within held n, one_or_none (set.contains held n))
-
-fewer : (a b : Bool) → (b ≡ true → a ≡ true) → (if b then 1 else 0) ≤ (if a then 1 else 0)
-fewer true b h = one_or_none b
-fewer false true h = absurd (false≢true (h refl))
-fewer false false h = omega arith
-
-count-subset : (s t : Offsets) (n : ℕ) → ((k : ℕ) → set.contains t k ≡ true → set.contains s k ≡ true) → count_below t n ≤ count_below s n
-unfolding count_below
-count-subset s t zero h = omega arith
-count-subset s t (suc n) h = omega (arith, count-subset s t n h, fewer (set.contains s n) (set.contains t n) (h n))
-
-count-less : (s t : Offsets) (n k : ℕ) → ((j : ℕ) → set.contains t j ≡ true → set.contains s j ≡ true) → k < n → set.contains s k ≡ true → set.contains t k ≡ false → count_below t n + 1
-    ≤ count_below s n
-unfolding count_below
-count-less s t zero k h l in_s out = absurd (omega arith)
-count-less s t (suc n) k h l in_s out = elim (cases k n l) [
-  | inl here ↦ omega (
-    arith,
-    count-subset s t n h,
-    ap {B = ℕ} (λ b. if b then 1 else 0) (ap (set.contains s) (sym here) ∙ in_s),
-    ap {B = ℕ} (λ b. if b then 1 else 0) (ap (set.contains t) (sym here) ∙ out),
-  )
-  | inr below ↦ omega (arith, count-less s t n k h below in_s out, fewer (set.contains s n) (set.contains t n) (h n))
-]
-  where
-    cases : (k n : ℕ) → k < suc n → (k ≡ n) ⊎ (k < n)
-    cases k n l = elim (cases_lt k n) [ inl below ↦ inr below | inr past ↦ inl (omega arith) ]
-
-not_both : (a b : Bool) → b ≡ true → (a && not b) ≡ false
-not_both a true e = elim a as (λ a. (a && false) ≡ false) [ true ↦ refl | false ↦ refl ]
-not_both a false e = absurd (false≢true e)
-
-first_in : (start end : ℕ) → start < end → set.contains (range start end) start ≡ true
-first_in start end some = contains-range start end start ∙ and_from _ _ (le-leb start start (omega arith)) (lt-ltb start end some)
-
--- a range taken off whose first offset is there
-count-taken : (s : Offsets) (n start end : ℕ) → start < end → start < n → set.contains s start ≡ true → count_below (set.difference s (range start end)) n + 1 ≤ count_below s n
-count-taken s n start end some l here =
-    count-less s (set.difference s (range start end)) n start
-    (λ j h. (and_parts (set.contains s j) _ (sym (set.contains-difference nat_cmp_total s (range start end) j) ∙ h)).0)
-    l here
-    (set.contains-difference nat_cmp_total s (range start end) start ∙ not_both (set.contains s start) (set.contains (range start end) start) (first_in start end some))
+use Rattle.cfdp_endings.specs.Dues.{count_below}
+use Rattle.cfdp_endings.proofs.Counts.{count-taken, count-within, first_in}
+use Rattle.link_sim.specs.Work.{content_work, eof_due_work, eof_work, sender_work}
 
 -- ---- what is sent
 some_is : {X : Type 0} (x y : X) → Some x ≡ Some y → y ≡ x
