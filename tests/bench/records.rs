@@ -8,7 +8,7 @@
 use crate::bench::{Bench, played, unknown};
 use crate::words::{number, octets, tell_octets, text};
 use cfdp_directives::{Addressing, Outcome};
-use journal_records::{Journal, JournalRecord, ReadError, batch_of, read_journal};
+use journal_records::{JournalRecord, JournalText, ReadError, batch_of, read_journal};
 use std::alloc::{AllocError, Global};
 
 /// Plays a transcript.
