@@ -63,7 +63,7 @@ fn tell_error(error: &ReadError, out: &mut String) -> Result<(), AllocError> {
     write!(out, " {error}\n")
 }
 
-fn tell_journal(journal: &Journal, len: usize, out: &mut String) -> Result<(), AllocError> {
+fn tell_journal(journal: &JournalText, len: usize, out: &mut String) -> Result<(), AllocError> {
     for record in &journal.records {
         tell_record(record, out)?;
     }
