@@ -3,6 +3,7 @@ pub mod Asking
 pub mod Hearing
 pub mod LastLines
 pub mod Shown
+pub mod Closings
 pub mod Ranges
 pub mod Rounds
 pub mod Denying

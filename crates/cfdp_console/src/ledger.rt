@@ -1,5 +1,8 @@
 //! What is known of the transactions of a station: those that are open, and the last that were
 //! closed.
+ghost use Rattle.std.specs.Prelude.{◌≡◌, ◌⊎◌, ◌↔◌, [], IfSome, is_none, true};
+ghost use Rattle.cfdp_console.specs.Closings.{AreOthers, Closes, IsKeptOf, making_room};
+
 use crate::passed::Traffic;
 use cfdp_header::TransactionId;
 use indexmap::IndexMap;
@@ -99,7 +102,9 @@ pub struct Ledger {
 
 impl Ledger {
     /// Returns a ledger before the first transaction of the entity `own`.
-    pub fn new(alloc: Global, own: u64) -> Ledger {
+    pub fn new(alloc: Global, own: u64) -> Ledger
+        ensures { (result.closed.items ≡ []) × (result.closings ≡ 0) }
+    {
         Ledger {
             alloc,
             own,
@@ -118,17 +123,24 @@ impl Ledger {
     }
 
     /// Returns the transaction of this id, if it is one of the last that were closed.
-    pub fn closed_one(&self, id: TransactionId) -> Option<&Closed> {
+    pub fn closed_one(&self, id: TransactionId) -> Option<&Closed>
+        ensures none { (is_none result ≡ true) ↔ AreOthers id self.now.closed.items }
+        ensures one { IfSome result (λ one. one.now.id ≡ id) }
+    {
         self.closed.iter().find(|closed| closed.id == id)
     }
 
     /// Returns the last transactions that were closed, the first one first.
-    pub fn closed(&self) -> &VecDeque<Closed> {
+    pub fn closed(&self) -> &VecDeque<Closed>
+        ensures { result.now ≡ self.now.closed }
+    {
         &self.closed
     }
 
     /// Returns the number of the one that was closed last; 0 if none was.
-    pub fn closings(&self) -> u64 {
+    pub fn closings(&self) -> u64
+        ensures { result ≡ self.now.closings }
+    {
         self.closings
     }
 
@@ -199,8 +211,12 @@ impl Ledger {
         }
     }
 
-    /// Notes that the transaction is over, and how it ended.
-    pub fn ends(&mut self, id: TransactionId, ending: TransferEnd) {
+    /// Notes that the transaction is over, and how it ended. One that is over already is not noted
+    /// again, unless it is open again.
+    pub fn ends(&mut self, id: TransactionId, ending: TransferEnd)
+        ensures once { (self.new ≡ self.old) ⊎ Closes id ending self.old self.new }
+        ensures new { AreOthers id self.old.closed.items → Closes id ending self.old self.new }
+    {
         if self.closed_one(id).is_some() && !self.open.contains_key(&id) {
             return;
         }
@@ -209,15 +225,13 @@ impl Ledger {
             None => nothing(self.alloc, self.own, id),
         };
         self.closings = self.closings.saturating_add(1);
-        if self.closed.len() >= MOST_CLOSED {
-            let _ = self.closed.pop_front();
-        }
-        let _ = self.closed.push_back(Closed {
+        let one = Closed {
             number: self.closings,
             id,
             known,
             ending,
-        });
+        };
+        keep(&mut self.closed, one);
     }
 
     /// What is known of a transaction, which is nothing if it is new; `None` if there is no
@@ -228,6 +242,23 @@ impl Ledger {
             Ok(entry) => Some(entry.or_insert(nothing(alloc, own, id))),
             Err(_) => None,
         }
+    }
+}
+
+/// Keeps a transaction that was closed as the last one, if there is memory for it.
+fn keep(closed: &mut VecDeque<Closed>, one: Closed)
+    ensures { IsKeptOf one closed.old.items closed.new.items }
+{
+    make_room(closed);
+    let _ = closed.push_back(one);
+}
+
+/// Drops the first of them if no more are kept.
+fn make_room(closed: &mut VecDeque<Closed>)
+    ensures { closed.new.items ≡ making_room closed.old.items }
+{
+    if closed.len() >= MOST_CLOSED {
+        let _ = closed.pop_front();
     }
 }
 
