@@ -33,7 +33,7 @@ RUNNING = (
     "cfdp_command_line",
     "cfdp_control",
     "cfdp_datagrams",
-    "cfdp_journal",
+    "cfdp_log",
     "cfdp_operator",
     "cfdp_service",
     "cfdp_spool",
