@@ -1,7 +1,7 @@
 //! Two stations of CFDP, class 2, the frames between them, and what may happen to both: the delivery
 //! theorem is the contract of [`World`] and [`run`].
 //!
-//! Tested by `tests/transcripts/world.txt` and `tests/transcripts/failing.txt`.
+//! Tested by `tests/rows/` and `tests/random_scripts.py`, through the program above.
 #![tactic(auto)]
 
 mod event;

@@ -1,5 +1,5 @@
--- Two stations in service over such a link, each of which may restart: what is done at either, one
--- thing after another.
+-- Two stations in service over a link that keeps no order, each of which may restart: what is done
+-- at either, one thing after another.
 use Rattle.std.specs.FinMap.{get}
 use Rattle.std.specs.Prelude.{◌≡◌, ◌≢◌, ◌⊎◌, ◌<◌, ◌≤◌, ◌+◌, ◌%◌, ℕ, List, [], ◌∷◌, ◌++◌, length, map, slice_get, Some, None, Result, Ok, Err, true, ⊤}
 use Rattle.std.proofs.Common.{inl, inr}

@@ -1,4 +1,5 @@
-//! The law, the contract of a function that does nothing.
+//! What is open ends, also if a station restarts: a law, the contract of a function that does
+//! nothing.
 ghost use Rattle.std.specs.Prelude.{◌≡◌, ◌≤◌, ℕ, List};
 ghost use Rattle.cfdp_header.specs.Files.{FileMap};
 ghost use Rattle.cfdp_entity.specs.Entity.{EntityState};

@@ -1,4 +1,5 @@
-//! The laws, each the contract of a function that does nothing.
+//! What two stations in service do, and what is promised of it: laws, each the contract of a
+//! function that does nothing.
 ghost use Rattle.std.specs.Prelude.{◌≡◌, ◌+◌, ◌<◌, ◌≤◌, ◌%◌, ◌++◌, ℕ, List, [], length, None};
 ghost use Rattle.std.specs.Prelude.{Option, IsTrue, true};
 ghost use Rattle.aos_frame.specs.Counts.{frame_counts};
@@ -83,7 +84,7 @@ pub fn a_turn_in_part_ends_early<W: PeerWire>()
         × (new.station ≡ last.station) }
 {}
 
-/// What a station does for a wish in service is what this crate says of it, if a record is sending
+/// What a station does for a wish in service is what `Serving` says of it, if a record is sending
 /// the file that is wished, or none is left that has its name: whatever the file has then that was
 /// looked for, if it is as long as the outbox found it.
 pub fn what_is_wished_is_fulfilled()

@@ -1,4 +1,5 @@
-//! The laws, each the contract of a function without a body.
+//! What holds of stations that resume, call by call: laws, each the contract of a function without
+//! a body.
 ghost use Rattle.std.specs.Prelude.{◌≡◌, ◌≤◌, ℕ, Bool, List, [], Option};
 ghost use Rattle.cfdp_header.specs.Files.{FileMap};
 ghost use Rattle.cfdp_directives.specs.Pdu.Content.{Content};

@@ -1,4 +1,5 @@
-//! The laws, each the contract of a function that does nothing.
+//! What is promised of stations in service that resume: laws, each the contract of a function that
+//! does nothing.
 ghost use Rattle.std.specs.Prelude.{◌≡◌, ◌++◌, ◌+◌, ◌<◌, ℕ, List, None, Contains, length, take};
 ghost use Rattle.aos_frame.specs.declared.config.Lane.{Lane};
 ghost use Rattle.cfdp_header.specs.Files.{FileMap};
@@ -61,7 +62,7 @@ pub fn a_station_may_resume_at_any_time<W: PeerWire>()
 /// number of times: after anything that was done at either, one thing after another.
 ///
 /// All is as in
-/// [`stations_keep_the_promise_in_any_order`](promises::stations_keep_the_promise_in_any_order). A
+/// [`stations_keep_the_promise_in_any_order`](crate::stations_keep_the_promise_in_any_order). A
 /// station that resumes must do so as `ResumesFrom` says. Its inbox goes on then: in each life that
 /// a start began, through all times that the station resumed, the inbox is what it was as that life
 /// began, overwritten by the files of the puts that the station completed in it.

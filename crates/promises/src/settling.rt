@@ -1,4 +1,4 @@
-//! The law, the contract of a function that does nothing.
+//! How many events a settling may have: a law, the contract of a function that does nothing.
 ghost use Rattle.std.specs.Prelude.{◌+◌, ◌≤◌, ℕ, List};
 ghost use Rattle.cfdp_header.specs.Files.{FileMap};
 ghost use Rattle.link_sim.specs.Running.{Led};

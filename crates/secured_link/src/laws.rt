@@ -115,11 +115,11 @@ pub fn what_is_sealed_are_the_frames_of_a_station<W: Wire, K: Keeper>()
 
 /// What a station in service receives over a secured wire are copies of frames that the other
 /// station made in any of its lives, each near the one of its lane before it, whatever the network
-/// does and whoever else sends. It is the premise on what arrives (`Comes`) in the laws of `promises`. This
-/// holds if what was accepted was not forged, if few frames were lost in a row (`Accepts`), and if
-/// what was sealed are frames of the other station in their order (`AreKept`), as
-/// [`what_is_sealed_are_the_frames_of_a_station`] shows. `TookLast` holds if nothing was received
-/// yet, and goes on.
+/// does and whoever else sends. It is the premise on what arrives (`Comes`) in the laws of
+/// `promises`. This holds if what was accepted was not forged, if few frames were lost in a row
+/// (`Accepts`), and if what was sealed are frames of the other station in their order (`AreKept`),
+/// as [`what_is_sealed_are_the_frames_of_a_station`] shows. `TookLast` holds if nothing was
+/// received yet, and goes on.
 pub fn secured_wires_bring_copies<W: Wire, K: Keeper>()
     ensures { (link : LinkConfig) (theirs old new : EndKept) (all : List Numbered) (next count : ℕ)
         (before after : PortState (SecuredState W))
@@ -132,10 +132,10 @@ pub fn secured_wires_bring_copies<W: Wire, K: Keeper>()
 {}
 
 /// Two stations in service over secured wires are two stations in service over any link, and go on
-/// to be: whatever arrives, and whichever station restarts. So all that `promises` says holds
-/// for them. Nothing is asked of the datagrams that arrive, except what `IsAccepted` says of those
-/// that are accepted. A station that restarts must go on with its sequence numbers; nothing is
-/// asked of the number that it accepted last.
+/// to be: whatever arrives, and whichever station restarts. So all that module `in_service` of
+/// `promises` says holds for them. Nothing is asked of the datagrams that arrive, except what
+/// `IsAccepted` says of those that are accepted. A station that restarts must go on with its
+/// sequence numbers; nothing is asked of the number that it accepted last.
 pub fn service_over_secured_wires_is_service<W: PeerWire, K: Keeper>()
     ensures so_far { (c : Setup) (files : Side → FileMap) (now : SecuredPair W)
         → HaveServedSecured W.steps K.calls c files now
