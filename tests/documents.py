@@ -1,5 +1,5 @@
 """What the documents show, name and count: README.md beside the program, pages, headings, files,
-octets that no station sent; and which crates stand on which."""
+octets that no station sent; which crates stand on which, and what their types are called."""
 import glob
 import os
 import re
@@ -40,6 +40,10 @@ RUNNING = (
     "cfdp_watch",
 )
 SIMULATOR = "link_sim"
+# A type that a crate has for others, and the one name that two crates give (docs/DECISIONS.md, "A
+# name has one meaning").
+TYPE = r"(?m)^pub (?:struct|enum|trait|type) (\w+)"
+OF_TWO = {"HeldFolder"}
 COMMANDS = ([], ["sim"], ["dump"], ["loop"], ["station"], ["ask"])
 
 # What docs/PROOFS.md says of each group of questions, in the order of the transcripts: their verb,
@@ -204,6 +208,33 @@ def direction_mistakes():
             yield f"{crate} stands on {SIMULATOR}: a running station may not"
 
 
+def pictured_mistakes():
+    """Crates that the picture in docs/ARCHITECTURE.md lacks, and names there that are no crates."""
+    crates = set(re.findall(r"(?m)^(\w+)(?: \w+)?:", text_of("crates.txt")))
+    section = text_of("docs/ARCHITECTURE.md").split("\n## The crates\n")[1].split("\n## ")[0]
+    words = set(re.findall(r"[a-z]\w*", " ".join(re.findall(r"(?m)^    .*", section))))
+    for crate in sorted(crates - words):
+        yield f"docs/ARCHITECTURE.md, \"The crates\", doesn't have {crate}"
+    for word in sorted({it for it in words if "_" in it} - crates):
+        yield f"docs/ARCHITECTURE.md, \"The crates\", has {word}, which is no crate"
+
+
+def type_mistakes():
+    """Names of types that two crates give, each to a type of its own."""
+    given = {}
+    for lib in sorted(glob.glob("crates/*/src/lib.rt", root_dir=TOP)):
+        crate = lib.split("/")[1]
+        sources = sorted(glob.glob(f"crates/{crate}/src/**/*.rt", root_dir=TOP, recursive=True))
+        own = set(re.findall(TYPE, "\n".join(text_of(it) for it in sources)))
+        text = text_of(lib)
+        named = re.findall(r"\w+", " ".join(re.findall(r"(?ms)^pub use (.*?);", text)))
+        for name in own & {*named, *re.findall(TYPE, text)}:
+            given.setdefault(name, []).append(crate)
+    for name, crates in sorted(given.items()):
+        if len(crates) > 1 and name not in OF_TWO:
+            yield f"{name} is a type of its own in each of {', '.join(crates)}"
+
+
 def length_mistakes(program):
     """Helps that don't fit on two screens of 50 lines and 80 columns. A usage may be wider."""
     for words, text in helps(program, (*COMMANDS, ["play"])):
@@ -277,3 +308,5 @@ def all_mistakes(program):
     yield "the documents: their words", word_mistakes(program)
     yield "the documents: octets that no station sent", count_mistakes()
     yield "the crates: a running station without the simulator", direction_mistakes()
+    yield "the crates: their picture", pictured_mistakes()
+    yield "the crates: one type for one name", type_mistakes()
