@@ -10,7 +10,7 @@ use crate::noting_inbox::{LibraryJournal, NotingInbox};
 use cfdp_directives::Addressing;
 use cfdp_header::TransactionId;
 use cfdp_station::{Config, EntityConfig, Station, StationConfig, Valid};
-use cfdp_store::{FolderOutbox, NameRule};
+use cfdp_store::{FolderOutbox, NameRule, folder_of};
 use ghost_list::GhostList;
 use libc_folders::{HeldFolder, SystemFiles, is_held};
 use std::alloc::{AllocError, Global};
@@ -18,7 +18,7 @@ use std::io::ErrorKind;
 use std::snapshot::Snapshot;
 use transfer_journal::{
     JournalError, JournalPlace, JournalSetup, Owner, PublishRules, Restored, Survey, SurveyError,
-    folder_of, publish_again, read_survey, restore,
+    publish_again, read_survey, restore,
 };
 
 /// How many times as long as from one note of progress to the next it is until it is tried again to

@@ -32,7 +32,7 @@ module _ {S : Type 0} {R : Read S} {W : Write S} where
     pub came : new.came ≡ old.came
 
   -- One call attends to a visitor, which asks this: its next request asks that and may ask it, and
-  -- if nothing is asked, no request is lost but one that is denied (`Heard` of the console). The
+  -- if nothing is asked, no request is lost but one that is denied (`Heard`). The
   -- request is one of the octets that came over the visitor's stream.
   pub record Attends (guard : Guard) (old new : Visitor S R W) (asked : Option Ask) : Type 0 where
     pub number : new.number ≡ old.number

@@ -1,7 +1,8 @@
 //! The last lines of a log.
 ghost use Rattle.std.specs.Prelude.{◌≡◌, ◌<◌, ◌^◌, ◌∷◌, ◌++◌, [], IsFalse, IsTrue, IfOk};
 ghost use Rattle.std.specs.Prelude.{length, string_bytes};
-ghost use Rattle.cfdp_console.specs.LastLines.{IsTold, KeepsOctet, ShowsLast, ShowsNext, ShowsOrLeaves};
+ghost use Rattle.cfdp_console.specs.LastLines.{IsTold, KeepsOctet, ShowsLast, ShowsNext};
+ghost use Rattle.cfdp_console.specs.LastLines.{ShowsOrLeaves};
 
 use ghost_list::GhostList;
 use std::alloc::{AllocError, Global};

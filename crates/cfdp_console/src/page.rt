@@ -244,7 +244,7 @@ td.time { white-space: nowrap; font-variant-numeric: tabular-nums; }
         <table id="rounds">
           <thead><tr><th scope="col" class="num">Round</th><th scope="col">Time</th>
             <th scope="col" class="num many">NAKs</th><th scope="col" class="num many">Octets</th>
-            <th scope="col" class="num many">RangeSummary</th><th scope="col">Requested</th></tr></thead>
+            <th scope="col" class="num many">Ranges</th><th scope="col">Requested</th></tr></thead>
           <tbody></tbody>
         </table>
       </div>

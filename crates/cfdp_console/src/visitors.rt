@@ -1,6 +1,7 @@
 //! All connections of the console.
 ghost use Rattle.std.specs.Prelude.{◌≡◌, ◌↔◌, ◌<◌, ◌≤◌, vec_len, IsTrue};
-ghost use Rattle.cfdp_console.specs.Serving.{AreKnownOrNew, AttendsAt, AttendsInTurn, most_visitors};
+ghost use Rattle.cfdp_console.specs.Serving.{AreKnownOrNew, AttendsAt, AttendsInTurn};
+ghost use Rattle.cfdp_console.specs.Serving.{most_visitors};
 ghost use Rattle.cfdp_console.specs.Serving.{staying};
 
 use crate::answer::WebAnswer;

@@ -1,6 +1,7 @@
 //! Lines, as their octets come.
 ghost use Rattle.std.specs.Prelude.{◌≡◌, ◌≢◌, ◌==◌, ◌+◌, ◌≤◌, ◌++◌, ◌∷◌, [], length, vec_len};
-ghost use Rattle.std.specs.Prelude.{false, true, None, Ok, IfNone, IfOk, IsFalse, IsTrue, OnErr, OnOk};
+ghost use Rattle.std.specs.Prelude.{false, true, None, Ok, IfNone, IfOk, IsFalse, IsTrue, OnErr};
+ghost use Rattle.std.specs.Prelude.{OnOk};
 
 use crate::line::{LineFault, text_of};
 use cfdp_report::cut_at_first;
@@ -149,7 +150,8 @@ impl LineBuffer {
         }
     }
 
-    /// Drops what lies here. If the beginning of a line is dropped, its rest is dropped as it comes.
+    /// Drops what lies here. If the beginning of a line is dropped, its rest is dropped as it
+    /// comes.
     pub fn clear(&mut self)
         ensures none { self.new.octets.items ≡ [] }
         ensures all { came_to self.new ≡ came_to self.old }

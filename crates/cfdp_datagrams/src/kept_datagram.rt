@@ -1,5 +1,6 @@
 //! A datagram that waits until there is room for it.
-ghost use Rattle.std.specs.Prelude.{◌≡◌, ◌<◌, length, false, true, None, Some, IfNone, IfOk, IfSome};
+ghost use Rattle.std.specs.Prelude.{◌≡◌, ◌<◌, length, false, true, None, Some, IfNone, IfOk};
+ghost use Rattle.std.specs.Prelude.{IfSome};
 
 use cfd_bits::put_bytes;
 use std::alloc::{AllocError, Global};

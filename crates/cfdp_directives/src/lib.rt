@@ -4,7 +4,7 @@
 //!
 //! ```
 //! match cfdp_directives::decode(octets) {
-//!     Ok((header, Pdu::Nak { requests, .. })) => println!(rt; "{} ranges of {:?}", requests.len(), header.id)?,
+//!     Ok((_, Pdu::Nak { requests, .. })) => println!(rt; "{} ranges", requests.len())?,
 //!     Ok((header, _)) => println!(rt; "{} octets of content", header.length)?,
 //!     Err(refused) => println!(rt; "refused: {}", refused.name())?,
 //! }

@@ -1,5 +1,5 @@
 //! Sets of numbers, kept as the ranges that they are made of: the received offsets of a file with
-//! the gaps between them, and the transactions that an entity discarded.
+//! the gaps between them, and the transactions that an entity forgot.
 //!
 //! ```rust
 //! let mut held = Extents::new(alloc);

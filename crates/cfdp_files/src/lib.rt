@@ -19,7 +19,7 @@ mod trial;
 pub use held_folder::HeldFolder;
 pub use inbox_files::InboxFiles;
 pub use locks::{LockError, LockedFile, lock};
-pub use plain_file::{Use, folder_of, is_same_folder, lies_in, open_plain};
+pub use plain_file::{Use, is_same_folder, lies_in, open_plain};
 pub use secret_file::{SecretError, read_keys, read_secret};
 pub use state_file::{Reservation, StateError, Wanted};
 pub use trial::{TrialError, try_folder};

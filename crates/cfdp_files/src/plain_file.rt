@@ -1,4 +1,5 @@
 //! Plain files, opened by their names, in whose place somebody may have put something else.
+use cfdp_store::folder_of;
 use std::fs::{File, Metadata};
 use std::io::ErrorKind;
 use std::os::unix::fs::MetadataExt;
@@ -84,14 +85,5 @@ pub fn lies_in(rt: &HostRuntime, path: &str, folder: &str) -> bool {
             )
         }
         Err(_) => false,
-    }
-}
-
-/// Returns the folder in which a path names something.
-pub fn folder_of(path: &str) -> &str {
-    match path.rsplit_once('/') {
-        Some(("", _)) => "/",
-        Some((folder, _)) => folder,
-        None => ".",
     }
 }

@@ -17,8 +17,8 @@ const MODE_BITS: u32 = 0o7777;
 /// The bits of a file's mode that give others than its owner access.
 const OTHERS: u32 = 0o077;
 
-/// Why a file has no secret that can be used. Its text is what follows the file's path in a message,
-/// and says nothing of what the file has.
+/// Why a file has no secret that can be used. Its text is what follows the file's path in a
+/// message, and says nothing of what the file has.
 #[derive(Drop)]
 pub enum SecretError {
     /// The system refused.

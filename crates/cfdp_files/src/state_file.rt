@@ -5,11 +5,12 @@ ghost use Rattle.std.specs.Prelude.{OnErr, OnOk, min, unwrap_or};
 
 use crate::least_number::{least_number, microseconds};
 use crate::locks::{LockError, lock};
-use crate::plain_file::{Identity, Use, check_plain, folder_of, open_plain};
+use crate::plain_file::{Identity, Use, check_plain, open_plain};
 use crate::reserving::{ACCEPTED, Beginning, Reserved};
 use crate::state_text::{parse, text_of};
 use aos_frame::FRAME_COUNTS;
 use cfdp_report::cause_text;
+use cfdp_store::folder_of;
 use std::alloc::AllocError;
 use std::fs::{File, Metadata};
 use std::io::{ErrorKind, Read, Write};
@@ -147,8 +148,8 @@ impl<'a> StateFile<'a> {
         self.write(reserved)
     }
 
-    /// Notes that the peer's frame with this sequence number is handed on, and so many more ahead of
-    /// it, if that wasn't noted before.
+    /// Notes that the peer's frame with this sequence number is handed on, and so many more ahead
+    /// of it, if that wasn't noted before.
     ///
     /// # Errors
     ///
@@ -486,7 +487,8 @@ impl<'a> Reservation<'a> {
     }
 
     /// Notes that the peer's secured frame with this sequence number, which must be greater than
-    /// those before, is handed on. Of most numbers that is noted before, so that nothing is written.
+    /// those before, is handed on. Of most numbers that is noted before, so that nothing is
+    /// written.
     ///
     /// # Errors
     ///
@@ -509,12 +511,13 @@ impl<'a> Reservation<'a> {
     }
 
     /// Notes that no later frame was handed on, so that a station that is restarted refuses none
-    /// that it hasn't received. It should be called once a second in which frames were accepted, and
-    /// at the end.
+    /// that it hasn't received. It should be called once a second in which frames were accepted,
+    /// and at the end.
     ///
     /// # Errors
     ///
-    /// `StateError` if that can't be noted; then up to 1,024 later frames are refused after a crash.
+    /// `StateError` if that can't be noted; then up to 1,024 later frames are refused after a
+    /// crash.
     pub fn settles_accepted(&mut self) -> Result<(), StateError>
         ensures exact { OnOk result (IfSome self.new.file (λ file.
             file.reserved.accepted ≡ self.old.accepted)) }

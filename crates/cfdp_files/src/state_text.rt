@@ -1,5 +1,6 @@
 //! The text of a file of reserved numbers.
-ghost use Rattle.std.specs.Prelude.{◌≡◌, ℕ, ◌++◌, ◌∷◌, ◌^◌, ◌<◌, List, Option, Some, IfOk, IfSome, IsSomeAnd, decimal, string_bytes};
+ghost use Rattle.std.specs.Prelude.{◌≡◌, ℕ, ◌++◌, ◌∷◌, ◌^◌, ◌<◌, List, Option, Some, IfOk, IfSome};
+ghost use Rattle.std.specs.Prelude.{IsSomeAnd, decimal, string_bytes};
 ghost use Rattle.cfdp_files.specs.declared.reserving.Reserved.{Reserved as AReserved};
 ghost use Rattle.cfdp_files.specs.StateText.{AreNumbers, Says, first_text, lines_text, state_text};
 

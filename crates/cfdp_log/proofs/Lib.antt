@@ -1,2 +1,2 @@
-pub mod JournalLines
+pub mod LogLines
 mod Losing

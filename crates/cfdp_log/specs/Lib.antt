@@ -1,4 +1,4 @@
-pub mod Journal
+pub mod Log
 pub mod Kept
 pub mod Lossy
 pub mod Queue

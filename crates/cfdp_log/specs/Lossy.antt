@@ -1,7 +1,7 @@
 -- What becomes of the lines of a log that loses some.
 use Rattle.std.specs.Prelude.{◌≡◌, ◌≢◌, ◌⊎◌, ◌++◌, ◌∷◌, ℕ, Bool, true, List, [], codes, decimal}
 use Rattle.cfdp_console.specs.LastLines.{HasNoEnd}
-use Rattle.cfdp_log.specs.Journal.Totals.{counted}
+use Rattle.cfdp_log.specs.Log.Totals.{counted}
 use Rattle.cfdp_log.specs.Queue.{QueueState, logged_by}
 
 -- It ends by words that say how many lines were lost, in plain text or as the end of an object.

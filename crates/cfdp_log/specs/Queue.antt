@@ -1,7 +1,7 @@
 -- Lines that wait to be written, each of which must be kept whole or lost whole.
 use Rattle.std.specs.Prelude.{◌≡◌, ◌⊎◌, ◌≤◌, ◌+◌, ◌++◌, ℕ, Bool, List, Option, length, true}
 use Rattle.std.specs.Io.KnownBytes.{Appends}
-use Rattle.cfdp_log.specs.Journal.Totals.{counted}
+use Rattle.cfdp_log.specs.Log.Totals.{counted}
 
 -- what was written so far, and what waits after that: whole lines, but that a beginning of the
 -- first may be written; and how many lines were lost that nothing reports yet

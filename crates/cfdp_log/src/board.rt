@@ -1,9 +1,9 @@
 //! What a station's console shows of it.
 use crate::details::{DetailsSetup, details_of};
-use crate::journal::noted::{Noted, NotedTopics};
-use crate::journal::style::unix_time;
-use crate::journal::totals::{CONDITIONS, Totals};
 use crate::pdu_watch::SeenPdu;
+use crate::station_log::noted::{Noted, NotedTopics};
+use crate::station_log::style::unix_time;
+use crate::station_log::totals::{CONDITIONS, Totals};
 use cfdp_console::{
     Details, Dropped, Failed, FrameCounts, Ledger, LinkStatus, Names, NoteShown, OpenPhases,
     Samples, ShownCounters, Status, Told, TransferEnd, Way,

@@ -1,5 +1,5 @@
 //! The details of one transaction of a running station.
-use crate::journal::overview::timer_word;
+use crate::station_log::overview::timer_word;
 use cfdp_console::{Details, Ledger, Parts, RangeSummary, TimerShown, Traffic};
 use cfdp_directives::Limits;
 use cfdp_header::TransactionId;

@@ -6,20 +6,20 @@
 
 mod board;
 mod details;
-mod journal;
 mod kept_log;
 mod line_queue;
 mod lossy_log;
 mod pdu_watch;
+mod station_log;
 
 pub use board::{Board, BoardSetup, Moment};
-pub use journal::noted::{Noted, NotedTopics};
-pub use journal::overview::{Clock, Form, Waiting};
-pub use journal::stopped::Stopped;
-pub use journal::style::{Log, Style};
-pub use journal::totals::{Failures, Totals};
-pub use journal::{LogSetup, StationLog};
 pub use kept_log::KeptLog;
 pub use line_queue::{LineQueue, MOST_WAITING};
 pub use lossy_log::LossyLog;
 pub use pdu_watch::{PduWatch, SeenPdu, SeenPdus};
+pub use station_log::noted::{Noted, NotedTopics};
+pub use station_log::overview::{Clock, Form, Waiting};
+pub use station_log::stopped::Stopped;
+pub use station_log::style::{Log, Style};
+pub use station_log::totals::{Failures, Totals};
+pub use station_log::{LogSetup, StationLog};

@@ -5,10 +5,10 @@ ghost use Rattle.cfdp_console.specs.LastLines.{HasNoEnd};
 ghost use Rattle.cfdp_log.specs.Lossy.{HasLogged, KeepsMore, SaysLost};
 ghost use Rattle.cfdp_log.specs.Queue.{StaysLogged};
 
-use crate::journal::json::{begin_object, end_object};
-use crate::journal::line::{LINE_ROOM, add_time};
-use crate::journal::style::{Log, Style};
 use crate::line_queue::LineQueue;
+use crate::station_log::json::{begin_object, end_object};
+use crate::station_log::line::{LINE_ROOM, add_time};
+use crate::station_log::style::{Log, Style};
 use cfdp_exchange::Watched;
 use cfdp_report::cut_at_first;
 use ghost_list::GhostList;
@@ -286,8 +286,8 @@ impl Write for LossyLog<'_> {
     }
 }
 
-/// Adds to the beginning of a line, if all of that was kept. Returns `false` if the line is too long,
-/// there is no memory for it, or a part of it was lost before.
+/// Adds to the beginning of a line, if all of that was kept. Returns `false` if the line is too
+/// long, there is no memory for it, or a part of it was lost before.
 fn keeps(begun: &mut Vec<u8>, is_whole: bool, octets: &[u8]) -> bool
     ensures { IsTrue result → KeepsMore is_whole octets.now begun.old.items begun.new.items }
 {

@@ -1,5 +1,5 @@
-//! The operator of a station that runs: what is asked and commanded, what is answered and shown, and
-//! what is reported of files, of the link and of the peer, on standard error and in the log.
+//! The operator of a station that runs: what is asked and commanded, what is answered and shown,
+//! and what is reported of files, of the link and of the peer, on standard error and in the log.
 //!
 //! Tested by `tests/stations.py`, through the program above.
 #![tactic(auto)]

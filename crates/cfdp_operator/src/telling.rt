@@ -132,8 +132,8 @@ impl<'a> TellingInbox<'a> {
         })
     }
 
-    /// Returns such an inbox whose files are noted in a journal before they are published, and which
-    /// has these part files of an earlier run.
+    /// Returns such an inbox whose files are noted in a journal before they are published, and
+    /// which has these part files of an earlier run.
     ///
     /// # Errors
     ///

@@ -236,7 +236,8 @@ impl<O: Outbox, I: Inbox, W: Wire> Port<O, I, W> {
         answer
     }
 
-    /// Does what is asked of a transaction, as [`Station::request`] says, which is shown if it does.
+    /// Does what is asked of a transaction, as [`Station::request`] says, which is shown if it
+    /// does.
     ///
     /// # Errors
     ///

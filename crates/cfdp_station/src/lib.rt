@@ -47,7 +47,7 @@
 //! [`put`](Station::put), [`cancel`](Station::cancel), [`suspend`](Station::suspend) and the other
 //! requests may come at any time. The crate `station_example` is a program that does all of this.
 //!
-//! Tested by `tests/transcripts/stations.txt` and `tests/transcripts/setups.txt`.
+//! Tested by `tests/transcripts/setups.txt` and, through the program, by `tests/rows/`.
 #![tactic(auto)]
 
 mod amiss;

@@ -51,6 +51,6 @@ pub use memory::{MemoryInbox, MemoryOutbox};
 pub use name_rule::{NameRule, is_folder_name};
 pub use no_inbox::NoInbox;
 pub use outbox::{Outbox, SeekingOutbox, SteadyOutbox};
-pub use part_names::{part_path, remove_parts};
+pub use part_names::{folder_of, part_name, part_path, remove_parts};
 pub use resuming::ResumingInbox;
 pub use stored::Stored;

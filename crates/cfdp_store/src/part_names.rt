@@ -1,4 +1,4 @@
-//! The names of part files, and the part files of stations that died.
+//! The names of part files, the part files of stations that died, and the folder of a path.
 ghost use Rattle.std.specs.Fs.{dir_entry_name};
 ghost use Rattle.std.specs.Prelude.{◌≡◌, true};
 ghost use Rattle.cfdp_store.specs.PartNames.{IsPartName};
@@ -12,14 +12,33 @@ use std::io;
 /// What the name of a part file begins with. After it come the two numbers of its transaction.
 const PART: &str = ".part-";
 
+/// Returns the name of the part file of a transaction.
+///
+/// # Errors
+///
+/// `AllocError` if memory runs out.
+pub fn part_name(alloc: Global, id: TransactionId) -> Result<String, AllocError> {
+    let TransactionId { source, number } = id;
+    format!(in alloc; "{PART}{source}-{number}")
+}
+
 /// Returns the path of the part file of a transaction in this folder.
 ///
 /// # Errors
 ///
 /// `AllocError` if memory runs out.
 pub fn part_path(alloc: Global, folder: &str, id: TransactionId) -> Result<String, AllocError> {
-    let TransactionId { source, number } = id;
-    format!(in alloc; "{folder}/{PART}{source}-{number}")
+    let name = part_name(alloc, id)?;
+    format!(in alloc; "{folder}/{name}")
+}
+
+/// Returns the folder in which a path names something.
+pub fn folder_of(path: &str) -> &str {
+    match path.rsplit_once('/') {
+        Some(("", _)) => "/",
+        Some((folder, _)) => folder,
+        None => ".",
+    }
 }
 
 /// Removes the part files of a folder, as far as they can be removed, except for those with these

@@ -1,6 +1,7 @@
 // The octets staged for one transaction.
 ghost use Rattle.std.specs.FinMap as map;
-ghost use Rattle.std.specs.Prelude.{◌≡◌, ℕ, ◌+◌, ◌-◌, ◌<◌, ◌≤◌, ◌^◌, ◌++◌, [], ◌∷◌, length, slice_index};
+ghost use Rattle.std.specs.Prelude.{◌≡◌, ℕ, ◌+◌, ◌-◌, ◌<◌, ◌≤◌, ◌^◌, ◌++◌, [], ◌∷◌, length};
+ghost use Rattle.std.specs.Prelude.{slice_index};
 ghost use Rattle.std.specs.Prelude.{true, false, vec_len, vec_capacity, Some, IfOk, IfSome, IfNone};
 ghost use Rattle.std.specs.Prelude.{OnErr, OnOk};
 ghost use Rattle.cfdp_store.specs.Pieces.{octets_of};

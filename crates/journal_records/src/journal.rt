@@ -40,8 +40,8 @@ pub fn batch_of(alloc: Global, records: &[JournalRecord]) -> Result<Vec<u8>, All
 ///
 /// # Errors
 ///
-/// `BatchFault` if the text of a whole batch is wrong, with its first fault; `Memory` if memory runs
-/// out.
+/// `BatchFault` if the text of a whole batch is wrong, with its first fault; `Memory` if memory
+/// runs out.
 pub fn read_journal(alloc: Global, bytes: &[u8]) -> Result<JournalText, ReadError>
     ensures found { IfOk result (λ j. (lists : List (List JournalRecord))
         × IsJournal bytes.now lists (drop j.end bytes.now)

@@ -1,5 +1,5 @@
-//! Two stations of CFDP, class 2, the frames between them, and what may happen to both: the delivery
-//! theorem is the contract of [`World`] and [`run`].
+//! Two stations of CFDP, class 2, the frames between them, and what may happen to both: the
+//! delivery theorem is the contract of [`World`] and [`run`].
 //!
 //! Tested by `tests/rows/` and `tests/random_scripts.py`, through the program above.
 #![tactic(auto)]

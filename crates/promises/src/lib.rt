@@ -6,8 +6,8 @@
 //! - `settling`: how many events a settling may have at most, known before it begins.
 //! - `endings`: what is open ends, also if a station restarts.
 //! - `resuming`: what is open ends, and recovery rests on what it rested on, also if a station that
-//!   was killed goes on with the transactions of its journal. (The promise of delivery is then a law
-//!   of `any_order`.)
+//!   was killed goes on with the transactions of its journal. The promise of delivery is then a
+//!   law of `any_order`.
 //! - `in_service`: what two stations in service do, turn by turn, is what is promised over any
 //!   link, and what it means for the files of a spool.
 //! - `resuming_in_service`: the same of stations in service that resume.

@@ -4,7 +4,7 @@
 //! Simulated worlds (`link_sim`) and programs that run a real station share these, so that such a
 //! program doesn't depend on the simulator.
 //!
-//! Tested by `tests/transcripts/world.txt` and `tests/rows/`, through the crates above.
+//! Tested by `tests/rows/`, through the crates above.
 #![tactic(auto)]
 
 mod recover_error;

@@ -3,6 +3,7 @@ ghost use Rattle.std.specs.Prelude.{◌≡◌, ◌+◌, ◌<◌, ◌≤◌, leng
 
 use crate::place::{JournalError, JournalPlace};
 use batches::{HEAD_LEN, first_batch};
+use cfdp_store::folder_of;
 use journal_records::{JournalRecord, batch_of};
 use std::alloc::{AllocError, Global};
 use std::fs::OpenFile;
@@ -117,8 +118,8 @@ impl<F: Write + OpenFile + Drop> JournalFile<F> {
     ///
     /// # Errors
     ///
-    /// What the system says, or `FileTooLarge` if it would have more than 2^28 octets. The batch may
-    /// be there in part: nothing must be appended after it.
+    /// What the system says, or `FileTooLarge` if it would have more than 2^28 octets. The batch
+    /// may be there in part: nothing must be appended after it.
     pub fn append(&mut self, alloc: Global, records: &[JournalRecord]) -> io::Result<()> {
         let batch = batch_of(alloc, records)?;
         let len = grown(self.len, batch.as_slice())?;
@@ -167,13 +168,4 @@ fn grown(len: u64, octets: &[u8]) -> io::Result<u64>
 /// Sees that the folder of the journal keeps what names were given in it.
 fn sync_folder<P: JournalPlace>(place: &P) -> io::Result<()> {
     place.open(folder_of(place.path()))?.sync_all()
-}
-
-/// Returns the folder in which a path names something.
-pub fn folder_of(path: &str) -> &str {
-    match path.rsplit_once('/') {
-        Some(("", _)) => "/",
-        Some((folder, _)) => folder,
-        None => ".",
-    }
 }

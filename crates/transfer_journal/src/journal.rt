@@ -142,8 +142,8 @@ impl<P: JournalPlace> TransferJournal<P> {
     ///
     /// # Errors
     ///
-    /// Why it can't be written. It isn't begun then: the journal of an earlier run stays, or the new
-    /// one, which says the same.
+    /// Why it can't be written. It isn't begun then: the journal of an earlier run stays, or the
+    /// new one, which says the same.
     pub fn starts<O: Outbox, I: Inbox>(
         &self,
         station: &Station<O, I>,

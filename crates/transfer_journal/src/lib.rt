@@ -1,6 +1,6 @@
-//! The journal of a station: what it notes of its transactions while it runs, and what a later start
-//! takes from that, so that they go on. Where it lies, and the calls of the system for that, are
-//! its user's: a `JournalPlace`.
+//! The journal of a station: what it notes of its transactions while it runs, and what a later
+//! start takes from that, so that they go on. Where it lies, and the calls of the system for that,
+//! are its user's: a `JournalPlace`.
 //!
 //! ```
 //! let journal = TransferJournal::new(alloc, place, setup);
@@ -32,7 +32,6 @@ mod reading;
 mod restoring;
 mod survey;
 
-pub use file::folder_of;
 pub use journal::{JournalSetup, TransferJournal};
 pub use journal_records::Owner;
 pub use kept::{KeptEnd, KeptReceiver, KeptSender, KeptTransfer, PendingEnd, Publication};

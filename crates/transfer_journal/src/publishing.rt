@@ -40,7 +40,8 @@ pub fn publish_again<F: Files>(
     }
 }
 
-/// Publishes the file of a transaction if that was about to be done, and notes how it ended by that.
+/// Publishes the file of a transaction if that was about to be done, and notes how it ended by
+/// that.
 fn publish_one<F: Files>(
     files: &F,
     alloc: Global,

@@ -17,6 +17,7 @@ use crate::kept::{KeptEnd, KeptReceiver, KeptSender, KeptTransfer, Publication};
 use cfdp_directives::Addressing;
 use cfdp_header::TransactionId;
 use cfdp_receiver::ReceiverPhase;
+use cfdp_store::part_name;
 use indexmap::IndexSet;
 use journal_records::{JournalRecord, Owner, RangeList};
 use std::alloc::{AllocError, Global};
@@ -113,8 +114,7 @@ impl Survey {
                 && let KeptEnd::Receives(receiver) = &transfer.end
                 && receiver.phase == ReceiverPhase::Receiving
             {
-                let TransactionId { source, number } = transfer.id;
-                let _ = names.insert(format!(in self.alloc; ".part-{source}-{number}")?)?;
+                let _ = names.insert(part_name(self.alloc, transfer.id)?)?;
             }
         }
         Ok(names)

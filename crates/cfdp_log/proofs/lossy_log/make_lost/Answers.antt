@@ -1,6 +1,6 @@
 use Rattle.std.proofs.Common.{◌++◌, ◌∷◌, [], inl, inr}
 use Rattle.std.specs.Prelude.{codes, decimal}
-use Rattle.cfdp_log.proofs.JournalLines.{ok-map}
+use Rattle.cfdp_log.proofs.LogLines.{ok-map}
 use Rattle.cfdp_log.proofs.Losing.{written_after, written_between}
 use Rattle.cfdp_log.proofs.lossy_log.make_lost.Goals as goal
 

@@ -11,8 +11,8 @@ use Rattle.cfdp_report.specs.declared.report.answer.Answer.{Answer}
 use Rattle.cfdp_report.specs.declared.report.answer.Answer.TheVariants.{Refused, Ended}
 use Rattle.cfdp_report.specs.Report.Answers.{answer_name}
 use Rattle.cfdp_report.specs.Report.Lines.{answer_text, count_line, indication_line, indication_text}
-use Rattle.cfdp_log.specs.declared.journal.style.Style.{Style}
-use Rattle.cfdp_log.specs.declared.journal.style.Style.TheVariants.{Plain, Text, Json}
+use Rattle.cfdp_log.specs.declared.station_log.style.Style.{Style}
+use Rattle.cfdp_log.specs.declared.station_log.style.Style.TheVariants.{Plain, Text, Json}
 
 -- what a report answers for a put that is refused
 abbrev pub refusal_answer : PutError → Answer

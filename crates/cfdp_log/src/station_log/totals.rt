@@ -1,8 +1,8 @@
 //! What a station has done for its user, in numbers.
 ghost use Rattle.std.specs.Prelude.{◌≡◌, ◌||◌, ◌&&◌, not, true};
-ghost use Rattle.cfdp_log.specs.Journal.Totals.{counted, is_failed_reception, is_refused};
-ghost use Rattle.cfdp_log.specs.Journal.Totals.{is_failed_send, is_short};
-ghost use Rattle.cfdp_log.specs.Journal.Totals.{with_failures};
+ghost use Rattle.cfdp_log.specs.Log.Totals.{counted, is_failed_reception, is_refused};
+ghost use Rattle.cfdp_log.specs.Log.Totals.{is_failed_send, is_short};
+ghost use Rattle.cfdp_log.specs.Log.Totals.{with_failures};
 ghost use Rattle.cfdp_report.specs.Exit.{run_exit};
 ghost use Rattle.cfdp_report.specs.Report.Lines.{is_own_completion};
 

@@ -5,10 +5,10 @@ use Rattle.std.specs.Io.KnownBytes.{Appends, Keeps}
 use Rattle.std.proofs.KnownBytes.{Appends-kept}
 use Rattle.std.specs.Result.{OnOk}
 use Rattle.cfdp_report.specs.Report.Lines.{count_line}
-use Rattle.cfdp_log.specs.declared.journal.style.Style.{Style}
-use Rattle.cfdp_log.specs.declared.journal.style.Style.TheVariants.{Plain, Text, Json}
-use Rattle.cfdp_log.specs.Journal.Lines.{Entry, Answers, Tells, Completes, Notes, IsDressed, WritesAs, WritesDressed, count_body}
-use Rattle.cfdp_log.specs.Journal.Written.{JournalState, Logs}
+use Rattle.cfdp_log.specs.declared.station_log.style.Style.{Style}
+use Rattle.cfdp_log.specs.declared.station_log.style.Style.TheVariants.{Plain, Text, Json}
+use Rattle.cfdp_log.specs.Log.Lines.{Entry, Answers, Tells, Completes, Notes, IsDressed, WritesAs, WritesDressed, count_body}
+use Rattle.cfdp_log.specs.Log.Written.{JournalState, Logs}
 
 -- ---- results
 pub ok-map : {A E : Type 0} (r : Result A E) (P Q : Type 0) → (P → Q) → OnOk r P → OnOk r Q

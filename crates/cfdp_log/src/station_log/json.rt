@@ -7,7 +7,7 @@
 ghost use Rattle.std.specs.Io.KnownBytes.{Appends};
 ghost use Rattle.std.specs.Prelude.{◌∷◌, ◌++◌, [], OnOk, codes};
 
-use crate::journal::style::Log;
+use crate::station_log::style::Log;
 use cfdp_directives::{Condition, Indication};
 use cfdp_exchange::Note;
 use cfdp_header::TransactionId;

@@ -6,10 +6,10 @@ use Rattle.cfdp_entity.specs.declared.error.PutError.{PutError}
 use Rattle.cfdp_report.specs.Report.Lines.{is_own_completion}
 use Rattle.cfdp_service.specs.declared.wish.Reply.{Reply}
 use Rattle.cfdp_service.specs.declared.wish.Reply.TheVariants.{Put, Change}
-use Rattle.cfdp_log.specs.declared.journal.style.Style.{Style}
-use Rattle.cfdp_log.specs.declared.journal.totals.Totals.{Totals}
-use Rattle.cfdp_log.specs.Journal.Lines.{Entry, Answers, Notes, WritesAs, refusal_answer}
-use Rattle.cfdp_log.specs.Journal.Totals.{counted, is_failed_reception, is_failed_send, is_refused, is_short}
+use Rattle.cfdp_log.specs.declared.station_log.style.Style.{Style}
+use Rattle.cfdp_log.specs.declared.station_log.totals.Totals.{Totals}
+use Rattle.cfdp_log.specs.Log.Lines.{Entry, Answers, Notes, WritesAs, refusal_answer}
+use Rattle.cfdp_log.specs.Log.Totals.{counted, is_failed_reception, is_failed_send, is_refused, is_short}
 
 -- whose log it is and how it is written; what was written so far, if that is known; whether the
 -- writer has failed; and what was done, in numbers

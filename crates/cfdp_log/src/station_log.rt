@@ -9,17 +9,17 @@ pub mod style;
 pub mod telling;
 pub mod totals;
 
-use crate::journal::line::LINE_ROOM;
-use crate::journal::noted::NotedTopics;
-use crate::journal::overview::{
+use crate::station_log::line::LINE_ROOM;
+use crate::station_log::noted::NotedTopics;
+use crate::station_log::overview::{
     Clock, Figures, Form, Waiting, shown_alone, shown_open, write_counters, write_list,
 };
-use crate::journal::register::{Hour, Register, copied, is_one_of, told_id};
-use crate::journal::style::{Log, Style, unix_time};
-use crate::journal::telling::{
+use crate::station_log::register::{Hour, Register, copied, is_one_of, told_id};
+use crate::station_log::style::{Log, Style, unix_time};
+use crate::station_log::telling::{
     Why, tell_change, tell_end, tell_file, tell_indication, tell_note, tell_refusal, tell_rekey,
 };
-use crate::journal::totals::Totals;
+use crate::station_log::totals::Totals;
 use cfdp_console::Open;
 use cfdp_directives::Indication;
 use cfdp_exchange::{Exchange, Note};
@@ -62,7 +62,7 @@ pub struct StationLog<'a, V: Write + Drop> {
 }
 
 impl<'a, V: Write + Drop> Model for StationLog<'a, V> {
-    ghost use Rattle.cfdp_log.specs.Journal.Written.{JournalState};
+    ghost use Rattle.cfdp_log.specs.Log.Written.{JournalState};
 
     ghost Value = { JournalState };
 
@@ -86,11 +86,11 @@ impl<'a, V: Write + Drop> StationLog<'a, V> {
     ghost use Rattle.std.specs.Io.KnownBytes.{Keeps};
     ghost use Rattle.std.specs.Prelude.{◌≡◌, ◌||◌, IfOk, Some, false};
     ghost use Rattle.cfdp_report.specs.Exit.{run_exit};
-    ghost use Rattle.cfdp_log.specs.Journal.Lines.{Answers, Completes, Notes, Tells};
-    ghost use Rattle.cfdp_log.specs.Journal.Lines.{refusal_answer};
-    ghost use Rattle.cfdp_log.specs.Journal.Totals.{with_failures};
-    ghost use Rattle.cfdp_log.specs.Journal.Written.{AnswersPut, CountsPut, CountsTold, Logs};
-    ghost use Rattle.cfdp_log.specs.Journal.Written.{begins};
+    ghost use Rattle.cfdp_log.specs.Log.Lines.{Answers, Completes, Notes, Tells};
+    ghost use Rattle.cfdp_log.specs.Log.Lines.{refusal_answer};
+    ghost use Rattle.cfdp_log.specs.Log.Totals.{with_failures};
+    ghost use Rattle.cfdp_log.specs.Log.Written.{AnswersPut, CountsPut, CountsTold, Logs};
+    ghost use Rattle.cfdp_log.specs.Log.Written.{begins};
 
     /// Returns a log before anything was given to it. The log goes to this writer.
     ///

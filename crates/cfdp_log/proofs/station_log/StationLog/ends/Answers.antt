@@ -1,6 +1,6 @@
-use Rattle.cfdp_log.specs.Journal.Lines.{Completes}
-use Rattle.cfdp_log.proofs.JournalLines.{logs_kept}
-use Rattle.cfdp_log.proofs.journal.StationLog.ends.Goals as goal
+use Rattle.cfdp_log.specs.Log.Lines.{Completes}
+use Rattle.cfdp_log.proofs.LogLines.{logs_kept}
+use Rattle.cfdp_log.proofs.station_log.StationLog.ends.Goals as goal
 
 pub returns-clause-logs : goal.returns-clause-logs
 returns-clause-logs g c =

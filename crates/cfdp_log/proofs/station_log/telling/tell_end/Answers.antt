@@ -1,5 +1,5 @@
-use Rattle.cfdp_log.proofs.JournalLines.{end_told}
-use Rattle.cfdp_log.proofs.journal.telling.tell_end.Goals as goal
+use Rattle.cfdp_log.proofs.LogLines.{end_told}
+use Rattle.cfdp_log.proofs.station_log.telling.tell_end.Goals as goal
 
 pub returns-in_ok-write_count-in-Text : goal.returns-in_ok-write_count-in-Text
 returns-in_ok-write_count-in-Text g c =

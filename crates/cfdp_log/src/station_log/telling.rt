@@ -1,19 +1,19 @@
 //! How the log of a station reports each thing, by its style. The writer isn't flushed.
 ghost use Rattle.std.specs.Io.KnownBytes.{Appends};
 ghost use Rattle.std.specs.Prelude.{◌≡◌, OnOk, Some};
-ghost use Rattle.cfdp_log.specs.Journal.Lines as lines;
-ghost use Rattle.cfdp_log.specs.Journal.Lines.{Answers, Completes, IsDressed, Notes, Tells};
-ghost use Rattle.cfdp_log.specs.Journal.Lines.{WritesAs, answer_body};
+ghost use Rattle.cfdp_log.specs.Log.Lines as lines;
+ghost use Rattle.cfdp_log.specs.Log.Lines.{Answers, Completes, IsDressed, Notes, Tells};
+ghost use Rattle.cfdp_log.specs.Log.Lines.{WritesAs, answer_body};
 ghost use Rattle.cfdp_report.specs.Report.Lines.{answer_text, count_line, indication_line};
 ghost use Rattle.cfdp_report.specs.Report.Lines.{indication_text};
 
-use crate::journal::json::{
+use crate::station_log::json::{
     PlainText, begin_object, end_object, write_change_object, write_count_object,
     write_file_object, write_indication_object, write_note_object, write_put_object,
 };
-use crate::journal::line::{add_names, add_time, write_line};
-use crate::journal::overview::{Figures, Form, write_counter_members, write_counters};
-use crate::journal::style::{Log, Style};
+use crate::station_log::line::{add_names, add_time, write_line};
+use crate::station_log::overview::{Figures, Form, write_counter_members, write_counters};
+use crate::station_log::style::{Log, Style};
 use cfdp_directives::{Condition, Indication};
 use cfdp_exchange::Note;
 use cfdp_report::{Answer, Answered, Name, condition_words, write_answer, write_indications};

@@ -1,9 +1,9 @@
 //! What an operator asks of a station: its open transactions, and its counters.
-use crate::journal::json::JsonName;
-use crate::journal::noted::NotedTopics;
-use crate::journal::register::{Known, Register};
-use crate::journal::stopped::Stopped;
-use crate::journal::totals::{CONDITIONS, Failures, Totals};
+use crate::station_log::json::JsonName;
+use crate::station_log::noted::NotedTopics;
+use crate::station_log::register::{Known, Register};
+use crate::station_log::stopped::Stopped;
+use crate::station_log::totals::{CONDITIONS, Failures, Totals};
 use cfdp_console::Way;
 use cfdp_exchange::{Exchange, REFUSALS, refusal_name};
 use cfdp_header::TransactionId;

@@ -2,7 +2,7 @@
 ghost use Rattle.std.specs.Io.KnownBytes.{Appends};
 ghost use Rattle.std.specs.Prelude.{◌≡◌, ◌-◌, ◌++◌, ◌∷◌, [], ℕ, List, OnOk, length, take};
 
-use crate::journal::style::Log;
+use crate::station_log::style::Log;
 use cfdp_directives::Condition;
 use cfdp_report::{Name, condition_name};
 use cfdp_service::PutNames;
