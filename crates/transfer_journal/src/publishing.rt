@@ -80,7 +80,7 @@ fn publish_part<F: Files>(
     id: TransactionId,
     file: &Publication,
 ) -> io::Result<()>
-    ensures allowed { OnOk result (Allows rules.names file.now.name.items) }
+    ensures allowed { OnOk result (Allows rules.entry.names file.now.name.items) }
 {
     if !rules.names.allows(file.name.as_slice()) {
         return Err(io::Error::from(ErrorKind::InvalidFilename));
