@@ -1,5 +1,5 @@
 -- Exported: sums of octets by their places.
-use Rattle.std.proofs.Common.{◌≡◌, ℕ, zero, suc, ◌+◌, ◌-◌, ◌*◌, ◌/◌, ◌%◌, ◌^◌, ◌<◌, ◌≤◌, true, false, cond, leb, ltb, List, [], ◌∷◌, ◌++◌, length, get_or, take, drop, refl, sym, ap, ◌∙◌, arith, length-take, length-drop, zero-add, add-zero, inl, inr}
+use Rattle.std.proofs.Common.{◌≡◌, ℕ, zero, suc, ◌+◌, ◌-◌, ◌*◌, ◌/◌, ◌%◌, ◌^◌, ◌<◌, ◌≤◌, true, false, cond, leb, ltb, List, [], ◌∷◌, ◌++◌, length, get_or, take, drop, refl, sym, ap, ◌∙◌, arith, length-take, length-drop, take-add, zero-add, add-zero, inl, inr}
 use Rattle.std.specs.Prelude.{fold, sum_by, count_by}
 use Rattle.std.specs.List.{AllByRecursion}
 use Rattle.std.proofs.Common.{add-mul}
@@ -8,7 +8,7 @@ use Rattle.std.proofs.lemmas.Bool.{cases_lt, le-leb, lt-leb, lt-ltb, le-ltb}
 use Rattle.std.specs.Int.{w32, from_be_bytes}
 use Rattle.std.specs.Simd.{first_chunks}
 use Rattle.std.proofs.lemmas.List.{take_more, take-append-drop, drop-drop, take_all, drop_all}
-use Rattle.std.proofs.lemmas.List.Sums.{sum_by-cons, sum_by_more}
+use Rattle.std.proofs.lemmas.List.Sums.{sum_by-cons, sum_by_more, sum_by-append}
 use Rattle.crc.specs.Pieces.{Piece, covers, IsOf, Cuts}
 use Rattle.cfdp_directives.specs.Pdu.Checksum.{word_sum, modular_checksum, weight, sum_at, added, sum_of}
 
@@ -50,7 +50,7 @@ one_more old offset i sum place b m bytes h p e is k =
 -- ---- four octets at once
 
 -- four places on, octets count the same
-again : (offset n : ℕ) (bytes : List ℕ) → sum_at (4 * n + offset) bytes ≡ sum_at offset bytes
+pub again : (offset n : ℕ) (bytes : List ℕ) → sum_at (4 * n + offset) bytes ≡ sum_at offset bytes
 unfolding sum_at
 again offset n [] = refl
 again offset n (b ∷ bytes) =
@@ -80,21 +80,42 @@ word_more old i sum m words h e four k =
     let same : sum_at 0 (get_or words i []) ≡ m = one_word (get_or words i []) four ∙ sym k in
     rw (e, cut, same) (omega arith)
 
--- whole words, and the octets after them
-cut_words : (k : ℕ) (bytes : List ℕ) → k * 4 ≤ length bytes → sum_at 0 bytes ≡ words_sum (first_chunks 4 k bytes) + sum_at 0 (drop (k * 4) bytes)
-cut_words zero bytes h = sym (zero-add (sum_at 0 bytes))
-cut_words (suc k) bytes h =
-    let front = take 4 bytes in
-    let back = drop 4 bytes in
-    let len : length front ≡ 4 = omega (arith, length-take 4 bytes) in
-    let whole : front ++ back ≡ bytes = take-append-drop 4 bytes in
+-- whole chunks of words, and the octets after them
+pub cut_chunks : (n m k : ℕ) (bytes : List ℕ) → n ≡ 4 * m → k * n ≤ length bytes → sum_at 0 bytes ≡ words_sum (first_chunks n k bytes) + sum_at 0 (drop (k * n) bytes)
+cut_chunks n m zero bytes e h =
+    let start : zero * n ≡ 0 = omega arith in
+    rw start (sym (zero-add (sum_at 0 bytes)))
+cut_chunks n m (suc k) bytes e h =
+    let more : n + k * n ≡ suc k * n = omega arith in
+    let front = take n bytes in
+    let back = drop n bytes in
+    let len : length front ≡ n = omega (arith, length-take n bytes) in
+    let whole : front ++ back ≡ bytes = take-append-drop n bytes in
     let joined : sum_at 0 (front ++ back) ≡ sum_at 0 front + sum_at (0 + length front) back = sum_at-append 0 front back in
-    let place : sum_at (0 + length front) back ≡ sum_at 0 back = rw len (again 0 1 back) in
-    let ih = cut_words k back (omega (arith, length-drop 4 bytes)) in
-    let first : words_sum (first_chunks 4 (suc k) bytes) ≡ sum_at 0 front + words_sum (first_chunks 4 k back) = sum_by-cons (λ (word : List ℕ). sum_at 0 word) front (first_chunks 4 k back) in
-    let rest : drop (k * 4) back ≡ drop (suc k * 4) bytes = drop-drop (k * 4) 4 bytes ∙ ap (λ (n : ℕ). drop n bytes) (omega arith) in
-    let behind : sum_at 0 (drop (k * 4) back) ≡ sum_at 0 (drop (suc k * 4) bytes) = ap (sum_at 0) rest in
+    let far : 0 + length front ≡ 4 * m + 0 = omega arith in
+    let place : sum_at (0 + length front) back ≡ sum_at 0 back = rw far (again 0 m back) in
+    let ih = cut_chunks n m k back e (omega (arith, length-drop n bytes)) in
+    let first : words_sum (first_chunks n (suc k) bytes) ≡ sum_at 0 front + words_sum (first_chunks n k back) = sum_by-cons (λ (word : List ℕ). sum_at 0 word) front (first_chunks n k back) in
+    let rest : drop (k * n) back ≡ drop (suc k * n) bytes = drop-drop (k * n) n bytes ∙ ap (λ (j : ℕ). drop j bytes) more in
+    let behind : sum_at 0 (drop (k * n) back) ≡ sum_at 0 (drop (suc k * n) bytes) = ap (sum_at 0) rest in
     sym (ap (sum_at 0) whole) ∙ omega (arith, joined, place, ih, first, behind)
+
+-- more blocks
+pub run_more : (old at end sum more : ℕ) (blocks : List (List ℕ)) → at ≤ end → sum ≡ (old + words_sum (take at blocks)) % 2 ^ 32
+    → more ≡ (sum + words_sum (take (end - at) (drop at blocks))) % 2 ^ 32 → more ≡ (old + words_sum (take end blocks)) % 2 ^ 32
+run_more old at end sum more blocks h e k =
+    let size : at + (end - at) ≡ end = omega arith in
+    let cut : take end blocks ≡ take at blocks ++ take (end - at) (drop at blocks) = ap (λ (n : ℕ). take n blocks) (sym size) ∙ take-add at (end - at) blocks in
+    let both : words_sum (take end blocks) ≡ words_sum (take at blocks) + words_sum (take (end - at) (drop at blocks)) =
+    ap (λ (bs : List (List ℕ)). words_sum bs) cut ∙ sum_by-append (λ (w : List ℕ). sum_at 0 w) (take at blocks) (take (end - at) (drop at blocks)) in
+    omega (arith, e, k, both)
+
+-- blocks or words, and the octets after them
+pub by_blocks : (k : ℕ) (bytes : List ℕ) → k * 16 ≤ length bytes → words_sum (first_chunks 16 k bytes) + sum_at 0 (drop (k * 16) bytes) ≡ sum_at 0 bytes
+by_blocks k bytes h = sym (cut_chunks 16 4 k bytes refl h)
+
+pub by_words : (k : ℕ) (bytes : List ℕ) → k * 4 ≤ length bytes → words_sum (first_chunks 4 k bytes) + sum_at 0 (drop (k * 4) bytes) ≡ sum_at 0 bytes
+by_words k bytes h = sym (cut_chunks 4 1 k bytes refl h)
 
 -- octets up to where a word begins, or up to the end, and the octets after them
 cut_front : (offset n : ℕ) (bytes : List ℕ) → (offset + n) % 4 ≡ 0 → n ≤ length bytes → sum_at offset bytes ≡ sum_at offset (take n bytes) + sum_at 0 (drop n bytes)
@@ -112,14 +133,11 @@ cut_all : (offset n : ℕ) (bytes : List ℕ) → length bytes ≤ n → sum_at 
 unfolding sum_at
 cut_all offset n bytes h = rw (take_all n bytes h, drop_all n bytes h) (sym (add-zero (sum_at offset bytes)))
 
--- octets up to where a word begins, whole words, and the octets after them
-pub by_words : (offset n k : ℕ) (bytes : List ℕ) → (n < length bytes → (offset + n) % 4 ≡ 0) → k * 4 ≤ length (drop n bytes) → sum_at offset (take n bytes)
-    + (words_sum (first_chunks 4 k (drop n bytes)) + sum_at 0 (drop (k * 4) (drop n bytes))) ≡ sum_at offset bytes
-by_words offset n k bytes at within =
-    let behind = cut_words k (drop n bytes) within in
+pub from_a_word : (offset n : ℕ) (bytes : List ℕ) → (n < length bytes → (offset + n) % 4 ≡ 0) → sum_at offset (take n bytes) + sum_at 0 (drop n bytes) ≡ sum_at offset bytes
+from_a_word offset n bytes at =
     elim (cases_lt n (length bytes)) [
-      | inl h ↦ let front = cut_front offset n bytes (at h) (omega arith) in omega (arith, behind, front)
-      | inr h ↦ let front = cut_all offset n bytes h in omega (arith, behind, front)
+      | inl h ↦ sym (cut_front offset n bytes (at h) (omega arith))
+      | inr h ↦ sym (cut_all offset n bytes h)
     ]
 
 -- ---- counted

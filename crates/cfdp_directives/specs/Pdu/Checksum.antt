@@ -1,7 +1,7 @@
 -- The checksum of a file. The modular one (CCSDS 727.0-B-5, 4.2.2): the file as words of four
 -- octets, the last filled with zeros, summed modulo 2^32. An octet at offset n counts
 -- 256^(3 - n mod 4) in its word. The other ones are checks of thirty-two bits (`crc/specs`).
-use Rattle.std.specs.Prelude.{ℕ, ◌+◌, ◌-◌, ◌*◌, ◌%◌, ◌^◌, List, [], ◌∷◌, fold, ◌==◌, if◌then◌else◌}
+use Rattle.std.specs.Prelude.{ℕ, ◌+◌, ◌-◌, ◌*◌, ◌%◌, ◌^◌, List, [], ◌∷◌, fold, slice_index, ◌==◌, if◌then◌else◌}
 use Rattle.crc.specs.declared.thirty_two.Crc32.TheVariants.{Proximity1, Castagnoli, Ieee}
 use Rattle.crc.specs.FileChecks.{crc32_of}
 use Rattle.cfdp_directives.specs.Pdu.Codes.{modular, proximity, castagnoli, ieee}
@@ -37,6 +37,12 @@ weight n = 256 ^ (3 - n % 4)
 unfoldable pub sum_at : ℕ → List ℕ → ℕ
 sum_at offset [] = 0
 sum_at offset (b ∷ bytes) = b * weight offset + sum_at (offset + 1) bytes
+
+-- what two lanes add: sums of the octets at even indices, and of those at odd indices, of words
+abbrev pub lane_sum : List ℕ → List ℕ → ℕ → ℕ
+lane_sum even odd n =
+    slice_index even n * 256 ^ 3 + slice_index odd n * 256 ^ 2
+    + slice_index even (n + 1) * 256 + slice_index odd (n + 1)
 
 -- the sum once a piece was added
 abbrev pub added : ℕ → Piece → ℕ
