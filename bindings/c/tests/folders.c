@@ -20,12 +20,6 @@ enum { MOST_FRAME = 2048, LOST = 7, LIMIT = 255, LONG = 5000000, FILESTORE = 4 }
 
 static const long TURNS = 1000000;
 
-
-static const uint8_t *octets_in(const char *text)
-{
-    return (const uint8_t *)text;
-}
-
 /* ---- files */
 
 static uint8_t octet_at(size_t at, uint32_t kind)
@@ -82,16 +76,14 @@ static cfdp_answer opened(cfdp_station *station, int number, const char *outbox,
 {
     cfdp_config config = config_of(number);
 
-    return cfdp_open_folders(station, &config, octets_in(outbox), strlen(outbox), octets_in(inbox),
-                             strlen(inbox));
+    return cfdp_open_folders(station, &config, outbox, strlen(outbox), inbox, strlen(inbox));
 }
 
 static cfdp_answer put(cfdp_station *station, const char *source, const char *destination)
 {
     cfdp_id id;
 
-    return cfdp_put(station, octets_in(source), strlen(source), octets_in(destination),
-                    strlen(destination), &id);
+    return cfdp_put(station, source, strlen(source), destination, strlen(destination), &id);
 }
 
 /* Whether a frame is lost: one of seven, by chance. */
@@ -224,12 +216,12 @@ static void memory_refused(cfdp_station *one)
     cfdp_file_info info = {7, 8};
     uint8_t room[CFDP_NAME] = {1};
 
-    IS(cfdp_add(one, octets_in("a"), 1, octets_in("b"), 1), CFDP_IN_FOLDERS);
-    IS(cfdp_remove_source(one, octets_in("a"), 1), CFDP_IN_FOLDERS);
+    IS(cfdp_add(one, "a", 1, "b", 1), CFDP_IN_FOLDERS);
+    IS(cfdp_remove_source(one, "a", 1), CFDP_IN_FOLDERS);
     IS(cfdp_file_count(one), 0);
     IS(cfdp_file(one, 0, &info, room, sizeof room), CFDP_IN_FOLDERS);
     IS(cfdp_read_file(one, 0, 0, room, 1), CFDP_IN_FOLDERS);
-    IS(cfdp_remove_file(one, octets_in("one"), 3), CFDP_IN_FOLDERS);
+    IS(cfdp_remove_file(one, "one", 3), CFDP_IN_FOLDERS);
     IS(info.size, 8);
     IS(room[0], 1);
     IS(is_file("in1/one", 1, 5), 1);
@@ -249,8 +241,7 @@ static void opening_refused(cfdp_station *one)
     IS(opened(&s, 1, "out1", "out1/one"), CFDP_NO_INBOX);
     IS(opened(&s, 1, "out1", "in1"), CFDP_INBOX_IN_USE);
     config.segment = 0;
-    IS(cfdp_open_folders(&s, &config, octets_in("out1"), 4, octets_in("in3"), 3),
-       CFDP_BAD_SEGMENT);
+    IS(cfdp_open_folders(&s, &config, "out1", 4, "in3", 3), CFDP_BAD_SEGMENT);
     IS(s.is_open, 0);
     cfdp_close(&s);
 }
@@ -340,8 +331,7 @@ static void link_refused(cfdp_station *one, cfdp_station *two)
     for (at = 0; at < FILES; at++) {
         snprintf(path, sizeof path, "out1/many%u", at);
         write_file(path, LEN, KIND + at);
-        IS(cfdp_put(one, octets_in(name), strlen(name), octets_in(name), strlen(name), &id),
-           CFDP_OK);
+        IS(cfdp_put(one, name, strlen(name), name, strlen(name), &id), CFDP_OK);
         if (at == 0)
             first = id;
     }

@@ -115,7 +115,7 @@ static void open_first(cfdp_station *one, uint64_t number)
 
     config.first_number = number;
     open_station(one, &config);
-    IS(cfdp_add(one, NAME, sizeof NAME, (const uint8_t *)&number, sizeof number), CFDP_OK);
+    IS(cfdp_add(one, NAME, sizeof NAME, &number, sizeof number), CFDP_OK);
 }
 
 static void open_second(cfdp_station *two)
@@ -338,7 +338,7 @@ static void stays_small(unsigned rounds, bool cancels)
         for (count = 0; count < PUTS; count++) {
             const uint64_t own = id.number;
 
-            IS(cfdp_put(&one, NAME, sizeof NAME, (const uint8_t *)&own, sizeof own, &id), CFDP_OK);
+            IS(cfdp_put(&one, NAME, sizeof NAME, &own, sizeof own, &id), CFDP_OK);
             if (cancels && count % 2 == 1)
                 IS(cfdp_cancel(&one, &id), CFDP_OK);
         }

@@ -19,11 +19,6 @@
 
 enum { MOST_FRAME = 2048, LOST = 7, LIMIT = 255, LONG = 50000, TURNS = 100000, STEP = 7 };
 
-static const uint8_t *octets_in(const char *text)
-{
-    return (const uint8_t *)text;
-}
-
 /* ---- files */
 
 static uint8_t octet_at(size_t at)
@@ -108,8 +103,8 @@ static cfdp_config config_of(int number)
 static cfdp_answer opened_with(cfdp_station *station, const cfdp_config *config, const char *inbox,
                                const char *journal)
 {
-    return cfdp_open_folders_journal(station, config, octets_in("out1"), 4, octets_in(inbox),
-                                     strlen(inbox), octets_in(journal), strlen(journal), 1);
+    return cfdp_open_folders_journal(station, config, "out1", 4, inbox, strlen(inbox), journal,
+                                     strlen(journal), 1);
 }
 
 static cfdp_answer opened(cfdp_station *station, int number)
@@ -121,7 +116,7 @@ static cfdp_answer opened(cfdp_station *station, int number)
 
 static cfdp_answer put(cfdp_station *station, const char *name, cfdp_id *id)
 {
-    return cfdp_put(station, octets_in(name), strlen(name), octets_in(name), strlen(name), id);
+    return cfdp_put(station, name, strlen(name), name, strlen(name), id);
 }
 
 static cfdp_journal_info journal_of(const cfdp_station *station)

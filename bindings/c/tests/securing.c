@@ -175,8 +175,8 @@ static void a_file(void)
     peer.sends = config.receives;
     peer.receives = config.sends;
     want(cfdp_open(&one, &config) == CFDP_OK && cfdp_open(&two, &peer) == CFDP_OK, "both open");
-    want(cfdp_add(&one, (const uint8_t *)"a", 1, octets, FILE_LEN) == CFDP_OK, "added");
-    want(cfdp_put(&one, (const uint8_t *)"a", 1, (const uint8_t *)"b", 1, &id) == CFDP_OK, "put");
+    want(cfdp_add(&one, "a", 1, octets, FILE_LEN) == CFDP_OK, "added");
+    want(cfdp_put(&one, "a", 1, "b", 1, &id) == CFDP_OK, "put");
     while (move(&one, &there, &two, &at_two) + move(&two, &back, &one, &at_one) > 0)
         ;
     want(cfdp_file_count(&two) == 1, "the file is there");
