@@ -86,22 +86,13 @@ static cfdp_answer put(cfdp_station *station, const char *source, const char *de
     return cfdp_put(station, source, strlen(source), destination, strlen(destination), &id);
 }
 
-/* Whether a frame is lost: one of seven, by chance. */
-static bool is_lost(void)
-{
-    static uint32_t state = 1;
-
-    state = state * 1664525 + 1013904223;
-    return (state >> 16) % LOST == 0;
-}
-
 static void pass_frames(cfdp_station *from, cfdp_station *to)
 {
     uint8_t frame[MOST_FRAME];
     size_t len = cfdp_frame_len(from);
 
     while (cfdp_transmit(from, frame, len) == CFDP_OK)
-        if (!is_lost())
+        if (!is_lost(LOST))
             cfdp_receive(to, frame, len);
 }
 

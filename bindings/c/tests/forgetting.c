@@ -102,9 +102,7 @@ static cfdp_config config_of(int number)
 
 static void open_station(cfdp_station *station, const cfdp_config *config)
 {
-    static const cfdp_station closed = CFDP_STATION_INIT;
-
-    *station = closed;
+    make_closed(station);
     IS(cfdp_open(station, config), CFDP_OK);
 }
 

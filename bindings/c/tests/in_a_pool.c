@@ -15,7 +15,6 @@
 
 enum { PUTS = 10000, AT_ONCE = 8, SENT_LEN = 3000, FILES = 4, LOST = 7, FRAME = 264 };
 
-
 static uint8_t octets[SENT_LEN];
 
 /* Station 1 or 2. What isn't answered is sent again as often as it takes. */
@@ -30,10 +29,9 @@ static cfdp_config config_of(int number)
 
 static void open_station(cfdp_station *station, int number)
 {
-    static const cfdp_station closed = CFDP_STATION_INIT;
     const cfdp_config config = config_of(number);
 
-    *station = closed;
+    make_closed(station);
     IS(cfdp_open(station, &config), CFDP_OK);
 }
 
@@ -61,15 +59,6 @@ static void put(cfdp_station *one, unsigned count)
     IS(cfdp_put(one, source, sizeof source, destination, sizeof destination, &id), CFDP_OK);
 }
 
-/* Whether a frame is lost: one of seven, by chance. */
-static bool is_lost(void)
-{
-    static uint32_t state = 1;
-
-    state = state * 1664525 + 1013904223;
-    return (state >> 16) % LOST == 0;
-}
-
 /* All that is due goes over, but what is lost. */
 static void pass(cfdp_station *from, cfdp_station *to)
 {
@@ -77,7 +66,7 @@ static void pass(cfdp_station *from, cfdp_station *to)
     cfdp_answer answer;
 
     while ((answer = cfdp_transmit(from, frame, sizeof frame)) == CFDP_OK)
-        if (!is_lost())
+        if (!is_lost(LOST))
             IS(cfdp_receive(to, frame, sizeof frame), CFDP_OK);
     IS(answer, CFDP_NOTHING);
 }
@@ -155,10 +144,8 @@ static void come_and_go(unsigned puts)
 int main(int argc, char **argv)
 {
     const unsigned puts = argc == 1 ? (unsigned)PUTS : (unsigned)strtoul(argv[1], NULL, 10);
-    size_t at;
 
-    for (at = 0; at < SENT_LEN; at++)
-        octets[at] = (uint8_t)(at * 7 + at / 256);
+    fill_octets(octets, sizeof octets);
     come_and_go(puts);
     IS(cfdp_pool_used(), 0);
     IS(cfdp_pool_refused(), 0);

@@ -135,15 +135,6 @@ struct seen {
     int complete[2], others[2], mistakes;
 };
 
-/* Whether a frame is lost: one of seven, by chance. */
-static bool is_lost(void)
-{
-    static uint32_t state = 1;
-
-    state = state * 1664525 + 1013904223;
-    return (state >> 16) % LOST == 0;
-}
-
 /* Frames pass from one to the other. The process is killed after so many, unless that is 0. */
 static void pass_frames(cfdp_station *from, cfdp_station *to, struct seen *seen, long last)
 {
@@ -151,7 +142,7 @@ static void pass_frames(cfdp_station *from, cfdp_station *to, struct seen *seen,
     const size_t len = cfdp_frame_len(from);
 
     while (cfdp_transmit(from, frame, len) == CFDP_OK) {
-        if (!is_lost())
+        if (!is_lost(LOST))
             IS(cfdp_receive(to, frame, len), CFDP_OK);
         if (++seen->frames == last) {
             fflush(stdout);
