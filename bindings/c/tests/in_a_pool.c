@@ -71,8 +71,8 @@ static void pass(cfdp_station *from, cfdp_station *to)
     IS(answer, CFDP_NOTHING);
 }
 
-/* How many transactions a station tells that went well; all that are over are forgotten. */
-static unsigned ended_well(cfdp_station *station)
+/* Forgets all transactions that are over. How many a station told that went well. */
+static unsigned forget_ended(cfdp_station *station)
 {
     cfdp_indication told;
     uint8_t names[CFDP_NAMES];
@@ -130,8 +130,8 @@ static void come_and_go(unsigned puts)
         IS(cfdp_tick(&two, now), CFDP_OK);
         pass(&one, &two);
         pass(&two, &one);
-        sent += ended_well(&one);
-        received += ended_well(&two);
+        sent += forget_ended(&one);
+        received += forget_ended(&two);
         came += take_files(&two);
     }
     IS(sent, puts);
