@@ -7,58 +7,20 @@
  * what is wrong, and ends with the number of mistakes. */
 #define _DEFAULT_SOURCE
 #include "checks.h"
+#include "files.h"
 
 #include <signal.h>
 #include <stdlib.h>
 #include <string.h>
 #include <sys/mman.h>
-#include <sys/resource.h>
 #include <sys/stat.h>
 #include <sys/wait.h>
 #include <unistd.h>
 
 enum { MOST_FRAME = 2048, LOST = 7, LIMIT = 255, LONG = 50000, TURNS = 100000, STEP = 7 };
+enum { KIND = 0 };
 
 /* ---- files */
-
-static uint8_t octet_at(size_t at)
-{
-    return (uint8_t)((at * 2654435761u) >> 13);
-}
-
-static void write_file(const char *path, size_t len)
-{
-    FILE *file = fopen(path, "wb");
-    size_t at;
-
-    IS(file != NULL, 1);
-    if (file == NULL)
-        return;
-    for (at = 0; at < len; at++)
-        putc(octet_at(at), file);
-    IS(fclose(file), 0);
-}
-
-static bool is_file(const char *path, size_t len)
-{
-    FILE *file = fopen(path, "rb");
-    size_t at = 0;
-    bool same = file != NULL;
-    int octet;
-
-    while (same && (octet = getc(file)) != EOF) {
-        same = at < len && octet == octet_at(at);
-        at++;
-    }
-    if (file != NULL)
-        fclose(file);
-    return same && at == len;
-}
-
-static bool is_there(const char *path)
-{
-    return access(path, F_OK) == 0;
-}
 
 /* Turns an octet of a file. */
 static void damage(const char *path, long at)
@@ -79,14 +41,10 @@ static void damage(const char *path, long at)
 /* Goes to an empty folder, below the one that was given, with those of both stations. */
 static void go_to(const char *root, const char *name)
 {
-    static const char *const folders[] = {"out1", "out2", "in1", "in2", "in3"};
-    size_t at;
-
     IS(chdir(root), 0);
     IS(mkdir(name, 0777), 0);
     IS(chdir(name), 0);
-    for (at = 0; at < sizeof folders / sizeof folders[0]; at++)
-        IS(mkdir(folders[at], 0777), 0);
+    IS(make_folders(), 1);
 }
 
 /* ---- stations */
@@ -247,7 +205,7 @@ static bool killed_after(struct seen *seen, long frames)
     cfdp_id next;
 
     memset(seen, 0, sizeof *seen);
-    write_file("out1/long", LONG);
+    IS(write_file("out1/long", LONG, KIND), 1);
     fflush(stdout);
     child = fork();
     if (child == 0)
@@ -269,7 +227,7 @@ static bool killed_after(struct seen *seen, long frames)
     read_unheard(&one, seen, 0);
     read_unheard(&two, seen, 1);
     run(&one, &two, seen, 0);
-    IS(is_file("in2/long", LONG), 1);
+    IS(is_file("in2/long", LONG, KIND), 1);
     is_only(&two, seen->id);
     IS(seen->complete[0] >= 1, 1);
     IS(seen->complete[1] >= 1, 1);
@@ -295,7 +253,7 @@ static void goes_on_in_the_midst(void)
     int at;
 
     memset(&seen, 0, sizeof seen);
-    write_file("out1/long", LONG);
+    IS(write_file("out1/long", LONG, KIND), 1);
     IS(opened(&one, 1), CFDP_OK);
     IS(opened(&two, 2), CFDP_OK);
     IS(put(&one, "long", &id), CFDP_OK);
@@ -313,7 +271,7 @@ static void goes_on_in_the_midst(void)
     IS(journal_of(&one).resumed, 1);
     IS(journal_of(&two).resumed, 1);
     run(&one, &two, &seen, 0);
-    IS(is_file("in2/long", LONG), 1);
+    IS(is_file("in2/long", LONG, KIND), 1);
     IS(cfdp_counters(&one, &counts), CFDP_OK);
     IS(counts.sent.file_data, pdus - before);
     cfdp_close(&one);
@@ -329,7 +287,7 @@ static void stays_forgotten(void)
     uint8_t was = 0;
 
     memset(&seen, 0, sizeof seen);
-    write_file("out1/long", 10);
+    IS(write_file("out1/long", 10, KIND), 1);
     IS(opened(&one, 1), CFDP_OK);
     IS(opened(&two, 2), CFDP_OK);
     IS(put(&one, "long", &id), CFDP_OK);
@@ -360,7 +318,7 @@ static void refusals(void)
     cfdp_config config = config_of(1);
     cfdp_id id;
 
-    write_file("out1/long", LONG);
+    IS(write_file("out1/long", LONG, KIND), 1);
     IS(opened(&one, 1), CFDP_OK);
     IS(opened(&one, 1), CFDP_ALREADY_OPEN);
     IS(opened(&s, 1), CFDP_INBOX_IN_USE);
@@ -391,7 +349,7 @@ static void damaged(void)
     struct stat about;
     cfdp_id id;
 
-    write_file("out1/long", LONG);
+    IS(write_file("out1/long", LONG, KIND), 1);
     IS(opened(&one, 1), CFDP_OK);
     IS(put(&one, "long", &id), CFDP_OK);
     cfdp_close(&one);
@@ -415,30 +373,27 @@ static void damaged(void)
 static void full(void)
 {
     cfdp_station one = CFDP_STATION_INIT;
-    struct rlimit limit, little;
+    const rlim_t little = 10;
+    rlim_t limit;
     cfdp_id id;
     uint64_t now;
 
-    write_file("out1/long", LONG);
+    IS(write_file("out1/long", LONG, KIND), 1);
     IS(opened(&one, 1), CFDP_OK);
-    getrlimit(RLIMIT_FSIZE, &limit);
-    little = limit;
-    little.rlim_cur = 10;
-    signal(SIGXFSZ, SIG_IGN);
-    setrlimit(RLIMIT_FSIZE, &little);
+    limit = limit_file_size(little);
     IS(put(&one, "long", &id), CFDP_OK);
     IS(journal_of(&one).state, CFDP_JOURNAL_NOT_KEPT);
     IS(is_there("j1"), 0);
     IS(cfdp_tick(&one, 1), CFDP_OK);
     IS(journal_of(&one).state, CFDP_JOURNAL_NOT_KEPT);
-    setrlimit(RLIMIT_FSIZE, &limit);
+    limit_file_size(limit);
     for (now = 2; now < 200; now++)
         IS(cfdp_tick(&one, now), CFDP_OK);
     IS(journal_of(&one).state, CFDP_JOURNAL_KEPT);
     cfdp_close(&one);
-    setrlimit(RLIMIT_FSIZE, &little);
+    limit_file_size(little);
     IS(opened(&one, 1), CFDP_NO_JOURNAL);
-    setrlimit(RLIMIT_FSIZE, &limit);
+    limit_file_size(limit);
     IS(opened(&one, 1), CFDP_OK);
     IS(journal_of(&one).resumed, 1);
     cfdp_close(&one);
