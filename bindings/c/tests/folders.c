@@ -3,7 +3,7 @@
  *
  *     folders FOLDER
  *
- * FOLDER is empty. Prints what is wrong, and ends with the number of mistakes. */
+ * FOLDER is empty. Prints what is wrong, and ends with status 1 if something is. */
 #define _POSIX_C_SOURCE 200809L
 #include "cfdp.h"
 #include "checks.h"

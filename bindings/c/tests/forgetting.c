@@ -2,7 +2,7 @@
  *
  *     forgetting [ROUNDS]
  *
- * Prints what is wrong, and ends with status 1 where something is. With a number of rounds no table
+ * Prints what is wrong, and ends with status 1 if something is. With a number of rounds no table
  * is filled, which takes minutes under valgrind. tests/bindings.py builds and runs it, as C and as
  * C++. */
 #include "cfdp.h"

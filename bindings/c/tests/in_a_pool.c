@@ -3,7 +3,7 @@
  *
  *     in_a_pool [PUTS]
  *
- * Prints what the array was used for, and ends with status 1 where something is wrong.
+ * Prints what the array was used for, and ends with status 1 if something is wrong.
  * tests/bindings.py builds and runs it, as C and as C++. */
 #include "cfdp.h"
 #include "checks.h"

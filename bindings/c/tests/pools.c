@@ -1,7 +1,7 @@
 /* Stations whose memory is an array each: none takes memory from another's, nor from the array of
  * the process, and one that has too little leaves the other as it is.
  *
- * Prints what each array was used for, and ends with status 1 where something is wrong.
+ * Prints what each array was used for, and ends with status 1 if something is wrong.
  * tests/bindings.py builds and runs it with -DCFDP_POOL=16, as C and as C++: the process has no
  * array. */
 #include "cfdp.h"

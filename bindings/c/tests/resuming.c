@@ -4,7 +4,7 @@
  *     resuming FOLDER [STEP]
  *
  * FOLDER is empty. It is killed after each STEP frames of a transfer, by default each 7th. Prints
- * what is wrong, and ends with the number of mistakes. */
+ * what is wrong, and ends with status 1 if something is. */
 #define _DEFAULT_SOURCE
 #include "checks.h"
 #include "files.h"

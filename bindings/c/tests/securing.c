@@ -3,7 +3,7 @@
  *
  *     securing
  *
- * Prints what is wrong, and ends with status 1 where something is. tests/bindings.py builds and
+ * Prints what is wrong, and ends with status 1 if something is. tests/bindings.py builds and
  * runs it, as C and as C++. */
 #include "cfdp.h"
 #include "checks.h"
