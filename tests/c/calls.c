@@ -1,6 +1,6 @@
 /* Calls every export of cfdp.h, on closed and open handles, with good and bad values, and with each
  * growth of memory refused in turn; and looks which calls ask for none. Prints what is wrong, and
- * ends with the number of mistakes.
+ * ends with status 1 if something is.
  * tests/bindings.py builds and runs it. */
 #include "cfdp.h"
 #include "cfdp_hooks.h"

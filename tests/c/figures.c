@@ -2,6 +2,7 @@
  * and time for a whole file. tests/bindings.py --figures builds and runs it. */
 #define _POSIX_C_SOURCE 200809L
 #include "cfdp.h"
+#include "tests/checks.h"
 
 #include <stdio.h>
 #include <stdlib.h>
@@ -20,18 +21,10 @@ static double seconds(void)
 static cfdp_station opened(int number, unsigned zone, unsigned segment)
 {
     cfdp_station station = CFDP_STATION_INIT;
-    cfdp_config config;
+    cfdp_config config = defaults_of(number);
 
-    cfdp_defaults(&config);
     config.sends.zone = config.receives.zone = (uint16_t)zone;
     config.segment = (uint16_t)segment;
-    if (number == 2) {
-        const cfdp_link sends = config.sends;
-        config.sends = config.receives;
-        config.receives = sends;
-        config.entity = 2;
-        config.peer = 1;
-    }
     if (cfdp_open(&station, &config) != CFDP_OK)
         exit(1);
     return station;

@@ -3,69 +3,21 @@
  *
  *     folders FOLDER
  *
- * FOLDER is empty. Prints what is wrong, and ends with the number of mistakes. */
+ * FOLDER is empty. Prints what is wrong, and ends with status 1 if something is. */
 #define _POSIX_C_SOURCE 200809L
 #include "cfdp.h"
 #include "checks.h"
+#include "files.h"
 
-#include <signal.h>
 #include <stdio.h>
 #include <stdlib.h>
 #include <string.h>
-#include <sys/resource.h>
 #include <sys/stat.h>
 #include <unistd.h>
 
 enum { MOST_FRAME = 2048, LOST = 7, LIMIT = 255, LONG = 5000000, FILESTORE = 4 };
 
 static const long TURNS = 1000000;
-
-
-static const uint8_t *octets_in(const char *text)
-{
-    return (const uint8_t *)text;
-}
-
-/* ---- files */
-
-static uint8_t octet_at(size_t at, uint32_t kind)
-{
-    return (uint8_t)((at * 2654435761u + kind * 40503u) >> 13);
-}
-
-static void write_file(const char *path, size_t len, uint32_t kind)
-{
-    FILE *file = fopen(path, "wb");
-    size_t at;
-
-    IS(file != NULL, 1);
-    if (file == NULL)
-        return;
-    for (at = 0; at < len; at++)
-        putc(octet_at(at, kind), file);
-    IS(fclose(file), 0);
-}
-
-static bool is_file(const char *path, size_t len, uint32_t kind)
-{
-    FILE *file = fopen(path, "rb");
-    size_t at = 0;
-    bool same = file != NULL;
-    int octet;
-
-    while (same && (octet = getc(file)) != EOF) {
-        same = at < len && octet == octet_at(at, kind);
-        at++;
-    }
-    if (file != NULL)
-        fclose(file);
-    return same && at == len;
-}
-
-static bool is_there(const char *path)
-{
-    return access(path, F_OK) == 0;
-}
 
 /* ---- stations */
 
@@ -82,25 +34,14 @@ static cfdp_answer opened(cfdp_station *station, int number, const char *outbox,
 {
     cfdp_config config = config_of(number);
 
-    return cfdp_open_folders(station, &config, octets_in(outbox), strlen(outbox), octets_in(inbox),
-                             strlen(inbox));
+    return cfdp_open_folders(station, &config, outbox, strlen(outbox), inbox, strlen(inbox));
 }
 
 static cfdp_answer put(cfdp_station *station, const char *source, const char *destination)
 {
     cfdp_id id;
 
-    return cfdp_put(station, octets_in(source), strlen(source), octets_in(destination),
-                    strlen(destination), &id);
-}
-
-/* Whether a frame is lost: one of seven, by chance. */
-static bool is_lost(void)
-{
-    static uint32_t state = 1;
-
-    state = state * 1664525 + 1013904223;
-    return (state >> 16) % LOST == 0;
+    return cfdp_put(station, source, strlen(source), destination, strlen(destination), &id);
 }
 
 static void pass_frames(cfdp_station *from, cfdp_station *to)
@@ -109,7 +50,7 @@ static void pass_frames(cfdp_station *from, cfdp_station *to)
     size_t len = cfdp_frame_len(from);
 
     while (cfdp_transmit(from, frame, len) == CFDP_OK)
-        if (!is_lost())
+        if (!is_lost(LOST))
             cfdp_receive(to, frame, len);
 }
 
@@ -179,13 +120,13 @@ static void run(cfdp_station *one, cfdp_station *two, int count, unsigned condit
 
 static void both_ways(cfdp_station *one, cfdp_station *two)
 {
-    write_file("out1/none", 0, 1);
-    write_file("out1/one", 1, 2);
-    write_file("out1/long", LONG, 3);
-    write_file("out2/none", 0, 4);
-    write_file("out2/one", 1, 5);
-    write_file("out2/long", LONG, 6);
-    write_file("in2/one", 70, 7);
+    IS(write_file("out1/none", 0, 1), 1);
+    IS(write_file("out1/one", 1, 2), 1);
+    IS(write_file("out1/long", LONG, 3), 1);
+    IS(write_file("out2/none", 0, 4), 1);
+    IS(write_file("out2/one", 1, 5), 1);
+    IS(write_file("out2/long", LONG, 6), 1);
+    IS(write_file("in2/one", 70, 7), 1);
     IS(put(one, "none", "none"), CFDP_OK);
     IS(put(one, "one", "one"), CFDP_OK);
     IS(put(one, "long", "long"), CFDP_OK);
@@ -224,12 +165,12 @@ static void memory_refused(cfdp_station *one)
     cfdp_file_info info = {7, 8};
     uint8_t room[CFDP_NAME] = {1};
 
-    IS(cfdp_add(one, octets_in("a"), 1, octets_in("b"), 1), CFDP_IN_FOLDERS);
-    IS(cfdp_remove_source(one, octets_in("a"), 1), CFDP_IN_FOLDERS);
+    IS(cfdp_add(one, "a", 1, "b", 1), CFDP_IN_FOLDERS);
+    IS(cfdp_remove_source(one, "a", 1), CFDP_IN_FOLDERS);
     IS(cfdp_file_count(one), 0);
     IS(cfdp_file(one, 0, &info, room, sizeof room), CFDP_IN_FOLDERS);
     IS(cfdp_read_file(one, 0, 0, room, 1), CFDP_IN_FOLDERS);
-    IS(cfdp_remove_file(one, octets_in("one"), 3), CFDP_IN_FOLDERS);
+    IS(cfdp_remove_file(one, "one", 3), CFDP_IN_FOLDERS);
     IS(info.size, 8);
     IS(room[0], 1);
     IS(is_file("in1/one", 1, 5), 1);
@@ -249,8 +190,7 @@ static void opening_refused(cfdp_station *one)
     IS(opened(&s, 1, "out1", "out1/one"), CFDP_NO_INBOX);
     IS(opened(&s, 1, "out1", "in1"), CFDP_INBOX_IN_USE);
     config.segment = 0;
-    IS(cfdp_open_folders(&s, &config, octets_in("out1"), 4, octets_in("in3"), 3),
-       CFDP_BAD_SEGMENT);
+    IS(cfdp_open_folders(&s, &config, "out1", 4, "in3", 3), CFDP_BAD_SEGMENT);
     IS(s.is_open, 0);
     cfdp_close(&s);
 }
@@ -260,8 +200,8 @@ static void parts_removed(void)
 {
     cfdp_station s = CFDP_STATION_INIT;
 
-    write_file("in3/.part-1-7", 3, 8);
-    write_file("in3/.part-x", 3, 8);
+    IS(write_file("in3/.part-1-7", 3, 8), 1);
+    IS(write_file("in3/.part-x", 3, 8), 1);
     IS(opened(&s, 1, "out1", "in3"), CFDP_OK);
     IS(is_there("in3/.part-1-7"), 0);
     IS(is_there("in3/.part-x"), 1);
@@ -274,21 +214,17 @@ static void parts_removed(void)
  * as it is sent. */
 static void failures(cfdp_station *one, cfdp_station *two)
 {
-    struct rlimit limit, little;
     uint8_t frame[MOST_FRAME];
+    rlim_t limit;
 
     IS(put(one, "one", "../again"), CFDP_OK);
     run(one, two, 1, FILESTORE);
     IS(is_there("again"), 0);
 
-    getrlimit(RLIMIT_FSIZE, &limit);
-    little = limit;
-    little.rlim_cur = 100000;
-    signal(SIGXFSZ, SIG_IGN);
-    setrlimit(RLIMIT_FSIZE, &little);
+    limit = limit_file_size(100000);
     IS(put(one, "long", "again"), CFDP_OK);
     run(one, two, 1, FILESTORE);
-    setrlimit(RLIMIT_FSIZE, &limit);
+    limit_file_size(limit);
     IS(is_there("in2/again"), 0);
     IS(cfdp_forget_closed(one), CFDP_OK);
     IS(cfdp_forget_closed(two), CFDP_OK);
@@ -336,12 +272,11 @@ static void link_refused(cfdp_station *one, cfdp_station *two)
 
     IS(cfdp_forget_closed(one), CFDP_OK);
     IS(cfdp_forget_closed(two), CFDP_OK);
-    write_file("victim", 5, 9);
+    IS(write_file("victim", 5, 9), 1);
     for (at = 0; at < FILES; at++) {
         snprintf(path, sizeof path, "out1/many%u", at);
-        write_file(path, LEN, KIND + at);
-        IS(cfdp_put(one, octets_in(name), strlen(name), octets_in(name), strlen(name), &id),
-           CFDP_OK);
+        IS(write_file(path, LEN, KIND + at), 1);
+        IS(cfdp_put(one, name, strlen(name), name, strlen(name), &id), CFDP_OK);
         if (at == 0)
             first = id;
     }
@@ -364,13 +299,10 @@ static void link_refused(cfdp_station *one, cfdp_station *two)
 int main(int count, char **words)
 {
     cfdp_station one = CFDP_STATION_INIT, two = CFDP_STATION_INIT;
-    static const char *const folders[] = {"out1", "out2", "in1", "in2", "in3"};
-    size_t at;
 
     if (count != 2 || chdir(words[1]) != 0)
         return 2;
-    for (at = 0; at < sizeof folders / sizeof folders[0]; at++)
-        IS(mkdir(folders[at], 0777), 0);
+    IS(make_folders(), 1);
     IS(opened(&one, 1, "out1", "in1"), CFDP_OK);
     IS(opened(&two, 2, "out2", "in2"), CFDP_OK);
     both_ways(&one, &two);

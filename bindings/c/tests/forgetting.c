@@ -2,7 +2,7 @@
  *
  *     forgetting [ROUNDS]
  *
- * Prints what is wrong, and ends with status 1 where something is. With a number of rounds no table
+ * Prints what is wrong, and ends with status 1 if something is. With a number of rounds no table
  * is filled, which takes minutes under valgrind. tests/bindings.py builds and runs it, as C and as
  * C++. */
 #include "cfdp.h"
@@ -102,9 +102,7 @@ static cfdp_config config_of(int number)
 
 static void open_station(cfdp_station *station, const cfdp_config *config)
 {
-    static const cfdp_station closed = CFDP_STATION_INIT;
-
-    *station = closed;
+    make_closed(station);
     IS(cfdp_open(station, config), CFDP_OK);
 }
 
@@ -115,7 +113,7 @@ static void open_first(cfdp_station *one, uint64_t number)
 
     config.first_number = number;
     open_station(one, &config);
-    IS(cfdp_add(one, NAME, sizeof NAME, (const uint8_t *)&number, sizeof number), CFDP_OK);
+    IS(cfdp_add(one, NAME, sizeof NAME, &number, sizeof number), CFDP_OK);
 }
 
 static void open_second(cfdp_station *two)
@@ -338,7 +336,7 @@ static void stays_small(unsigned rounds, bool cancels)
         for (count = 0; count < PUTS; count++) {
             const uint64_t own = id.number;
 
-            IS(cfdp_put(&one, NAME, sizeof NAME, (const uint8_t *)&own, sizeof own, &id), CFDP_OK);
+            IS(cfdp_put(&one, NAME, sizeof NAME, &own, sizeof own, &id), CFDP_OK);
             if (cancels && count % 2 == 1)
                 IS(cfdp_cancel(&one, &id), CFDP_OK);
         }

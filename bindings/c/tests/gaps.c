@@ -35,13 +35,12 @@ static uint8_t octets[LEN], copy[LEN];
 /* Opens station 1 or 2 in its array. A segment is one octet. */
 static void open_end(struct end *end, int number, uint64_t most_gaps)
 {
-    static const cfdp_station closed = CFDP_STATION_INIT;
     cfdp_config config = defaults_of(number);
 
     config.capacity = CAPACITY;
     config.segment = 1;
     config.most_gaps = most_gaps;
-    end->station = closed;
+    make_closed(&end->station);
     cfdp_pool_use(&end->pool);
     IS(cfdp_open(&end->station, &config), CFDP_OK);
 }
@@ -73,7 +72,7 @@ static void close_both(void)
 static void pass(struct end *from, struct end *to, bool loses)
 {
     uint8_t frame[FRAME];
-    bool is_lost = false;
+    bool is_second = false;
 
     cfdp_pool_use(&from->pool);
     while (cfdp_poll(&from->station) == CFDP_OK) {
@@ -81,13 +80,13 @@ static void pass(struct end *from, struct end *to, bool loses)
         while (cfdp_next_frame(&from->station, frame, sizeof frame) == CFDP_OK) {
             const bool is_data = (frame[1] & 63) == DATA_CHANNEL;
 
-            if (!(loses && is_data && is_lost)) {
+            if (!(loses && is_data && is_second)) {
                 cfdp_pool_use(&to->pool);
                 IS(cfdp_receive(&to->station, frame, sizeof frame), CFDP_OK);
                 cfdp_pool_use(&from->pool);
             }
             if (is_data)
-                is_lost = !is_lost;
+                is_second = !is_second;
         }
     }
 }
@@ -144,10 +143,8 @@ static void without_a_limit(void)
 int main(int argc, char **argv)
 {
     const size_t len = argc == 1 ? (size_t)LEN : (size_t)strtoul(argv[1], NULL, 10);
-    size_t at;
 
-    for (at = 0; at < LEN; at++)
-        octets[at] = (uint8_t)(at * 7 + at / 256);
+    fill_octets(octets, sizeof octets);
     IS(2 * MOST_GAPS + 2 < len && len <= LEN, true);
     if (mistakes != 0)
         return 1;

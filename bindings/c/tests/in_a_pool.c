@@ -3,7 +3,7 @@
  *
  *     in_a_pool [PUTS]
  *
- * Prints what the array was used for, and ends with status 1 where something is wrong.
+ * Prints what the array was used for, and ends with status 1 if something is wrong.
  * tests/bindings.py builds and runs it, as C and as C++. */
 #include "cfdp.h"
 #include "checks.h"
@@ -14,7 +14,6 @@
 #include <string.h>
 
 enum { PUTS = 10000, AT_ONCE = 8, SENT_LEN = 3000, FILES = 4, LOST = 7, FRAME = 264 };
-
 
 static uint8_t octets[SENT_LEN];
 
@@ -30,10 +29,9 @@ static cfdp_config config_of(int number)
 
 static void open_station(cfdp_station *station, int number)
 {
-    static const cfdp_station closed = CFDP_STATION_INIT;
     const cfdp_config config = config_of(number);
 
-    *station = closed;
+    make_closed(station);
     IS(cfdp_open(station, &config), CFDP_OK);
 }
 
@@ -61,15 +59,6 @@ static void put(cfdp_station *one, unsigned count)
     IS(cfdp_put(one, source, sizeof source, destination, sizeof destination, &id), CFDP_OK);
 }
 
-/* Whether a frame is lost: one of seven, by chance. */
-static bool is_lost(void)
-{
-    static uint32_t state = 1;
-
-    state = state * 1664525 + 1013904223;
-    return (state >> 16) % LOST == 0;
-}
-
 /* All that is due goes over, but what is lost. */
 static void pass(cfdp_station *from, cfdp_station *to)
 {
@@ -77,13 +66,13 @@ static void pass(cfdp_station *from, cfdp_station *to)
     cfdp_answer answer;
 
     while ((answer = cfdp_transmit(from, frame, sizeof frame)) == CFDP_OK)
-        if (!is_lost())
+        if (!is_lost(LOST))
             IS(cfdp_receive(to, frame, sizeof frame), CFDP_OK);
     IS(answer, CFDP_NOTHING);
 }
 
-/* How many transactions a station tells that went well; all that are over are forgotten. */
-static unsigned ended_well(cfdp_station *station)
+/* Forgets all transactions that are over. How many a station told that went well. */
+static unsigned forget_ended(cfdp_station *station)
 {
     cfdp_indication told;
     uint8_t names[CFDP_NAMES];
@@ -141,8 +130,8 @@ static void come_and_go(unsigned puts)
         IS(cfdp_tick(&two, now), CFDP_OK);
         pass(&one, &two);
         pass(&two, &one);
-        sent += ended_well(&one);
-        received += ended_well(&two);
+        sent += forget_ended(&one);
+        received += forget_ended(&two);
         came += take_files(&two);
     }
     IS(sent, puts);
@@ -155,10 +144,8 @@ static void come_and_go(unsigned puts)
 int main(int argc, char **argv)
 {
     const unsigned puts = argc == 1 ? (unsigned)PUTS : (unsigned)strtoul(argv[1], NULL, 10);
-    size_t at;
 
-    for (at = 0; at < SENT_LEN; at++)
-        octets[at] = (uint8_t)(at * 7 + at / 256);
+    fill_octets(octets, sizeof octets);
     come_and_go(puts);
     IS(cfdp_pool_used(), 0);
     IS(cfdp_pool_refused(), 0);

@@ -1,7 +1,7 @@
 /* Stations whose memory is an array each: none takes memory from another's, nor from the array of
  * the process, and one that has too little leaves the other as it is.
  *
- * Prints what each array was used for, and ends with status 1 where something is wrong.
+ * Prints what each array was used for, and ends with status 1 if something is wrong.
  * tests/bindings.py builds and runs it with -DCFDP_POOL=16, as C and as C++: the process has no
  * array. */
 #include "cfdp.h"
@@ -25,10 +25,9 @@ static uint8_t octets[LEN];
 /* Opens station 1 or 2. */
 static cfdp_answer open_station(cfdp_station *station, int number)
 {
-    static const cfdp_station closed = CFDP_STATION_INIT;
     const cfdp_config config = defaults_of(number);
 
-    *station = closed;
+    make_closed(station);
     return cfdp_open(station, &config);
 }
 
@@ -90,10 +89,8 @@ static void tell(const char *which, const cfdp_pool *pool, size_t len)
 int main(void)
 {
     cfdp_station one, two;
-    size_t at;
 
-    for (at = 0; at < LEN; at++)
-        octets[at] = (uint8_t)(at * 7 + at / 256);
+    fill_octets(octets, sizeof octets);
     /* an array need not be aligned */
     IS(cfdp_pool_begin(&first, first_array + 1, SENDS), true);
     IS(cfdp_pool_begin(&second, second_array, sizeof second_array), true);

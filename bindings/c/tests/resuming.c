@@ -4,66 +4,23 @@
  *     resuming FOLDER [STEP]
  *
  * FOLDER is empty. It is killed after each STEP frames of a transfer, by default each 7th. Prints
- * what is wrong, and ends with the number of mistakes. */
+ * what is wrong, and ends with status 1 if something is. */
 #define _DEFAULT_SOURCE
 #include "checks.h"
+#include "files.h"
 
 #include <signal.h>
 #include <stdlib.h>
 #include <string.h>
 #include <sys/mman.h>
-#include <sys/resource.h>
 #include <sys/stat.h>
 #include <sys/wait.h>
 #include <unistd.h>
 
 enum { MOST_FRAME = 2048, LOST = 7, LIMIT = 255, LONG = 50000, TURNS = 100000, STEP = 7 };
-
-static const uint8_t *octets_in(const char *text)
-{
-    return (const uint8_t *)text;
-}
+enum { KIND = 0 };
 
 /* ---- files */
-
-static uint8_t octet_at(size_t at)
-{
-    return (uint8_t)((at * 2654435761u) >> 13);
-}
-
-static void write_file(const char *path, size_t len)
-{
-    FILE *file = fopen(path, "wb");
-    size_t at;
-
-    IS(file != NULL, 1);
-    if (file == NULL)
-        return;
-    for (at = 0; at < len; at++)
-        putc(octet_at(at), file);
-    IS(fclose(file), 0);
-}
-
-static bool is_file(const char *path, size_t len)
-{
-    FILE *file = fopen(path, "rb");
-    size_t at = 0;
-    bool same = file != NULL;
-    int octet;
-
-    while (same && (octet = getc(file)) != EOF) {
-        same = at < len && octet == octet_at(at);
-        at++;
-    }
-    if (file != NULL)
-        fclose(file);
-    return same && at == len;
-}
-
-static bool is_there(const char *path)
-{
-    return access(path, F_OK) == 0;
-}
 
 /* Turns an octet of a file. */
 static void damage(const char *path, long at)
@@ -84,14 +41,10 @@ static void damage(const char *path, long at)
 /* Goes to an empty folder, below the one that was given, with those of both stations. */
 static void go_to(const char *root, const char *name)
 {
-    static const char *const folders[] = {"out1", "out2", "in1", "in2", "in3"};
-    size_t at;
-
     IS(chdir(root), 0);
     IS(mkdir(name, 0777), 0);
     IS(chdir(name), 0);
-    for (at = 0; at < sizeof folders / sizeof folders[0]; at++)
-        IS(mkdir(folders[at], 0777), 0);
+    IS(make_folders(), 1);
 }
 
 /* ---- stations */
@@ -108,8 +61,8 @@ static cfdp_config config_of(int number)
 static cfdp_answer opened_with(cfdp_station *station, const cfdp_config *config, const char *inbox,
                                const char *journal)
 {
-    return cfdp_open_folders_journal(station, config, octets_in("out1"), 4, octets_in(inbox),
-                                     strlen(inbox), octets_in(journal), strlen(journal), 1);
+    return cfdp_open_folders_journal(station, config, "out1", 4, inbox, strlen(inbox), journal,
+                                     strlen(journal), 1);
 }
 
 static cfdp_answer opened(cfdp_station *station, int number)
@@ -121,7 +74,7 @@ static cfdp_answer opened(cfdp_station *station, int number)
 
 static cfdp_answer put(cfdp_station *station, const char *name, cfdp_id *id)
 {
-    return cfdp_put(station, octets_in(name), strlen(name), octets_in(name), strlen(name), id);
+    return cfdp_put(station, name, strlen(name), name, strlen(name), id);
 }
 
 static cfdp_journal_info journal_of(const cfdp_station *station)
@@ -140,15 +93,6 @@ struct seen {
     int complete[2], others[2], mistakes;
 };
 
-/* Whether a frame is lost: one of seven, by chance. */
-static bool is_lost(void)
-{
-    static uint32_t state = 1;
-
-    state = state * 1664525 + 1013904223;
-    return (state >> 16) % LOST == 0;
-}
-
 /* Frames pass from one to the other. The process is killed after so many, unless that is 0. */
 static void pass_frames(cfdp_station *from, cfdp_station *to, struct seen *seen, long last)
 {
@@ -156,7 +100,7 @@ static void pass_frames(cfdp_station *from, cfdp_station *to, struct seen *seen,
     const size_t len = cfdp_frame_len(from);
 
     while (cfdp_transmit(from, frame, len) == CFDP_OK) {
-        if (!is_lost())
+        if (!is_lost(LOST))
             IS(cfdp_receive(to, frame, len), CFDP_OK);
         if (++seen->frames == last) {
             fflush(stdout);
@@ -261,7 +205,7 @@ static bool killed_after(struct seen *seen, long frames)
     cfdp_id next;
 
     memset(seen, 0, sizeof *seen);
-    write_file("out1/long", LONG);
+    IS(write_file("out1/long", LONG, KIND), 1);
     fflush(stdout);
     child = fork();
     if (child == 0)
@@ -283,7 +227,7 @@ static bool killed_after(struct seen *seen, long frames)
     read_unheard(&one, seen, 0);
     read_unheard(&two, seen, 1);
     run(&one, &two, seen, 0);
-    IS(is_file("in2/long", LONG), 1);
+    IS(is_file("in2/long", LONG, KIND), 1);
     is_only(&two, seen->id);
     IS(seen->complete[0] >= 1, 1);
     IS(seen->complete[1] >= 1, 1);
@@ -309,7 +253,7 @@ static void goes_on_in_the_midst(void)
     int at;
 
     memset(&seen, 0, sizeof seen);
-    write_file("out1/long", LONG);
+    IS(write_file("out1/long", LONG, KIND), 1);
     IS(opened(&one, 1), CFDP_OK);
     IS(opened(&two, 2), CFDP_OK);
     IS(put(&one, "long", &id), CFDP_OK);
@@ -327,7 +271,7 @@ static void goes_on_in_the_midst(void)
     IS(journal_of(&one).resumed, 1);
     IS(journal_of(&two).resumed, 1);
     run(&one, &two, &seen, 0);
-    IS(is_file("in2/long", LONG), 1);
+    IS(is_file("in2/long", LONG, KIND), 1);
     IS(cfdp_counters(&one, &counts), CFDP_OK);
     IS(counts.sent.file_data, pdus - before);
     cfdp_close(&one);
@@ -343,7 +287,7 @@ static void stays_forgotten(void)
     uint8_t was = 0;
 
     memset(&seen, 0, sizeof seen);
-    write_file("out1/long", 10);
+    IS(write_file("out1/long", 10, KIND), 1);
     IS(opened(&one, 1), CFDP_OK);
     IS(opened(&two, 2), CFDP_OK);
     IS(put(&one, "long", &id), CFDP_OK);
@@ -374,7 +318,7 @@ static void refusals(void)
     cfdp_config config = config_of(1);
     cfdp_id id;
 
-    write_file("out1/long", LONG);
+    IS(write_file("out1/long", LONG, KIND), 1);
     IS(opened(&one, 1), CFDP_OK);
     IS(opened(&one, 1), CFDP_ALREADY_OPEN);
     IS(opened(&s, 1), CFDP_INBOX_IN_USE);
@@ -405,7 +349,7 @@ static void damaged(void)
     struct stat about;
     cfdp_id id;
 
-    write_file("out1/long", LONG);
+    IS(write_file("out1/long", LONG, KIND), 1);
     IS(opened(&one, 1), CFDP_OK);
     IS(put(&one, "long", &id), CFDP_OK);
     cfdp_close(&one);
@@ -429,30 +373,27 @@ static void damaged(void)
 static void full(void)
 {
     cfdp_station one = CFDP_STATION_INIT;
-    struct rlimit limit, little;
+    const rlim_t little = 10;
+    rlim_t limit;
     cfdp_id id;
     uint64_t now;
 
-    write_file("out1/long", LONG);
+    IS(write_file("out1/long", LONG, KIND), 1);
     IS(opened(&one, 1), CFDP_OK);
-    getrlimit(RLIMIT_FSIZE, &limit);
-    little = limit;
-    little.rlim_cur = 10;
-    signal(SIGXFSZ, SIG_IGN);
-    setrlimit(RLIMIT_FSIZE, &little);
+    limit = limit_file_size(little);
     IS(put(&one, "long", &id), CFDP_OK);
     IS(journal_of(&one).state, CFDP_JOURNAL_NOT_KEPT);
     IS(is_there("j1"), 0);
     IS(cfdp_tick(&one, 1), CFDP_OK);
     IS(journal_of(&one).state, CFDP_JOURNAL_NOT_KEPT);
-    setrlimit(RLIMIT_FSIZE, &limit);
+    limit_file_size(limit);
     for (now = 2; now < 200; now++)
         IS(cfdp_tick(&one, now), CFDP_OK);
     IS(journal_of(&one).state, CFDP_JOURNAL_KEPT);
     cfdp_close(&one);
-    setrlimit(RLIMIT_FSIZE, &little);
+    limit_file_size(little);
     IS(opened(&one, 1), CFDP_NO_JOURNAL);
-    setrlimit(RLIMIT_FSIZE, &limit);
+    limit_file_size(limit);
     IS(opened(&one, 1), CFDP_OK);
     IS(journal_of(&one).resumed, 1);
     cfdp_close(&one);

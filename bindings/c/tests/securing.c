@@ -3,17 +3,16 @@
  *
  *     securing
  *
- * Prints what is wrong, and ends with status 1 where something is. tests/bindings.py builds and
+ * Prints what is wrong, and ends with status 1 if something is. tests/bindings.py builds and
  * runs it, as C and as C++. */
 #include "cfdp.h"
+#include "checks.h"
 
 #include <stdio.h>
 #include <stdlib.h>
 #include <string.h>
 
 enum { MOST = 4096, FILE_LEN = 20 * 1000, ADDED = 10 + 32 + 2 + 4 + 2 };
-
-static int mistakes;
 
 static void want(bool is_so, const char *what)
 {
@@ -162,21 +161,15 @@ static void a_file(void)
     cfdp_station one = CFDP_STATION_INIT, two = CFDP_STATION_INIT;
     cfdp_security there = a_link(0, 7), back = a_link(100, 8);
     cfdp_security at_two = other_end(&there), at_one = other_end(&back);
-    cfdp_config config, peer;
+    const cfdp_config config = defaults_of(1), peer = defaults_of(2);
     cfdp_id id;
     size_t at;
 
     for (at = 0; at < FILE_LEN; at++)
         octets[at] = (uint8_t)(at * 7 / 3);
-    cfdp_defaults(&config);
-    peer = config;
-    peer.entity = config.peer;
-    peer.peer = config.entity;
-    peer.sends = config.receives;
-    peer.receives = config.sends;
     want(cfdp_open(&one, &config) == CFDP_OK && cfdp_open(&two, &peer) == CFDP_OK, "both open");
-    want(cfdp_add(&one, (const uint8_t *)"a", 1, octets, FILE_LEN) == CFDP_OK, "added");
-    want(cfdp_put(&one, (const uint8_t *)"a", 1, (const uint8_t *)"b", 1, &id) == CFDP_OK, "put");
+    want(cfdp_add(&one, "a", 1, octets, FILE_LEN) == CFDP_OK, "added");
+    want(cfdp_put(&one, "a", 1, "b", 1, &id) == CFDP_OK, "put");
     while (move(&one, &there, &two, &at_two) + move(&two, &back, &one, &at_one) > 0)
         ;
     want(cfdp_file_count(&two) == 1, "the file is there");

@@ -8,6 +8,7 @@
  * tests/bindings.py builds and runs it. */
 #define _POSIX_C_SOURCE 200809L
 #include "cfdp.h"
+#include "checks.h"
 
 #include <stdio.h>
 #include <stdlib.h>
@@ -74,10 +75,9 @@ static bool in_folders, with_journals;
 
 static void open_one(cfdp_station *station, const cfdp_config *config, const uint8_t *inbox)
 {
-    static const cfdp_station closed = CFDP_STATION_INIT;
     cfdp_answer answer;
 
-    *station = closed;
+    make_closed(station);
     if (with_journals)
         TAKES(cfdp_open_folders_journal,
               answer = cfdp_open_folders_journal(station, config, OUT, 1, inbox, 1,
@@ -113,15 +113,6 @@ static void open_both(cfdp_station *one, cfdp_station *two)
     open_one(two, &config, IN);
 }
 
-/* Whether a frame is lost: one of seven, by chance. */
-static bool is_lost(void)
-{
-    static uint32_t state = 1;
-
-    state = state * 1664525 + 1013904223;
-    return (state >> 16) % LOST == 0;
-}
-
 /* All that is due of a station, but what is lost. */
 static void pass(cfdp_station *from, cfdp_station *to)
 {
@@ -131,7 +122,7 @@ static void pass(cfdp_station *from, cfdp_station *to)
     TAKES(cfdp_frame_len, len = cfdp_frame_len(from));
     while (answer == CFDP_OK) {
         TAKES(cfdp_transmit, answer = cfdp_transmit(from, frame, len));
-        if (answer == CFDP_OK && !is_lost())
+        if (answer == CFDP_OK && !is_lost(LOST))
             TAKES(cfdp_receive, cfdp_receive(to, frame, len));
     }
     TAKES(cfdp_poll, cfdp_poll(from));
@@ -301,10 +292,8 @@ static bool is_in_the_inbox(void)
 int main(int count, char **words)
 {
     bool is_good;
-    size_t at;
 
-    for (at = 0; at < FILE_LEN; at++)
-        octets[at] = (uint8_t)(at * 7 + at / 256);
+    fill_octets(octets, sizeof octets);
     is_good = is_measured("files in memory", SAID);
     if (count > 1) {
         in_folders = true;

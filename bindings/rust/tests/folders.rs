@@ -1,30 +1,10 @@
 //! Stations with folders: files of several sizes from one into the other, and what is refused.
 use cfdp::{Config, Error, Station};
+use room::Room;
 use std::fs;
-use std::path::{Path, PathBuf};
+use std::path::Path;
 
-/// A folder of its own, which is removed with all that is in it.
-struct Room(PathBuf);
-
-impl Room {
-    fn new(name: &str) -> std::io::Result<Room> {
-        let at = std::env::temp_dir().join(format!("cfdp-{name}-{}", std::process::id()));
-        for it in ["out", "in", "back"] {
-            fs::create_dir_all(at.join(it))?;
-        }
-        Ok(Room(at))
-    }
-
-    fn path(&self, name: &str) -> PathBuf {
-        self.0.join(name)
-    }
-}
-
-impl Drop for Room {
-    fn drop(&mut self) {
-        let _ = fs::remove_dir_all(&self.0);
-    }
-}
+mod room;
 
 /// All that is due goes over.
 fn pass(from: &mut Station, to: &mut Station) -> Result<(), Error> {

@@ -1,25 +1,13 @@
 //! Stations with journals: they are dropped in the midst of a file, and go on when they are opened
 //! again.
 use cfdp::{Config, Error, Indication, JournalState, Station};
+use room::Room;
 use std::fs;
-use std::path::{Path, PathBuf};
+use std::path::Path;
 
-/// A folder of its own, which is removed with all that is in it.
-struct Room(PathBuf);
+mod room;
 
 impl Room {
-    fn new(name: &str) -> std::io::Result<Room> {
-        let at = std::env::temp_dir().join(format!("cfdp-{name}-{}", std::process::id()));
-        for it in ["out", "in", "back"] {
-            fs::create_dir_all(at.join(it))?;
-        }
-        Ok(Room(at))
-    }
-
-    fn path(&self, name: &str) -> PathBuf {
-        self.0.join(name)
-    }
-
     /// Opens the station that sends, and the station that receives.
     fn pair(&self, config: &Config) -> Result<(Station, Station), Error> {
         let open = |config: &Config, inbox, journal| {
@@ -27,12 +15,6 @@ impl Room {
             Station::open_journal(config, self.path("out"), inbox, journal, 1)
         };
         Ok((open(config, "back", "one")?, open(&config.of_peer(), "in", "two")?))
-    }
-}
-
-impl Drop for Room {
-    fn drop(&mut self) {
-        let _ = fs::remove_dir_all(&self.0);
     }
 }
 
