@@ -1,5 +1,10 @@
 //! Where the operator of a station stands: the lines of commands, the console, and the log.
+ghost use Rattle.std.specs.Prelude.{◌≡◌, [], IfOk, IfSome, IsTrue, is_some};
+ghost use Rattle.cfdp_operator.specs.Commanded.{Asks, AsksFor, Commands, HearsLine, Obeys, named};
+ghost use Rattle.cfdp_operator.specs.Commanded.{octets_of, wanted_by};
+
 use crate::refusals::{FileLimits, Refusing, put_fault, sendable_names};
+use crate::said::Said;
 use crate::teller::Teller;
 use crate::unit::unit_word;
 use cfdp_command_line::TimeUnit;
@@ -19,10 +24,12 @@ use cfdp_service::{Console, OperatorCommand, PutNames, Reply, SpoolOutcome};
 use cfdp_station::{Phase, Request, Station};
 use cfdp_store::{Inbox, NameRule, Outbox};
 use cfdp_watch::Progress;
+use ghost_list::GhostList;
 use host_journal::HostJournal;
 use std::alloc::AllocError;
 use std::fmt;
 use std::io::Write;
+use std::marker::Model;
 
 /// The most lines that are answered before one turn.
 const MOST_LINES: u32 = 64;
@@ -72,6 +79,22 @@ pub struct OperatorConsole<'a> {
     refusing: Refusing,
     // Whether a file waits for which no number was reserved.
     wants_number: bool,
+    // All that was said, in its order. Only clauses see it.
+    heard: GhostList<Said>,
+}
+
+impl<'a> Model for OperatorConsole<'a> {
+    ghost use Rattle.cfdp_operator.specs.Commanded.{ConsoleState};
+
+    ghost Value = { ConsoleState };
+
+    ghost use Rattle.std.specs.Prelude.{is_some};
+
+    ghost view = { λ c. record {
+      heard = c.heard;
+      names = c.post.names;
+      has_journal = is_some c.post.transfers;
+    } };
 }
 
 impl<'a> OperatorConsole<'a> {
@@ -81,7 +104,11 @@ impl<'a> OperatorConsole<'a> {
         post: OperatorPost<'a>,
         exchange: &'a Exchange,
         progress: &'a Progress<'a>,
-    ) -> Self {
+    ) -> Self
+        ensures heard { result.heard ≡ [] }
+        ensures names { result.names ≡ post.entry.names }
+        ensures journal { result.has_journal ≡ is_some post.entry.transfers }
+    {
         OperatorConsole {
             rt,
             post,
@@ -90,6 +117,7 @@ impl<'a> OperatorConsole<'a> {
             asker: None,
             refusing: Refusing::NONE,
             wants_number: false,
+            heard: GhostList::new(),
         }
     }
 
@@ -109,34 +137,72 @@ impl<'a> OperatorConsole<'a> {
         journal.into_writer()
     }
 
+    /// Takes the next line, and by whom it was sent; what is no line counts as not said.
+    fn next_line(&mut self) -> Option<(Speaker, Result<Said, LineFault>)>
+        ensures { HearsLine self.old result self.new }
+    {
+        let (speaker, line) = self.post.sources.next_line()?;
+        match line {
+            Ok(text) => {
+                let said = Said::Line(text);
+                self.heard.put(&said);
+                Some((speaker, Ok(said)))
+            }
+            Err(fault) => Some((speaker, Err(fault))),
+        }
+    }
+
+    /// Answers the lines that came, up to the first that is a command, which it gives.
+    fn line_command<O: Outbox, I: Inbox>(
+        &mut self,
+        station: &Station<O, I>,
+        waiting: usize,
+    ) -> Option<OperatorCommand>
+        ensures { Obeys self.old result self.new }
+    {
+        for _line in 0..MOST_LINES {
+            let (speaker, line) = self.next_line()?;
+            if let Some(command) = self.takes(speaker, &line, station, waiting) {
+                return Some(command);
+            }
+        }
+        None
+    }
+
     /// Answers a line, and gives the command that it is, if it is one.
     fn takes<O: Outbox, I: Inbox>(
         &mut self,
         speaker: Speaker,
-        line: Result<String, LineFault>,
+        line: &Result<Said, LineFault>,
         station: &Station<O, I>,
         waiting: usize,
-    ) -> Option<OperatorCommand> {
-        let line = match line {
-            Ok(line) => line,
+    ) -> Option<OperatorCommand>
+        ensures same { self.new ≡ self.old }
+        ensures asked { IfSome result (λ command. AsksFor self.old.names line.now command) }
+    {
+        match line {
+            Ok(said) => self.obeys(speaker, said, station, waiting),
             Err(fault) => {
-                self.refuses(speaker, &fault);
-                return None;
+                self.refuses(speaker, fault);
+                None
             }
-        };
-        self.obeys(speaker, line.as_bytes(), station, waiting)
+        }
     }
 
-    /// Answers a line, or a command of the console, and gives the command that it is, if it is one
-    /// that changes what the station does.
+    /// Answers what was said, and gives the command that it is, if it is one that changes what the
+    /// station does.
     fn obeys<O: Outbox, I: Inbox>(
         &mut self,
         speaker: Speaker,
-        line: &[u8],
+        said: &Said,
         station: &Station<O, I>,
         waiting: usize,
-    ) -> Option<OperatorCommand> {
-        let (is_json, line) = split_form(line);
+    ) -> Option<OperatorCommand>
+        ensures same { self.new ≡ self.old }
+        ensures asked { IfSome result (λ command.
+            Asks self.old.names (octets_of said.now) command) }
+    {
+        let (is_json, line) = split_form(said.octets());
         let form = if is_json { Form::Json } else { self.post.form };
         match parse_command(self.rt.alloc(), line) {
             Ok(Asked::Command(command)) => self.commanded(speaker, command),
@@ -156,7 +222,11 @@ impl<'a> OperatorConsole<'a> {
     }
 
     /// Accepts a command, unless it is a put of a file that can't be sent.
-    fn commanded(&mut self, speaker: Speaker, command: OperatorCommand) -> Option<OperatorCommand> {
+    fn commanded(&mut self, speaker: Speaker, command: OperatorCommand) -> Option<OperatorCommand>
+        ensures same { self.new ≡ self.old }
+        ensures given { IfSome result (λ given. wanted_by given
+            ≡ named self.old.names (wanted_by command)) }
+    {
         let Ok(command) = self.named(command) else {
             self.refuses(speaker, &"out of memory");
             return None;
@@ -173,7 +243,10 @@ impl<'a> OperatorConsole<'a> {
 
     /// Returns a command with the names that its words stand for: if files may have any names, the
     /// words are names as they are printed, otherwise the names themselves.
-    fn named(&self, command: OperatorCommand) -> Result<OperatorCommand, AllocError> {
+    fn named(&self, command: OperatorCommand) -> Result<OperatorCommand, AllocError>
+        ensures { IfOk result (λ given. wanted_by given
+            ≡ named self.now.names (wanted_by command)) }
+    {
         match (command, self.post.names) {
             (OperatorCommand::Put { names, is_first }, NameRule::Any) => Ok(OperatorCommand::Put {
                 names: printed_names(self.rt.alloc(), &names)?,
@@ -183,20 +256,33 @@ impl<'a> OperatorConsole<'a> {
         }
     }
 
-    /// Does what the console is asked next, and gives the command that it is, if it is one.
-    fn serves_console<O: Outbox, I: Inbox>(
-        &mut self,
-        station: &Station<O, I>,
-        waiting: usize,
-    ) -> Option<OperatorCommand> {
+    /// Takes what the console is asked next, and by whom, after the board has noted what happened.
+    fn next_ask<O: Outbox, I: Inbox>(&mut self, station: &Station<O, I>) -> Option<(Speaker, Ask)>
+        ensures { self.new ≡ self.old }
+    {
         let now = self.post.sources.now();
         let pdus = self.post.pdus.take();
         let board = self.post.board.as_mut()?;
         board.notes_frames(now);
         board.notes_pdus(pdus.as_slice(), station);
-        let (speaker, ask) = self.post.sources.next_ask()?;
+        self.post.sources.next_ask()
+    }
+
+    /// Does what the console is asked next, and gives the command that it is, if it is one.
+    fn serves_console<O: Outbox, I: Inbox>(
+        &mut self,
+        station: &Station<O, I>,
+        waiting: usize,
+    ) -> Option<OperatorCommand>
+        ensures { Obeys self.old result self.new }
+    {
+        let (speaker, ask) = self.next_ask(station)?;
         match ask {
-            Ask::Command(line) => self.obeys(speaker, line.as_slice(), station, waiting),
+            Ask::Command(line) => {
+                let said = Said::Pressed(line);
+                self.heard.put(&said);
+                self.obeys(speaker, &said, station, waiting)
+            }
             Ask::Look(look) => {
                 let answer = self.shows(&look, station, waiting);
                 self.post.sources.shows(speaker, answer);
@@ -281,7 +367,9 @@ impl<'a> OperatorConsole<'a> {
     }
 
     /// Answers a command: the change of a transaction once it is made, any other at once.
-    fn accepts(&mut self, speaker: Speaker, command: &OperatorCommand) {
+    fn accepts(&mut self, speaker: Speaker, command: &OperatorCommand)
+        ensures { self.new ≡ self.old }
+    {
         match command {
             OperatorCommand::Change(_, request) => {
                 self.asker = Some((speaker, matches!(request, Request::Suspend)));
@@ -299,7 +387,9 @@ impl<'a> OperatorConsole<'a> {
         form: Form,
         station: &Station<O, I>,
         waiting: usize,
-    ) {
+    )
+        ensures { self.new ≡ self.old }
+    {
         match asked {
             Asked::Freeze => self.exchange.is_frozen.set(true),
             Asked::Thaw => self.exchange.is_frozen.set(false),
@@ -314,7 +404,9 @@ impl<'a> OperatorConsole<'a> {
 
     /// Reads the file of keys again, and has the wire change to its keys in the next turn. If they
     /// can't be read, the keys stay as they are.
-    fn rekeys(&mut self, speaker: Speaker) {
+    fn rekeys(&mut self, speaker: Speaker)
+        ensures { self.new ≡ self.old }
+    {
         let Some(path) = self.post.keys else {
             self.refuses(speaker, &"this station has no --keys");
             return;
@@ -331,7 +423,9 @@ impl<'a> OperatorConsole<'a> {
     }
 
     /// Answers why the keys at this path can't be read.
-    fn refuses_keys(&mut self, speaker: Speaker, path: &str, error: &SecretError) {
+    fn refuses_keys(&mut self, speaker: Speaker, path: &str, error: &SecretError)
+        ensures { self.new ≡ self.old }
+    {
         match format!(in self.rt.alloc(); "{path}: {error}") {
             Ok(why) => self.refuses(speaker, &why),
             Err(AllocError) => self.refuses(speaker, &"out of memory"),
@@ -359,14 +453,18 @@ impl<'a> OperatorConsole<'a> {
     }
 
     /// Answers that it is done, after these lines.
-    fn is_done(&mut self, speaker: Speaker, lines: &str) {
+    fn is_done(&mut self, speaker: Speaker, lines: &str)
+        ensures { self.new ≡ self.old }
+    {
         if let Some(text) = self.post.sources.done(speaker, lines) {
             self.says(text.as_str());
         }
     }
 
     /// Answers that a transaction is suspended, and after how long the peer gives it up.
-    fn is_suspended(&mut self, speaker: Speaker) {
+    fn is_suspended(&mut self, speaker: Speaker)
+        ensures { self.new ≡ self.old }
+    {
         let (inactivity, unit) = (self.post.inactivity, unit_word(self.post.unit));
         let text = format!(in self.rt.alloc();
             "the peer gives the transaction up after {inactivity} {unit}, as inactivity_time says, \
@@ -379,7 +477,9 @@ impl<'a> OperatorConsole<'a> {
     }
 
     /// Gives the log and the counters the notes since the last time.
-    fn takes_notes(&mut self) {
+    fn takes_notes(&mut self)
+        ensures { self.new ≡ self.old }
+    {
         let second = self.post.sources.now() / SECOND;
         let notes = self.exchange.notes.take();
         for note in notes.iter() {
@@ -388,7 +488,9 @@ impl<'a> OperatorConsole<'a> {
     }
 
     /// Says which file was refused, and why, if an indication ends one that was.
-    fn tells_refusal(&mut self, indication: &Indication) {
+    fn tells_refusal(&mut self, indication: &Indication)
+        ensures { self.new ≡ self.old }
+    {
         let Some(id) = self.refusing.ends(self.post.journal.own(), indication) else {
             return;
         };
@@ -407,7 +509,9 @@ impl<'a> OperatorConsole<'a> {
     }
 
     /// Notes on the board that a put was accepted.
-    fn notes_put(&mut self, id: TransactionId, names: &PutNames) {
+    fn notes_put(&mut self, id: TransactionId, names: &PutNames)
+        ensures { self.new ≡ self.old }
+    {
         let size = self.post.journal.size(id);
         if let Some(board) = &mut self.post.board {
             board.put_accepted(id, names, size);
@@ -464,8 +568,34 @@ impl<'a> OperatorConsole<'a> {
         }
     }
 
+    /// Whether the journal can't be written any more by which transfers go on.
+    fn is_stuck(&self) -> bool
+        ensures { IsTrue result → IsTrue self.now.has_journal }
+    {
+        match self.post.transfers {
+            Some(journal) => journal.is_stuck(),
+            None => false,
+        }
+    }
+
+    /// Gives the log what happened, and has the station know for what it may wait, until the next
+    /// command is looked for.
+    fn rests<O: Outbox, I: Inbox>(&mut self, station: &Station<O, I>)
+        ensures { self.new ≡ self.old }
+    {
+        self.takes_notes();
+        self.shows_sending(station);
+        self.post.journal.looks_at(station);
+        let mut watched = self.post.sources.watched();
+        self.post.journal.writer().inner().watches(&mut watched);
+        self.exchange.watched.set(watched);
+        self.wants_number = false;
+    }
+
     /// Answers why nothing was done.
-    fn refuses<D: fmt::Display>(&mut self, speaker: Speaker, why: &D) {
+    fn refuses<D: fmt::Display>(&mut self, speaker: Speaker, why: &D)
+        ensures { self.new ≡ self.old }
+    {
         if let Some(text) = self.post.sources.refused(speaker, why) {
             self.says(text.as_str());
         }
@@ -473,7 +603,9 @@ impl<'a> OperatorConsole<'a> {
 
     /// Answers a line of standard input on standard output, which nobody waits for: an answer waits
     /// and is lost as lines of the log are.
-    fn says(&mut self, text: &str) {
+    fn says(&mut self, text: &str)
+        ensures { self.new ≡ self.old }
+    {
         self.progress.yields();
         let out = self.post.journal.writer_mut();
         let _ = out.says(text.as_bytes());
@@ -482,36 +614,23 @@ impl<'a> OperatorConsole<'a> {
 }
 
 impl Console for OperatorConsole<'_> {
+    ghost steps = { λ old call new. Commands old call new };
+
     fn next<O: Outbox, I: Inbox>(
         &mut self,
         station: &Station<O, I>,
         waiting: usize,
     ) -> Option<OperatorCommand> {
-        for _line in 0..MOST_LINES {
-            let Some((speaker, line)) = self.post.sources.next_line() else {
-                break;
-            };
-            if let Some(command) = self.takes(speaker, line, station, waiting) {
-                return Some(command);
-            }
+        if let Some(command) = self.line_command(station, waiting) {
+            return Some(command);
         }
         if let Some(command) = self.serves_console(station, waiting) {
             return Some(command);
         }
-        if self
-            .post
-            .transfers
-            .is_some_and(|journal| journal.is_stuck())
-        {
+        if self.is_stuck() {
             return Some(OperatorCommand::StopNow);
         }
-        self.takes_notes();
-        self.shows_sending(station);
-        self.post.journal.looks_at(station);
-        let mut watched = self.post.sources.watched();
-        self.post.journal.writer().inner().watches(&mut watched);
-        self.exchange.watched.set(watched);
-        self.wants_number = false;
+        self.rests(station);
         None
     }
 
