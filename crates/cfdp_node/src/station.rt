@@ -5,25 +5,26 @@ pub mod console_door;
 pub mod earlier;
 pub mod operation;
 pub mod resuming;
-pub mod setup;
 
 use crate::failure::{DEVICE, Failure, FileError, RestartError, SetupError, SocketError};
 use crate::station::console_door::door;
 use crate::station::operation::{Context, SecuredEnds, StationParts, StationSpool, Transfers, ran};
 use crate::station::resuming::{Found, found_journal, held_folder};
-use crate::station::setup::{StationSetup, key_hint};
 use crate::transfers::named_files::{check_file, check_name, folder, folder_outbox, tell_untold};
 use crate::transfers::secured_links::keys_in;
 use cfdp_command_line::{CarrierKind, StationNumbers, StationRequest, TimeUnit, note_losses};
 use cfdp_control::{LineSources, remove_socket, socket_path};
-use cfdp_datagrams::{Carrier, DatagramWire, Pace, SharedNumbers, UdpTransport, Unit, Unusable};
+use cfdp_datagrams::{
+    Carrier, DatagramWire, Pace, PacketForm, SharedNumbers, UdpTransport, Unit, Unusable,
+};
 use cfdp_exchange::{Beacon, Exchange, NoteTopic};
 use cfdp_files::{
     HeldFolder, Reservation, StateError, Wanted, is_same_folder, lies_in, try_folder,
 };
 use cfdp_log::SeenPdus;
 use cfdp_operator::{SpoolNotes, Teller, note};
-use cfdp_report::{Hint, parse_number, parse_setting};
+use cfdp_report::{Hint, parse_setting};
+use cfdp_setup::{SetFault, StationSetup, key_hint};
 use cfdp_spool::FolderSpool;
 use cfdp_station::StationConfig;
 use cfdp_watch::{Progress, shown_status};
@@ -402,12 +403,28 @@ fn configuration<'a>(
     setup: &StationSetup,
 ) -> Result<(Valid<WorldConfig>, Carrier), SetupError<'a>> {
     let StationNumbers { id, peer, .. } = request.numbers;
-    match (setup.config(id, peer), setup.carrier(request.carrier)) {
+    match (setup.config(id, peer), carrier(setup, request.carrier)) {
         (Some(config), Some(carrier)) => Ok((config, carrier)),
         (None, _) | (_, None) => Err(match setup.out_of_range() {
             Some((setting, value)) => SetupError::OutOfRange(setting, value),
             None => SetupError::Misfit(setup.misfit(id, peer)),
         }),
+    }
+}
+
+/// Returns what a datagram is, by the word for it; `None` if packets can't be set up so.
+fn carrier(setup: &StationSetup, kind: CarrierKind) -> Option<Carrier> {
+    match kind {
+        CarrierKind::Frames => Some(Carrier::Frames),
+        CarrierKind::Packets => {
+            let packets = setup.packet_form()?;
+            Some(Carrier::Packets(PacketForm {
+                packet_type: packets.packet_type,
+                secondary_header: packets.secondary_header,
+                peer_secondary_header: packets.peer_secondary_header,
+            }))
+        }
+        CarrierKind::Pdus => Some(Carrier::Pdus),
     }
 }
 
@@ -449,18 +466,12 @@ fn set_up<'a>(
         first_number,
         ..
     } = request.numbers;
-    let mut setup = StationSetup::new(id < peer)
-        .beginning_at(first_number)
-        .with_security(request.keys.is_some());
+    let (is_lesser, is_secured) = (id < peer, request.keys.is_some());
     let words = request.sets.as_slice();
-    for pair in 0..words.len() / 2 {
-        set_one(
-            rt,
-            &mut setup,
-            words[2 * pair].as_str(),
-            words[2 * pair + 1].as_str(),
-        )?;
-    }
+    let setup = match StationSetup::by_words(is_lesser, is_secured, first_number, words) {
+        Ok(setup) => setup,
+        Err(fault) => return Err(set_error(rt, fault)),
+    };
     if setup.out_of_range().is_none() && !setup.fits_first_number() {
         return Err(SetupError::WideNumber(setup.number_width()));
     }
@@ -475,26 +486,18 @@ fn value_hint(key: &str) -> Hint {
     }
 }
 
-/// Sets one value.
-///
-/// # Errors
-///
-/// `BadNumber` if it is no number; `UnknownKey` if there is no such key.
-fn set_one<'a>(
-    rt: &HostRuntime,
-    setup: &mut StationSetup,
-    key: &'a str,
-    word: &'a str,
-) -> Result<(), SetupError<'a>> {
-    let Some(value) = parse_number(word.as_bytes()) else {
-        let hint = value_hint(key);
-        return Err(SetupError::BadNumber { key, word, hint });
-    };
-    if !setup.set(key, value) {
-        let hint = key_hint(rt.alloc(), key);
-        return Err(SetupError::UnknownKey { key, word, hint });
+/// Returns why words can't be set, with what may stand in their place.
+fn set_error<'a>(rt: &HostRuntime, fault: SetFault<'a>) -> SetupError<'a> {
+    match fault {
+        SetFault::Number { key, word } => {
+            let hint = value_hint(key);
+            SetupError::BadNumber { key, word, hint }
+        }
+        SetFault::Key { key, word } => {
+            let hint = key_hint(rt.alloc(), key);
+            SetupError::UnknownKey { key, word, hint }
+        }
     }
-    Ok(())
 }
 
 /// Reserves numbers in the file that is said; or, if none is and the first number isn't said

@@ -1,7 +1,7 @@
 //! Why what is asked of a command can't be set up.
-use crate::station::setup::{KeyHint, Misfit};
 use cfdp_command_line::tell_line;
 use cfdp_report::{Hint, LineError, Setting};
+use cfdp_setup::{KeyHint, Misfit};
 use std::fmt;
 use thiserror::Error;
 

@@ -1,11 +1,12 @@
 //! A loop whose frames are authenticated.
 use crate::failure::{Failure, SetupError};
 use crate::looping::LoopOptions;
-use crate::transfers::secured_links::{SECURITY_HEADER, bare_link, keys_in};
+use crate::transfers::secured_links::keys_in;
 use aos_frame::FrameFields;
 use cfdp_command_line::LoopRequest;
 use cfdp_files::Reservation;
 use cfdp_port::Wire;
+use cfdp_setup::{SECURITY_HEADER, bare_link};
 use cfdp_station::StationConfig;
 use frame_security::{LinkKeys, Security};
 use secured_wire::{NoKeeper, SecuredWire};

@@ -1,6 +1,5 @@
 //! Transfers that go on after a restart, by the journal of the station.
 use crate::failure::{FileError, JournalFault, RestartError, SetupError};
-use crate::station::setup::StationSetup;
 use crate::station::{outbox_of, side_of, state_path};
 use cfdp_command_line::{StationNumbers, StationRequest};
 use cfdp_directives::{Addressing, Indication};
@@ -13,6 +12,7 @@ use cfdp_report::Name;
 use cfdp_service::{
     Clerk, Console, Ended, PutNames, ServiceEnds, ServiceOptions, Spool, User, run_restored,
 };
+use cfdp_setup::StationSetup;
 use cfdp_station::RestoreError;
 use cfdp_store::{ResumingInbox, SeekingOutbox};
 use host_journal::{HostJournal, read_survey};
