@@ -4,6 +4,7 @@ use Rattle.cfdp_station.specs.Station.{StationState, station_lent}
 use Rattle.cfdp_c.specs.Codes.{in_folders}
 use Rattle.cfdp_c.specs.declared.held.AnyStation.{AnyStation}
 use Rattle.cfdp_c.specs.declared.held.AnyStation.TheVariants.{Memory, Folders}
+use Rattle.cfdp_c.specs.declared.held.Resumption.{Resumption}
 
 -- what it is, wherever its files are
 abbrev pub state_of : AnyStation → StationState
@@ -13,6 +14,10 @@ state_of (Folders s) = s
 abbrev pub has_folders : AnyStation → Bool
 has_folders (Memory s) = false
 has_folders (Folders s) = true
+
+-- what became of the transactions of a journal, if there was none
+abbrev pub none_resumed : Resumption
+none_resumed = record { resumed = 0; lost = 0; was_damaged = false }
 
 -- A call that is of files in memory did this; if the files are in folders, it says so, and
 -- leaves all as it was.

@@ -1,13 +1,14 @@
 // What an open handle has: a station with its stores in memory, or with both in folders.
-ghost use Rattle.std.specs.Prelude.{◌≡◌, true, false, [], IfOk};
+ghost use Rattle.std.specs.FinMap as map;
+ghost use Rattle.std.specs.Prelude.{◌≡◌, ◌++◌, ◌∷◌, true, false, [], IfOk};
 ghost use Rattle.cfdp_c.specs.Calls.{IsFirst};
 ghost use Rattle.cfdp_c.specs.declared.held.AnyStation.TheVariants as held;
-ghost use Rattle.cfdp_c.specs.Held.{has_folders, state_of};
+ghost use Rattle.cfdp_c.specs.Held.{has_folders, none_resumed, state_of};
 
-use crate::noting_inbox::NotingInbox;
+use crate::noting_inbox::{LibraryJournal, NotingInbox};
 use cfdp_directives::Indication;
 use cfdp_station::{Station, StationConfig, Valid};
-use cfdp_store::{FolderOutbox, MemoryInbox, MemoryOutbox};
+use cfdp_store::{FolderOutbox, Inbox, MemoryInbox, MemoryOutbox};
 use ghost_list::GhostList;
 use libc_folders::{FolderRefusal, HeldFolder, SystemFiles, look_at_folder};
 use std::alloc::{AllocError, Global};
@@ -46,9 +47,20 @@ impl Resumption {
     };
 }
 
+/// What a station does with the folder at this path.
+#[derive(Drop)]
+pub enum FolderUse {
+    /// It sends files from it.
+    SendsFrom(GhostList<u8>),
+    /// It receives files into it.
+    ReceivesInto(GhostList<u8>),
+}
+
 /// A station, and the folder that it receives into, if it has one.
 #[derive(Drop)]
 pub struct Held {
+    /// What it does with folders. Only clauses see it.
+    pub folders: GhostList<FolderUse>,
     pub station: AnyStation,
     pub resumption: Resumption,
     /// Ends of an earlier run that its user may not have heard, and hasn't asked for since.
@@ -80,10 +92,12 @@ impl Held {
     pub fn in_memory(alloc: Global, config: Valid<StationConfig>) -> Result<Held, AllocError>
         ensures first { IfOk result (λ held. IsFirst config (state_of held.station)) }
         ensures place { IfOk result (λ held. has_folders held.station ≡ false) }
+        ensures folders { IfOk result (λ held. held.folders ≡ []) }
     {
         let (outbox, inbox) = (MemoryOutbox::new(alloc), MemoryInbox::new(alloc));
         let station = Station::new(alloc, config, outbox, inbox)?;
         Ok(Held {
+            folders: GhostList::new(),
             station: AnyStation::Memory(station),
             resumption: Resumption::NONE,
             unheard: Vec::new(alloc),
@@ -100,15 +114,16 @@ impl Held {
     ) -> Result<Held, FoldersError>
         ensures first { IfOk result (λ held. IsFirst config (state_of held.station)) }
         ensures place { IfOk result (λ held. has_folders held.station ≡ true) }
+        ensures folders { IfOk result (λ held. held.folders
+            ≡ FolderUse.SendsFrom outbox.now ∷ FolderUse.ReceivesInto inbox.now ∷ []) }
     {
         let outbox = outbox_path(alloc, outbox)?;
         let (path, folder) = take_inbox(alloc, inbox)?;
-        let expected = Snapshot::of(&GhostList::new());
-        let sources = FolderOutbox::new(SystemFiles, alloc, outbox, expected)?;
-        let received = NotingInbox::new(alloc, path, None)?;
+        let mut folders = GhostList::new();
+        let sources = sends_from(alloc, outbox, &mut folders)?;
+        let received = receives_into(alloc, path, None, &mut folders)?;
         let station = Station::new(alloc, config, sources, received)?;
-        let resumption = Resumption::NONE;
-        Ok(Held::of_folders(alloc, station, folder, resumption))
+        Ok(Held::of_folders(alloc, station, folder, folders))
     }
 
     /// Returns what an open handle has over two folders, if it holds the second one.
@@ -116,15 +131,17 @@ impl Held {
         alloc: Global,
         station: FoldersStation,
         inbox: HeldFolder,
-        resumption: Resumption,
+        folders: GhostList<FolderUse>,
     ) -> Held
         ensures station { result.station ≡ held.Folders station }
-        ensures resumption { result.resumption ≡ resumption }
+        ensures resumption { result.resumption ≡ none_resumed }
+        ensures folders { result.folders ≡ folders }
         ensures unheard { result.unheard.items ≡ [] }
     {
         Held {
+            folders,
             station: AnyStation::Folders(station),
-            resumption,
+            resumption: Resumption::NONE,
             unheard: Vec::new(alloc),
             inbox: Some(inbox),
         }
@@ -139,8 +156,36 @@ impl Held {
     }
 }
 
+/// Returns the files of a folder to send from, and notes that.
+pub(crate) fn sends_from(
+    alloc: Global,
+    path: &str,
+    folders: &mut GhostList<FolderUse>,
+) -> Result<FolderOutbox<SystemFiles>, AllocError>
+    ensures { folders.new ≡ folders.old ++ FolderUse.SendsFrom path.now ∷ [] }
+{
+    folders.put(&FolderUse::SendsFrom(GhostList::of(path.as_bytes())));
+    FolderOutbox::new(SystemFiles, alloc, path, Snapshot::of(&GhostList::new()))
+}
+
+/// Returns an inbox over a folder, which may have a journal, and notes that.
+pub(crate) fn receives_into(
+    alloc: Global,
+    path: &str,
+    journal: Option<LibraryJournal>,
+    folders: &mut GhostList<FolderUse>,
+) -> Result<NotingInbox, AllocError>
+    ensures new { IfOk result (λ i. ⟦<NotingInbox as Inbox>⟧.published i ≡ map.empty) }
+    ensures noted { folders.new ≡ folders.old ++ FolderUse.ReceivesInto path.now ∷ [] }
+{
+    folders.put(&FolderUse::ReceivesInto(GhostList::of(path.as_bytes())));
+    NotingInbox::new(alloc, path, journal)
+}
+
 /// Returns the path of a folder to send from, which must be there.
-pub(crate) fn outbox_path(alloc: Global, path: &[u8]) -> Result<&str, FoldersError> {
+pub(crate) fn outbox_path(alloc: Global, path: &[u8]) -> Result<&str, FoldersError>
+    ensures { IfOk result (λ outbox. outbox.now ≡ path.now) }
+{
     let Ok(path) = str::from_utf8(path) else {
         return Err(FoldersError::NoOutbox);
     };
@@ -152,7 +197,9 @@ pub(crate) fn outbox_path(alloc: Global, path: &[u8]) -> Result<&str, FoldersErr
 }
 
 /// Returns the path of a folder to receive into, and the folder, taken.
-fn take_inbox(alloc: Global, path: &[u8]) -> Result<(&str, HeldFolder), FoldersError> {
+fn take_inbox(alloc: Global, path: &[u8]) -> Result<(&str, HeldFolder), FoldersError>
+    ensures { IfOk result (λ taken. taken.0.now ≡ path.now) }
+{
     let Ok(path) = str::from_utf8(path) else {
         return Err(FoldersError::NoInbox);
     };

@@ -1,21 +1,21 @@
 //! A station over two folders that keeps a journal, and goes on with what an earlier run left open.
-ghost use Rattle.std.specs.Prelude.{◌≡◌, true, IfOk};
+ghost use Rattle.std.specs.Prelude.{◌≡◌, ◌∷◌, true, [], IfOk};
 ghost use Rattle.cfdp_c.specs.Held.{has_folders};
 
 use crate::held::{
-    AnyStation, FoldersError, FoldersStation, Held, Resumption, of_inbox, outbox_path,
+    AnyStation, FolderUse, FoldersError, FoldersStation, Held, Resumption, of_inbox, outbox_path,
+    receives_into, sends_from,
 };
 use crate::journal_place::LibraryPlace;
-use crate::noting_inbox::{LibraryJournal, NotingInbox};
+use crate::noting_inbox::LibraryJournal;
 use cfdp_directives::Addressing;
 use cfdp_header::TransactionId;
 use cfdp_station::{Config, EntityConfig, Station, StationConfig, Valid};
-use cfdp_store::{FolderOutbox, NameRule, folder_of};
+use cfdp_store::{NameRule, folder_of};
 use ghost_list::GhostList;
 use libc_folders::{HeldFolder, SystemFiles, is_held};
 use std::alloc::{AllocError, Global};
 use std::io::ErrorKind;
-use std::snapshot::Snapshot;
 use transfer_journal::{
     JournalError, JournalPlace, JournalSetup, Owner, PublishRules, Restored, Survey, SurveyError,
     publish_again, read_survey, restore,
@@ -86,6 +86,8 @@ impl Held {
         every: u64,
     ) -> Result<Held, JournaledError>
         ensures place { IfOk result (λ held. has_folders held.station ≡ true) }
+        ensures folders { IfOk result (λ held. held.folders
+            ≡ FolderUse.SendsFrom paths.outbox.now ∷ FolderUse.ReceivesInto paths.inbox.now ∷ []) }
     {
         let outbox = outbox_path(alloc, paths.outbox)?;
         let Ok(inbox) = str::from_utf8(paths.inbox) else {
@@ -196,6 +198,8 @@ fn held_over(
     every: u64,
 ) -> Result<Held, JournaledError>
     ensures place { IfOk result (λ held. has_folders held.station ≡ true) }
+    ensures folders { IfOk result (λ held. held.folders
+        ≡ FolderUse.SendsFrom folders.0.now ∷ FolderUse.ReceivesInto folders.1.now ∷ []) }
 {
     let (place, found) = journal;
     let Found {
@@ -210,8 +214,9 @@ fn held_over(
         again: every.saturating_mul(AGAIN),
     };
     let config = numbered(config, survey.greatest_number(owner.entity));
-    let station = station_over(alloc, config, folders, place, setup)?;
-    let mut held = Held::of_folders(alloc, station, folder, Resumption::NONE);
+    let journal = LibraryJournal::new(alloc, place, setup);
+    let (station, uses) = station_over(alloc, config, folders, journal)?;
+    let mut held = Held::of_folders(alloc, station, folder, uses);
     match held.goes_on(alloc, survey, was_damaged) {
         Ok(()) => Ok(held),
         Err(error) => {
@@ -221,20 +226,22 @@ fn held_over(
     }
 }
 
-/// Makes a station over two folders, with a journal that isn't begun.
+/// Makes a station over two folders, with a journal that isn't begun, and notes what it does with
+/// each.
 fn station_over(
     alloc: Global,
     config: Valid<StationConfig>,
     folders: (&str, &str),
-    place: LibraryPlace,
-    setup: JournalSetup,
-) -> Result<FoldersStation, AllocError> {
+    journal: LibraryJournal,
+) -> Result<(FoldersStation, GhostList<FolderUse>), AllocError>
+    ensures { IfOk result (λ made. made.1
+        ≡ FolderUse.SendsFrom folders.0.now ∷ FolderUse.ReceivesInto folders.1.now ∷ []) }
+{
     let (outbox, inbox) = folders;
-    let journal = LibraryJournal::new(alloc, place, setup);
-    let received = NotingInbox::new(alloc, inbox, Some(journal))?;
-    let expected = Snapshot::of(&GhostList::new());
-    let sources = FolderOutbox::new(SystemFiles, alloc, outbox, expected)?;
-    Station::new(alloc, config, sources, received)
+    let mut uses = GhostList::new();
+    let sources = sends_from(alloc, outbox, &mut uses)?;
+    let received = receives_into(alloc, inbox, Some(journal), &mut uses)?;
+    Ok((Station::new(alloc, config, sources, received)?, uses))
 }
 
 impl Held {
@@ -245,7 +252,8 @@ impl Held {
         survey: Survey,
         was_damaged: bool,
     ) -> Result<(), JournaledError>
-        ensures { has_folders self.new.station ≡ has_folders self.old.station }
+        ensures place { has_folders self.new.station ≡ has_folders self.old.station }
+        ensures folders { self.new.folders ≡ self.old.folders }
     {
         let AnyStation::Folders(station) = &mut self.station else {
             return Ok(());
