@@ -36,6 +36,7 @@ RUNNING = (
     "cfdp_log",
     "cfdp_operator",
     "cfdp_service",
+    "cfdp_setup",
     "cfdp_spool",
     "cfdp_watch",
 )
