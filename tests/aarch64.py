@@ -1,5 +1,5 @@
 #!/usr/bin/env python3
-"""Runs the programs in C of bindings/ on aarch64, over its own archive, in qemu's emulator.
+"""Runs the programs in C on aarch64, over its own archive, in qemu's emulator.
 
     tests/aarch64.py                 .. out/aarch64-unknown-linux-gnu/libcfdp_c.a (`.ci/archive`)
     tests/aarch64.py --tools         looks for compiler and emulator: status 0 where they are there
@@ -29,7 +29,7 @@ STRICT = ["-std=c99", "-O2", "-Wall", "-Wextra", "-Wpedantic", "-Werror", f"-I{C
 
 # What is built of which sources, and run with which words, of which FOLDER is an empty folder.
 FOLDER = "an empty folder"
-TRANSFER = [f"{C}/examples/transfer.c", f"{C}/heap.c"]
+TRANSFER = [f"{TOP}/examples/c/transfer.c", f"{C}/heap.c"]
 PROGRAMS = [(TRANSFER, [octets]) for octets in ("0", "1", "100000")]
 PROGRAMS += [([f"{TESTS}/c/calls.c"], []), ([f"{C}/tests/forgetting.c"], ["20"])]
 PROGRAMS += [([f"{C}/tests/in_a_pool.c", f"{C}/pool.c"], ["1000"])]

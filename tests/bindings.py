@@ -1,5 +1,5 @@
 #!/usr/bin/env python3
-"""Builds and runs what stands in bindings/ over crates/cfdp_c/out/libcfdp_c.a (`.ci/archive`).
+"""Builds and runs bindings/ and the examples over crates/cfdp_c/out/libcfdp_c.a (`.ci/archive`).
 
     tests/bindings.py                       all of it
     tests/bindings.py --archive PATH ..     over another archive
@@ -8,11 +8,11 @@
     tests/bindings.py --figures             tells what the archive takes, no more
 
 Compares cfdp.h and ffi.rs with the crate's sources, and the archive's names with them, and the code
-that docs/EMBEDDING.md shows with bindings/c/tests/guide.c; compiles the headers, the examples,
-calls.c and what stands in bindings/*/tests without warnings; runs them, also under AddressSanitizer
-and valgrind; looks at headers and examples by cppcheck's MISRA addon; and makes the pages of the
-crate for Rust, runs their examples and clippy. Where a machine hasn't one of the compilers or
-checkers, a line says so. The last line is 'N passed, M failed'.
+that docs/EMBEDDING.md shows with bindings/c/tests/guide.c; compiles the headers, the examples (in
+examples/c and examples/rust), calls.c and what stands in bindings/*/tests without warnings; runs
+them, also under AddressSanitizer and valgrind; looks at headers and examples by cppcheck's MISRA
+addon; and makes the pages of the crate for Rust, runs their examples and clippy. Where a machine
+hasn't one of the compilers or checkers, a line says so. The last line is 'N passed, M failed'.
 """
 import os
 import re
@@ -29,6 +29,7 @@ from lib.processes import PATIENT
 from lib.waiting import waits_for
 
 CRATE, C, RUST = f"{TOP}/crates/cfdp_c", f"{TOP}/bindings/c", f"{TOP}/bindings/rust"
+EXAMPLES = f"{TOP}/examples"
 SECONDS = 1200
 
 # The edition of the wrapper in Rust, and the version of clippy that was answered: another one says
@@ -334,6 +335,11 @@ def exceptions():
             yield from ((rule, it) for it in files if reason)
 
 
+def named(path):
+    """A file as bindings/c/misra.txt names it: an example from the top, others by their name."""
+    return os.path.relpath(path, TOP if path.startswith(f"{EXAMPLES}/") else C)
+
+
 def breaches(path):
     """The rules that a file breaks, and those that the headers break which it includes."""
     words = ["cppcheck", "--addon=misra", "--std=c99", "--language=c", "--quiet", f"-I{C}"]
@@ -342,15 +348,15 @@ def breaches(path):
     told = ran.stdout + ran.stderr
     found = re.findall(r"^(\S+?):(\d+): misra-c2012-(\d+\.\d+)$", told, re.M)
     other = [it for it in told.splitlines() if not re.search(r": misra-c2012-[\d.]+$", it)]
-    return {(rule, os.path.relpath(file, C)) for file, _, rule in found}, other
+    return {(rule, named(file)) for file, _, rule in found}, other
 
 
 def misra_mistakes():
     """Rules that are broken without a reason, and reasons without a breach."""
-    found, files = set(), ["heap.c", "errno.c", "pool.c"]
-    files += [f"examples/{it}" for it in sorted(os.listdir(f"{C}/examples"))]
+    found, files = set(), [f"{C}/{it}" for it in ("heap.c", "errno.c", "pool.c")]
+    files += [f"{EXAMPLES}/c/{it}" for it in sorted(os.listdir(f"{EXAMPLES}/c"))]
     for it in files:
-        broken, other = breaches(f"{C}/{it}")
+        broken, other = breaches(it)
         found |= broken
         yield from other
     allowed = {*exceptions()}
@@ -430,7 +436,7 @@ class Bindings:
         octets = chance_of(70).randbytes(700_001)
         with open(f"{outbox}/a.bin", "wb") as it:
             it.write(octets)
-        example = [f"{C}/examples/folders.c", f"{C}/heap.c"]
+        example = [f"{EXAMPLES}/c/folders.c", f"{C}/heap.c"]
         yield from self.c_mistakes(C99, example, [], [], [outbox, inbox, "a.bin", "b.bin"])
         if os.listdir(inbox) != ["b.bin"]:
             yield f"the inbox has {os.listdir(inbox)}"
@@ -448,14 +454,14 @@ class Bindings:
         station = "CFDP_POOL_STATION(16384) + CFDP_POOL_RECORDS(1)"
         each = f"{station} + CFDP_POOL_IN_FOLDER + CFDP_POOL_GAPS(7500)"
         flags = [f"-DCFDP_POOL=CFDP_POOL_FOR(2 * ({each}))"]
-        example = [f"{C}/examples/folders.c", f"{C}/pool.c"]
+        example = [f"{EXAMPLES}/c/folders.c", f"{C}/pool.c"]
         yield from self.c_mistakes(C99, example, flags, [], [outbox, inbox, "a.bin"])
         if not os.path.isfile(f"{inbox}/a.bin") or os.path.getsize(f"{inbox}/a.bin") != 30_000_000:
             yield f"the inbox has {os.listdir(inbox)}"
 
     def c_runs(self):
         """Each program in C, by each compiler and checker."""
-        example = [f"{C}/examples/transfer.c", f"{C}/heap.c"]
+        example = [f"{EXAMPLES}/c/transfer.c", f"{C}/heap.c"]
         forgetting = [f"{C}/tests/forgetting.c"]
         pool = [f"{C}/tests/in_a_pool.c", f"{C}/pool.c"]
         pools = [f"{C}/tests/pools.c", f"{C}/pool.c"]
@@ -531,12 +537,12 @@ class Bindings:
         folder = os.path.dirname(self.archive)
         wrapper = ["--crate-type", "rlib", "--crate-name", "cfdp", f"{RUST}/src/lib.rs"]
         one = [*rustc, *wrapper, "-L", f"native={folder}", "-o", library]
-        program = [*flags, "--extern", f"cfdp={library}", f"{RUST}/{source}"]
+        program = [*flags, "--extern", f"cfdp={library}", source]
         return [one, [*rustc, *program, "-L", f"native={folder}", "-o", made]], made
 
     def rust_example(self):
         """The same of the example."""
-        return self.rust_program("examples/transfer.rs", "transfer_rs")
+        return self.rust_program(f"{EXAMPLES}/rust/transfer.rs", "transfer_rs")
 
     def rust_runs(self):
         """The tests in Rust, and the example, as it is and under valgrind."""
@@ -544,7 +550,7 @@ class Bindings:
             print("no rustc: the wrapper, its tests and its example aren't compiled")
             return
         for name in ("fields", "folders", "forgetting", "lists", "resuming", "securing", "threads"):
-            builds, made = self.rust_program(f"tests/{name}.rs", f"{name}_rs", "--test")
+            builds, made = self.rust_program(f"{RUST}/tests/{name}.rs", f"{name}_rs", "--test")
             yield f"{name}.rs", run_mistakes(*builds, [made])
             if name == "threads" and shutil.which("valgrind"):
                 words = ["valgrind", "-q", "--error-exitcode=9"]
@@ -561,7 +567,7 @@ class Bindings:
         source = f"{self.room}/shared.rs"
         with open(source, "w", encoding="utf-8") as it:
             it.write("fn shared<T: Sync>() {}\nfn main() { shared::<cfdp::Station>() }\n")
-        library, _ = self.rust_program("examples/transfer.rs", "shared_rs")[0]
+        library, _ = self.rust_example()[0]
         yield from run_mistakes(library)
         words = ["rustc", "--edition", EDITION, "--emit", "metadata", "--out-dir", self.room]
         words += ["--extern", f"cfdp={self.room}/libcfdp.rlib", source]
@@ -570,10 +576,11 @@ class Bindings:
             yield f"a station is shared between threads, or isn't for something else: {said}"
 
     def cargo_mistakes(self, words, **how):
-        """What is wrong where cargo does this in a copy of the crate."""
-        folder = f"{self.room}/crate"
+        """What is wrong where cargo does this in a copy of the crate, which has its example."""
+        folder = f"{self.room}/bindings/rust"
         if not os.path.isdir(folder):
             shutil.copytree(RUST, folder, ignore=shutil.ignore_patterns("target", "Cargo.lock"))
+            shutil.copytree(f"{EXAMPLES}/rust", f"{self.room}/examples/rust")
         how = {**os.environ, **how}
         words = ["cargo", words[0], "--offline", *words[1:]]
         yield from run_mistakes(words, cwd=folder, env=how)
@@ -623,7 +630,7 @@ class Bindings:
             print(f"no {self.program}: no transfer over UDP")
             return
         made = f"{self.room}/made"
-        example = [f"{C}/examples/transfer.c", f"{C}/heap.c", f"{C}/errno.c", self.archive]
+        example = [f"{EXAMPLES}/c/transfer.c", f"{C}/heap.c", f"{C}/errno.c", self.archive]
         if not [*run_mistakes([*C99, *example, "-o", made])]:
             yield "transfer.c over UDP", self.udp_mistakes(made)
         if shutil.which("rustc"):
@@ -655,7 +662,7 @@ class Bindings:
 def tell_figures(archive, room):
     """Prints the sizes of the archive and of a stripped program, and what the programs measure."""
     made = f"{room}/figures"
-    files = [f"{C}/examples/transfer.c", f"{C}/heap.c", f"{C}/errno.c", archive]
+    files = [f"{EXAMPLES}/c/transfer.c", f"{C}/heap.c", f"{C}/errno.c", archive]
     subprocess.run([*C99, *files, "-s", "-Wl,--gc-sections", "-o", made], check=True)
     print(f"archive {os.path.getsize(archive)} octets, stripped transfer {os.path.getsize(made)}")
     stack, pool = [f"{C}/tests/stack.c", f"{C}/heap.c"], [f"{C}/tests/in_a_pool.c", f"{C}/pool.c"]
