@@ -1,5 +1,5 @@
 //! Files that were about to be published when a station was killed.
-ghost use Rattle.std.specs.Prelude.{OnOk};
+ghost use Rattle.std.specs.Prelude.{◌≡◌, IfOk};
 ghost use Rattle.cfdp_store.specs.Names.{Allows};
 
 use crate::kept::{KeptTransfer, Publication};
@@ -79,18 +79,8 @@ fn publish_part<F: Files>(
     rules: PublishRules<'_>,
     id: TransactionId,
     file: &Publication,
-) -> io::Result<()>
-    ensures allowed { OnOk result (Allows rules.entry.names file.now.name.items) }
-{
-    if !rules.names.allows(file.name.as_slice()) {
-        return Err(io::Error::from(ErrorKind::InvalidFilename));
-    }
-    let Ok(name) = str::from_utf8(file.name.as_slice()) else {
-        return Err(io::Error::from(ErrorKind::InvalidFilename));
-    };
-    if rules.most_size > 0 && file.size > rules.most_size {
-        return Err(io::Error::from(ErrorKind::FileTooLarge));
-    }
+) -> io::Result<()> {
+    let name = allowed_name(rules, file.name.as_slice(), file.size)?;
     let folder = rules.folder;
     let part = part_path(alloc, folder, id)?;
     let path = format!(in alloc; "{folder}/{name}")?;
@@ -106,6 +96,22 @@ fn publish_part<F: Files>(
     cut(files, part.as_str(), file.size)?;
     name_part(files, part.as_str(), path.as_str(), rules.replaces)?;
     File::open(files, folder)?.sync_all()
+}
+
+/// Returns the name of a file of this size as text, if the rules allow both.
+fn allowed_name<'a>(rules: PublishRules<'_>, name: &'a [u8], size: u64) -> io::Result<&'a str>
+    ensures { IfOk result (λ text. (text.now ≡ name.now) × Allows rules.entry.names name.now) }
+{
+    if !rules.names.allows(name) {
+        return Err(io::Error::from(ErrorKind::InvalidFilename));
+    }
+    if rules.most_size > 0 && size > rules.most_size {
+        return Err(io::Error::from(ErrorKind::FileTooLarge));
+    }
+    match str::from_utf8(name) {
+        Ok(text) => Ok(text),
+        Err(_) => Err(io::Error::from(ErrorKind::InvalidFilename)),
+    }
 }
 
 /// Looks whether a plain file of this size has the path of a file whose part is gone.
