@@ -3,9 +3,8 @@ use Rattle.std.proofs.Common.{◌≡◌, ◌⊎◌, ◌∙◌, ◌++◌, ◌∷�
 use Rattle.std.specs.Prelude.{IfSome, IsTrue, codes, not}
 use Rattle.std.specs.Str.{IsTrimAsciiEnd}
 use Rattle.cfdp_store.specs.declared.name_rule.NameRule.{NameRule}
-use Rattle.cfdp_control.specs.Asking.{Reads, asked_by}
+use Rattle.cfdp_control.specs.Asking.{Reads, asked_by, wanted}
 use Rattle.cfdp_control.specs.declared.command.Asked.{Asked}
-use Rattle.cfdp_control.specs.declared.command.Asked.TheVariants as asked
 use Rattle.cfdp_control.specs.declared.command.CommandError.{CommandError}
 use Rattle.cfdp_control.specs.declared.line.LineFault.{LineFault}
 use Rattle.cfdp_control.specs.declared.line.Speaker.{Speaker}
@@ -87,19 +86,18 @@ form_of line text true json plain = inl (json refl)
 form_of line text false json plain = inr (plain refl)
 
 -- What is given of what a line was read as is what the line asks for.
-pub obeyed : (names : NameRule) (line text kept : List ℕ) (is_json : Bool)
-    (command : OperatorCommand) (answer : Result Asked CommandError)
-    (given : Option OperatorCommand)
+pub obeyed : (names : NameRule) (line text kept : List ℕ) (is_json : Bool) (asked : Asked)
+    (answer : Result Asked CommandError) (given : Option OperatorCommand)
     → (IsTrue is_json → line ≡ codes "--json " ++ text) → (IsTrue (not is_json) → line ≡ text)
-    → IsTrimAsciiEnd text kept → Reads answer (asked_by kept) → answer ≡ Ok (asked.Command command)
-    → IfSome given (λ it. wanted_by it ≡ named names (wanted_by command))
+    → IsTrimAsciiEnd text kept → Reads answer (asked_by kept) → answer ≡ Ok asked
+    → IfSome given (λ it. wanted_by it ≡ named names (wanted asked))
     → IfSome given (λ it. Asks names line it)
-obeyed names line text kept is_json command answer None json plain trimmed reads is gives = gives
-obeyed names line text kept is_json command answer (Some it) json plain trimmed reads is gives =
+obeyed names line text kept is_json asked answer None json plain trimmed reads is gives = gives
+obeyed names line text kept is_json asked answer (Some it) json plain trimmed reads is gives =
     record {
       text = text;
       kept = kept;
-      meant = wanted_by command;
+      meant = wanted asked;
       form = form_of line text is_json json plain;
       trimmed = trimmed;
       asked = subst (λ a. Reads a (asked_by kept)) is reads;

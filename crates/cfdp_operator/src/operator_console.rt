@@ -1,5 +1,6 @@
 //! Where the operator of a station stands: the lines of commands, the console, and the log.
 ghost use Rattle.std.specs.Prelude.{◌≡◌, [], IfOk, IfSome, IsTrue, is_some};
+ghost use Rattle.cfdp_control.specs.Asking.{wanted};
 ghost use Rattle.cfdp_operator.specs.Commanded.{Asks, AsksFor, Commands, HearsLine, Obeys, named};
 ghost use Rattle.cfdp_operator.specs.Commanded.{octets_of, wanted_by};
 
@@ -203,22 +204,45 @@ impl<'a> OperatorConsole<'a> {
             Asks self.old.names (octets_of said.now) command) }
     {
         let (is_json, line) = split_form(said.octets());
-        let form = if is_json { Form::Json } else { self.post.form };
+        let form = self.form(is_json);
         match parse_command(self.rt.alloc(), line) {
-            Ok(Asked::Command(command)) => self.commanded(speaker, command),
-            Ok(Asked::Rekey) => {
-                self.rekeys(speaker);
-                None
-            }
-            Ok(asked) => {
-                self.answers(speaker, &asked, form, station, waiting);
-                None
-            }
+            Ok(asked) => self.does(speaker, asked, form, station, waiting),
             Err(error) => {
                 self.refuses(speaker, &error);
                 None
             }
         }
+    }
+
+    /// Does what is asked, and gives the command that it is, if it is one.
+    fn does<O: Outbox, I: Inbox>(
+        &mut self,
+        speaker: Speaker,
+        asked: Asked,
+        form: Form,
+        station: &Station<O, I>,
+        waiting: usize,
+    ) -> Option<OperatorCommand>
+        ensures same { self.new ≡ self.old }
+        ensures given { IfSome result (λ given. wanted_by given
+            ≡ named self.old.names (wanted asked)) }
+    {
+        match asked {
+            Asked::Command(command) => self.commanded(speaker, command),
+            Asked::Rekey => {
+                self.rekeys(speaker);
+                None
+            }
+            asked => {
+                self.answers(speaker, &asked, form, station, waiting);
+                None
+            }
+        }
+    }
+
+    /// How a line is answered.
+    fn form(&self, is_json: bool) -> Form {
+        if is_json { Form::Json } else { self.post.form }
     }
 
     /// Accepts a command, unless it is a put of a file that can't be sent.
