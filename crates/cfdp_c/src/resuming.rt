@@ -87,7 +87,8 @@ impl Held {
     ) -> Result<Held, JournaledError>
         ensures place { IfOk result (λ held. has_folders held.station ≡ true) }
         ensures folders { IfOk result (λ held. held.folders
-            ≡ FolderUse.SendsFrom paths.outbox.now ∷ FolderUse.ReceivesInto paths.inbox.now ∷ []) }
+            ≡ FolderUse.SendsFrom paths.entry.outbox.now
+            ∷ FolderUse.ReceivesInto paths.entry.inbox.now ∷ []) }
     {
         let outbox = outbox_path(alloc, paths.outbox)?;
         let Ok(inbox) = str::from_utf8(paths.inbox) else {
@@ -199,7 +200,7 @@ fn held_over(
 ) -> Result<Held, JournaledError>
     ensures place { IfOk result (λ held. has_folders held.station ≡ true) }
     ensures folders { IfOk result (λ held. held.folders
-        ≡ FolderUse.SendsFrom folders.0.now ∷ FolderUse.ReceivesInto folders.1.now ∷ []) }
+        ≡ FolderUse.SendsFrom folders.entry.0.now ∷ FolderUse.ReceivesInto folders.entry.1.now ∷ []) }
 {
     let (place, found) = journal;
     let Found {
@@ -235,7 +236,7 @@ fn station_over(
     journal: LibraryJournal,
 ) -> Result<(FoldersStation, GhostList<FolderUse>), AllocError>
     ensures { IfOk result (λ made. made.1
-        ≡ FolderUse.SendsFrom folders.0.now ∷ FolderUse.ReceivesInto folders.1.now ∷ []) }
+        ≡ FolderUse.SendsFrom folders.entry.0.now ∷ FolderUse.ReceivesInto folders.entry.1.now ∷ []) }
 {
     let (outbox, inbox) = folders;
     let mut uses = GhostList::new();
