@@ -8,7 +8,7 @@ ghost use Rattle.cfdp_c.specs.Held.{has_folders, none_resumed, state_of};
 use crate::noting_inbox::{LibraryJournal, NotingInbox};
 use cfdp_directives::Indication;
 use cfdp_station::{Station, StationConfig, Valid};
-use cfdp_store::{FolderOutbox, Inbox, MemoryInbox, MemoryOutbox};
+use cfdp_store::{FolderOutbox, Inbox, MemoryInbox, MemoryOutbox, Outbox};
 use ghost_list::GhostList;
 use libc_folders::{FolderRefusal, HeldFolder, SystemFiles, look_at_folder};
 use std::alloc::{AllocError, Global};
@@ -162,7 +162,9 @@ pub(crate) fn sends_from(
     path: &str,
     folders: &mut GhostList<FolderUse>,
 ) -> Result<FolderOutbox<SystemFiles>, AllocError>
-    ensures { folders.new ≡ folders.old ++ FolderUse.SendsFrom path.now ∷ [] }
+    ensures files { IfOk result (λ o. ⟦<FolderOutbox<SystemFiles> as Outbox>⟧.files o ≡ map.empty) }
+    ensures stands { IfOk result (λ o. ⟦<FolderOutbox<SystemFiles> as Outbox>⟧.stands o ≡ true) }
+    ensures noted { folders.new ≡ folders.old ++ FolderUse.SendsFrom path.now ∷ [] }
 {
     folders.put(&FolderUse::SendsFrom(GhostList::of(path.as_bytes())));
     FolderOutbox::new(SystemFiles, alloc, path, Snapshot::of(&GhostList::new()))
