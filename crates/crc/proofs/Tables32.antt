@@ -1,10 +1,10 @@
 -- The tables of thirty-two bits, computed again row by row, and steps by them. All that is left
 -- stands mirrored here.
 use Rattle.std.proofs.Common.{◌≡◌, ℕ, zero, suc, ◌+◌, ◌*◌, ◌/◌, ◌%◌, ◌^◌, ◌<◌, ◌≤◌, List, [], ◌∷◌, length, map, get_or, take, replicate, refl, sym, subst, ap, ap₂, ◌∙◌, arith}
-use Rattle.std.specs.Int.{reverse_bits_onto}
+use Rattle.std.specs.Int.{w32, from_le_bytes, reverse_bits_onto}
 use Rattle.std.specs.Int.Bits.{bit_xor, xor_zero_r, xor_self}
 use Rattle.std.specs.List.{range_with_len}
-use Rattle.std.proofs.lemmas.Nat.{xor_lt, xor_comm}
+use Rattle.std.proofs.lemmas.Nat.{xor_lt, xor_comm, xor_mod, xor_shr}
 use Rattle.std.proofs.lemmas.List.{get_or-map, length-map, length-take, get_or-take, get_or-replicate, take_all}
 use Rattle.std.proofs.lemmas.List.FromFn.{get_or-map-range_with_len}
 use lib.Bits.{xor_assoc, xor_shifted}
@@ -216,6 +216,21 @@ pub record IsEights32 (kind : Crc32) (before : ℕ) (o : List ℕ) (whole place 
   pub within : place ≤ whole
   pub eights : place % 8 ≡ 0
   pub is : mirror ≡ L kind before (take place o)
+
+-- the octets of a word that is added to four octets at once
+pub xor_of_octets : (m v a b c d : ℕ) → a < 256 → b < 256 → c < 256 → d < 256 → v ≡ from_le_bytes w32 (a ∷ b ∷ c ∷ d ∷ [])
+    → (bit_xor m v % 2 ^ 8 ≡ bit_xor (m % 2 ^ 8) a) × (bit_xor m v / 2 ^ 8 % 2 ^ 8 ≡ bit_xor (m / 2 ^ 8 % 2 ^ 8) b)
+    × (bit_xor m v / 2 ^ 16 % 2 ^ 8 ≡ bit_xor (m / 2 ^ 16 % 2 ^ 8) c) × (bit_xor m v / 2 ^ 24 ≡ bit_xor (m / 2 ^ 24) d)
+xor_of_octets m v a b c d ha hb hc hd is =
+    let first : v % 2 ^ 8 ≡ a = omega arith in
+    let second : v / 2 ^ 8 % 2 ^ 8 ≡ b = omega arith in
+    let third : v / 2 ^ 16 % 2 ^ 8 ≡ c = omega arith in
+    let fourth : v / 2 ^ 24 ≡ d = omega arith in (
+      xor_mod m v 8 ∙ ap (bit_xor (m % 2 ^ 8)) first,
+      ap (λ x. x % 2 ^ 8) (xor_shr m v 8) ∙ xor_mod (m / 2 ^ 8) (v / 2 ^ 8) 8 ∙ ap (bit_xor (m / 2 ^ 8 % 2 ^ 8)) second,
+      ap (λ x. x % 2 ^ 8) (xor_shr m v 16) ∙ xor_mod (m / 2 ^ 16) (v / 2 ^ 16) 8 ∙ ap (bit_xor (m / 2 ^ 16 % 2 ^ 8)) third,
+      xor_shr m v 24 ∙ ap (bit_xor (m / 2 ^ 24)) fourth,
+    )
 
 pub eights_more32 : (kind : Crc32) (t : List (List ℕ)) (before whole place mirror next p0 p1 p2 p3 p4 p5 p6 p7 : ℕ) (o : List ℕ) → AreTables kind t
     → whole % 8 ≡ 0 → whole ≤ length o → place < whole → ((i : ℕ) → get_or o i 0 < 256)

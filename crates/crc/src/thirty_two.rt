@@ -57,10 +57,17 @@ impl Crc32 {
         let mut mirror = self.mirrored(before);
         let mut place = 0;
         while place < whole {
-            let first = (mirror % 256) as u8 ^ octets[place];
-            let second = ((mirror >> 8) % 256) as u8 ^ octets[place + 1];
-            let third = ((mirror >> 16) % 256) as u8 ^ octets[place + 2];
-            let fourth = (mirror >> 24) as u8 ^ octets[place + 3];
+            let word = mirror
+                ^ u32::from_le_bytes([
+                    octets[place],
+                    octets[place + 1],
+                    octets[place + 2],
+                    octets[place + 3],
+                ]);
+            let first = (word % 256) as u8;
+            let second = ((word >> 8) % 256) as u8;
+            let third = ((word >> 16) % 256) as u8;
+            let fourth = (word >> 24) as u8;
             mirror = tables[7][usize::from(first)]
                 ^ tables[6][usize::from(second)]
                 ^ tables[5][usize::from(third)]
