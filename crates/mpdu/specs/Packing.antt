@@ -3,6 +3,11 @@ use Rattle.std.specs.Prelude.{◌≡◌, ℕ, zero, suc, ◌+◌, ◌-◌, ◌*�
 use Rattle.space_packet.specs.Packet.{packet_octets, idle}
 use Rattle.mpdu.specs.Stream.{header_len, ArePackets, stream, zone, first_header_pointer}
 
+-- the octets that wait in a queue, and how many may
+pub record QueueState : Type 0 where
+  pub items : List ℕ
+  pub capacity : ℕ
+
 -- what a packer holds: the octets that wait, the index among them at which the next packet starts,
 -- or will, and whether the last to come was a flush's idle packet
 pub record PackerState : Type 0 where

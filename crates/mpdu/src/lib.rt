@@ -29,6 +29,7 @@ mod header;
 mod laws;
 mod mpdu_header;
 mod packer;
+mod queue;
 mod reassembler;
 
 pub use carrying::{are_few_in_a_row, carry};

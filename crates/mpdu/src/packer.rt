@@ -1,16 +1,15 @@
 //! Packets into zones.
 ghost use Rattle.std.specs.Prelude.{◌≡◌, ℕ, ◌+◌, ◌-◌, ◌<◌, ◌≤◌, ◌↔◌, ◌⊎◌, ◌++◌, List, [], ◌∷◌};
-ghost use Rattle.std.specs.Prelude.{false, true, length, take, drop, get_or, IfOk, OnOk, OnErr};
+ghost use Rattle.std.specs.Prelude.{false, true, length, take, drop, IfOk, OnOk, OnErr};
 ghost use Rattle.std.specs.Prelude.{IsErr, IsNone, IfNone, IfSome};
-ghost use Rattle.circular_buffer.specs.Buffer.{buffer};
-ghost use Rattle.mpdu.specs.Stream.{IsPacket, stream, header_len};
+ghost use Rattle.mpdu.specs.Stream.{IsPacket, stream};
 ghost use Rattle.mpdu.specs.Reading.{pointer_after};
 ghost use Rattle.mpdu.specs.Packets.{busy};
 ghost use Rattle.mpdu.specs.Packing.{PackerState, skip, IsAt, ZoneOf, idle_packet, flush_of};
 
 use crate::header::packet_len;
+use crate::queue::Queue;
 use crate::{MAX_ZONE, NO_START};
-use circular_buffer::HeapCircularBuffer;
 use space_packet::encode_idle;
 use space_packet::header::HEADER_LEN;
 use std::alloc::{AllocError, Global};
@@ -28,131 +27,55 @@ const FLUSH_ROOM: usize = 2047;
 #[error("no room for the packet: take frames off first")]
 pub struct Full;
 
-/// Returns one of the octets; 0 if it is past the last.
-fn octet_at(octets: &HeapCircularBuffer<u8>, place: usize) -> u8
-    ensures { result ≡ get_or octets.now.items place 0 }
-{
-    octets.get(place).copied().unwrap_or(0)
-}
-
-/// Returns the number of octets of the packet that begins at this offset.
-fn packet_len_at(octets: &HeapCircularBuffer<u8>, place: usize) -> usize
-    requires near { place < 2040 }
-    requires inside { place + 6 ≤ length octets.now.items }
-    ensures told { result ≡ header_len (drop place octets.now.items) }
-    ensures long { 7 ≤ result }
-    ensures short { result ≤ 65542 }
-{
-    packet_len(&[
-        octet_at(octets, place),
-        octet_at(octets, place + 1),
-        octet_at(octets, place + 2),
-        octet_at(octets, place + 3),
-        octet_at(octets, place + 4),
-        octet_at(octets, place + 5),
-    ])
-}
-
 /// Returns the first start that is at least `size`, or whose header isn't whole there, going by the
 /// headers from the start `first`.
-fn next_in_front(front: &[u8], first: usize, size: usize) -> usize
+fn next_first(octets: &[u8], first: usize, size: usize) -> usize
     requires { size ≤ 2040 }
-    ensures { (behind : List ℕ) → skip size size first (front.now ++ behind)
-        ≡ skip size size result (front.now ++ behind) }
-{
-    let mut at = first;
-    while at < size && at + HEADER_LEN <= front.len() {
-        at += packet_len(&front[at..]);
-    }
-    at
-}
-
-/// Returns the first start that is at least `size`, going by the headers from the start `first`,
-/// also if they lie at both ends of the ring. This is rare, so it is a function of its own.
-#[inline(never)]
-fn next_around(octets: &HeapCircularBuffer<u8>, first: usize, size: usize) -> usize
-    requires { size ≤ 2040 }
-    ensures { result ≡ skip size size first octets.now.items }
+    ensures { result ≡ skip size size first octets.now }
 {
     let mut at = first;
     while at < size && at + HEADER_LEN <= octets.len() {
-        at += packet_len_at(octets, at);
+        at += packet_len(&octets[at..]);
     }
     at
-}
-
-/// Returns the first start that is at least `size`, going by the headers from the start `first`;
-/// `front` is what lies in one piece.
-fn next_first(octets: &HeapCircularBuffer<u8>, front: &[u8], first: usize, size: usize) -> usize
-    requires near { size ≤ 2040 }
-    requires front { (behind : List ℕ) × (front.now ++ behind ≡ octets.now.items) }
-    ensures { result ≡ skip size size first octets.now.items }
-{
-    if first >= size {
-        return first;
-    }
-    let at = next_in_front(front, first, size);
-    if at < size && at + HEADER_LEN <= octets.len() {
-        return next_around(octets, at, size);
-    }
-    at
-}
-
-/// Copies octets that lie in two pieces, as many as `out` has. This is rare, so it is a function of
-/// its own.
-#[inline(never)]
-fn copy_both(front: &[u8], behind: &[u8], out: &mut [u8])
-    requires more { length front.now ≤ length out.old }
-    requires all { length out.old ≤ length front.now + length behind.now }
-    ensures { out.new ≡ take (length out.old) (front.now ++ behind.now) }
-{
-    let (left, right) = out.split_at_mut(front.len());
-    left.copy_from_slice(front);
-    right.copy_from_slice(&behind[..right.len()]);
 }
 
 /// Copies the first octets, as many as `out` has, and returns the first start after them, going by
 /// the headers from the start `first`.
-fn copy_zone(octets: &HeapCircularBuffer<u8>, first: usize, out: &mut [u8]) -> usize
+fn copy_zone(octets: &[u8], first: usize, out: &mut [u8]) -> usize
     requires near { length out.old ≤ 2040 }
-    requires inside { length out.old ≤ length octets.now.items }
-    ensures next { result
-        ≡ skip (length out.old) (length out.old) first octets.now.items }
-    ensures out { out.new ≡ take (length out.old) octets.now.items }
+    requires inside { length out.old ≤ length octets.now }
+    ensures next { result ≡ skip (length out.old) (length out.old) first octets.now }
+    ensures out { out.new ≡ take (length out.old) octets.now }
 {
-    let (front, behind) = octets.as_slices();
-    // Mostly they lie in one piece: then one copy is faster than two if one of them is empty.
-    if front.len() < out.len() {
-        copy_both(front, behind, out);
-    } else {
-        out.copy_from_slice(&front[..out.len()]);
-    }
-    next_first(octets, front, first, out.len())
+    out.copy_from_slice(&octets[..out.len()]);
+    next_first(octets, first, out.len())
 }
 
-/// Writes an idle packet of `len` octets after what is there, if there is room for it.
-fn append_idle(octets: &mut HeapCircularBuffer<u8>, len: usize)
+/// Writes an idle packet of `len` octets after what is there. There must be room for it.
+fn append_idle(octets: &mut Queue, len: usize)
     requires least { 7 ≤ len }
     requires most { len ≤ 2040 }
     requires room { length octets.old.items + len ≤ octets.old.capacity }
-    ensures items { octets.new ≡ buffer (octets.old.items ++ idle_packet len) octets.old.capacity }
+    ensures items { octets.new
+        ≡ record octets.old { items = octets.old.items ++ idle_packet len } }
     ensures len { length octets.new.items ≡ length octets.old.items + len }
 {
     let mut packet = [0; MAX_ZONE];
     encode_idle(len, &mut packet);
-    let _ = octets.fill_from_slice(&packet[..len]);
+    octets.append(&packet[..len]);
 }
 
 /// Cuts packets, laid end to end, into the zones of one size that frames carry.
 ///
-/// With each zone comes its first header pointer. All octets that wait lie in one ring, made with
-/// the packer: beside the capacity it has 2,047 octets for what `flush` adds. So no call takes
-/// memory, and none moves what waits.
+/// With each zone comes its first header pointer. All octets that wait lie in one buffer, made with
+/// the packer: beside the capacity there is room for 2,047 octets, for what `flush` adds. So no call
+/// takes memory.
 #[derive(Debug, Drop)]
 pub struct Packer {
     size: usize,
     capacity: usize,
-    waiting: HeapCircularBuffer<u8>,
+    waiting: Queue,
     first: usize,
     flushed: bool,
 }
@@ -188,7 +111,7 @@ impl Packer {
         Ok(Packer {
             size: zone,
             capacity,
-            waiting: HeapCircularBuffer::with_capacity(alloc, capacity + FLUSH_ROOM)?,
+            waiting: Queue::with_capacity(alloc, capacity + FLUSH_ROOM)?,
             first: 0,
             flushed: false,
         })
@@ -278,8 +201,8 @@ impl Packer {
         if front.len() > self.room() || behind.len() > self.room() - front.len() {
             return Err(Full);
         }
-        let _ = self.waiting.fill_from_slice(front);
-        let _ = self.waiting.fill_from_slice(behind);
+        self.waiting.append(front);
+        self.waiting.append(behind);
         self.flushed = false;
         Ok(())
     }
@@ -328,9 +251,9 @@ impl Packer {
         } else {
             NO_START
         };
-        let next = copy_zone(&self.waiting, self.first, out);
+        let next = copy_zone(self.waiting.as_slice(), self.first, out);
         self.first = next.saturating_sub(self.size);
-        self.waiting.truncate_front(self.waiting.len() - self.size);
+        self.waiting.take_off(self.size);
         pointer
     }
 
