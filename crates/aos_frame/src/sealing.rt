@@ -1,5 +1,5 @@
 //! From bare frames to the frames of a link.
-ghost use Rattle.std.specs.Prelude.{◌≡◌, ◌+◌, ◌^◌, ◌<◌, ◌≤◌, ◌++◌, length, take, replicate};
+ghost use Rattle.std.specs.Prelude.{◌≡◌, ◌+◌, ◌^◌, ◌<◌, ◌≤◌, ◌++◌, length, take, drop, replicate};
 ghost use Rattle.aos_frame.specs.LinkFields.{check_len, control_len, control_octets, extra, guarded};
 ghost use Rattle.aos_frame.specs.LinkFields.{bare_in, sealed};
 
@@ -21,9 +21,22 @@ pub fn seal(fields: Valid<FrameFields>, control: u32, out: &mut [u8])
 {
     let fields = fields.get();
     let end = out.len() - (fields.extra() - usize::from(fields.insert_zone));
-    put_bytes(out, HEADER_LEN, zeros(fields.insert_zone));
+    put_insert_zone(out, fields.insert_zone);
     let at = put_control(fields, control, out, end);
     put_check(fields, out, at);
+}
+
+/// Writes an insert zone of so many zeros after the header: 64 at most. Most links have none.
+fn put_insert_zone(out: &mut [u8], count: u8)
+    requires count { count ≤ 64 }
+    requires room { 6 + count ≤ length out.old }
+    ensures front { take (6 + count) out.new ≡ take 6 out.old ++ replicate count 0 }
+    ensures behind { drop (6 + count) out.new ≡ drop (6 + count) out.old }
+    ensures len { length out.new ≡ length out.old }
+{
+    if count > 0 {
+        put_bytes(out, HEADER_LEN, zeros(count));
+    }
 }
 
 /// Returns so many zeros, 64 at most.
