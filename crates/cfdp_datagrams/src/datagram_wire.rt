@@ -51,6 +51,8 @@ pub struct DatagramWire<'a, 'n, T: Transport> {
     clock: StationClock,
     silence: Silence,
     reserving: Reserving<'a, 'n>,
+    // When the station was given the time last, in nanoseconds since the start.
+    told_at: u64,
     // Whether a frame waits that might not leave as it was to.
     is_held: bool,
 }
@@ -90,6 +92,7 @@ impl<'a, 'n, T: Transport> DatagramWire<'a, 'n, T> {
             clock: StationClock::new(pace.unit),
             silence: Silence::new(pace.idle),
             reserving: Reserving::new(exchange, numbers, machine),
+            told_at: 0,
             is_held: false,
         })
     }
@@ -237,6 +240,16 @@ impl<'a, 'n, T: Transport> DatagramWire<'a, 'n, T> {
         self.clock.link_time(now, self.paced.is_frozen())
     }
 
+    /// Returns the time at which a frame would leave, in nanoseconds since the start. If any number
+    /// of frames may leave, the beginning of the turn will do, and the clock isn't read for each.
+    fn time_of_frame(&self) -> u64 {
+        if self.pace.rate == 0 {
+            self.told_at
+        } else {
+            self.paced.since_start()
+        }
+    }
+
     /// Returns `true` if a frame may leave at this time, once the one that was kept has gone. If
     /// its count can't be noted, none leaves for a second.
     fn may_leave(&mut self, now: u64) -> bool
@@ -278,6 +291,7 @@ impl<T: Transport> PeerWire for DatagramWire<'_, '_, T> {
     /// did, at most two seconds late. If the clock can't be read it stands still.
     fn now(&mut self) -> u64 {
         let now = self.paced.since_start();
+        self.told_at = now;
         let told = self.clock.tells(now, self.paced.is_frozen());
         self.exchange.told.set(told);
         self.reserving.adds();
@@ -286,7 +300,7 @@ impl<T: Transport> PeerWire for DatagramWire<'_, '_, T> {
     }
 
     fn is_ready(&mut self) -> bool {
-        let now = self.paced.since_start();
+        let now = self.time_of_frame();
         let may_leave = self.may_leave(now);
         self.is_held = !may_leave;
         if may_leave {

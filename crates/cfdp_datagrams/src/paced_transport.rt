@@ -138,7 +138,9 @@ impl<'a, T: Transport> PacedTransport<'a, T> {
         ensures sends { SendsKept T.steps self.old self.new }
         ensures none { result ≡ true → self.new.kept.datagram ≡ None }
     {
-        let may_go = !self.is_frozen() && self.until_ready(self.since_start()) == 0;
+        // The clock is read only if one waits.
+        let may_go = !self.has_kept()
+            || !self.is_frozen() && self.until_ready(self.since_start()) == 0;
         let Some(waiting) = self.kept.get() else {
             return true;
         };
