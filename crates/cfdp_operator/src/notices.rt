@@ -542,6 +542,8 @@ impl<'a> Notices<'a> {
     /// Keeps in mind whose EOF was sent. As many are kept as may be open at once, and some that are
     /// over.
     fn note_ended<O: Outbox, I: Inbox>(&mut self, station: &Station<O, I>) {
+        // What was discarded unseen, as a turn that found no memory ended early, is passed over.
+        self.told = self.told.max(station.indications_gone());
         for told in station.indications_since(self.told).unwrap_or(&[]) {
             self.told = self.told.saturating_add(1);
             if let Indication::EofSent(id) = told {
@@ -667,7 +669,6 @@ impl Lookout for Notices<'_> {
         if let Some(journal) = self.journal {
             sees(journal, passed, station);
         }
-        self.note_ended(station);
         match passed {
             Passed::Took(datagram) => {
                 self.monitor.takes(datagram);
@@ -684,6 +685,7 @@ impl Lookout for Notices<'_> {
                 }
             }
             Passed::Ticked(_) => {
+                self.note_ended(station);
                 let now = self.now();
                 if self.hears {
                     self.hears = false;
@@ -691,7 +693,8 @@ impl Lookout for Notices<'_> {
                 }
                 self.tells(now, station);
             }
-            Passed::Asked | Passed::Polled(_) => {}
+            // An EOF leaves by a poll: frames that come or leave indicate none.
+            Passed::Asked | Passed::Polled(_) => self.note_ended(station),
         }
         self.lookout.sees(side, passed, station);
     }
