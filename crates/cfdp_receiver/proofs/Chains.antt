@@ -21,7 +21,6 @@ use Rattle.cfdp_receiver.specs.declared.state.ReceiverPhase.{ReceiverPhase}
 use Rattle.cfdp_receiver.specs.declared.state.ReceiverPhase.TheVariants.{Receiving, Finishing, Closed}
 use Rattle.cfdp_receiver.specs.State.{ReceiverState, is_receiving}
 use Rattle.cfdp_receiver.specs.Steps.{exceeds}
-use Rattle.cfdp_receiver.specs.Missing.{tidied}
 use Rattle.cfdp_receiver.specs.Pieces.{pieces_in, new_pieces}
 use Rattle.cfdp_receiver.specs.Storing.{Discards, FailsToWrite, Settles, Stages, StopsAt, staged_pieces, writes}
 use Rattle.cfdp_receiver.proofs.Held.{covered, within, contains-more, contains-missing}
@@ -141,10 +140,15 @@ no_pieces held offset bytes all =
     ap (pieces_in offset bytes) (no_gap held offset end (gaps_of held offset end) all (gaps-are held offset end) (gaps-inside held offset end))
 
 -- ---- file data
-other_phase : (p : ReceiverPhase) → sameb the_type p Receiving ≡ false → is_receiving p ≡ false
+other_phase : (p : ReceiverPhase) → not (sameb the_type p Receiving) ≡ true → is_receiving p ≡ false
 other_phase Receiving h = cc
 other_phase Finishing h = refl
 other_phase Closed h = refl
+
+same_phase : (p : ReceiverPhase) → not (sameb the_type p Receiving) ≡ false → p ≡ Receiving
+same_phase Receiving h = refl
+same_phase Finishing h = cc
+same_phase Closed h = cc
 
 no_staged : (large : Bool) (offset : ℕ) (bytes : List ℕ) (r : ReceiverState) → new_pieces r.held offset bytes ≡ [] → staged_pieces large offset bytes r ≡ []
 no_staged large offset bytes r none = by (is_receiving r.phase && not (exceeds large r.ending (offset + length bytes)))
@@ -180,26 +184,19 @@ module _ {S : Type 0} (Steps : S → InboxCall → S → Type 0) (failures : S �
       none-staged large stored s a c (subst (λ (x : ReceiverState). staged_pieces large offset bytes x ≡ []) is (no_staged large offset bytes r (no_pieces r.held offset bytes all))) settles
 
   -- some are new
-  pub new-stages : (large : Bool) {E : Type 0} (result : Result Stored E) (s : ReceiverState) (a c : S) → old.phase ≡ Receiving → exceeds large r.ending (offset + length bytes) ≡ false
+  pub new-stages : (large : Bool) {E : Type 0} (result : Result Stored E) (s : ReceiverState) (a c : S) → not (sameb the_type r.phase Receiving) ≡ false → exceeds large r.ending (offset + length bytes) ≡ false
       → IfOk result (λ stored. Stages (Makes Steps failures) stored (new_pieces old.held offset bytes) old s a c)
       → IfOk result (λ stored. Stages (Makes Steps failures) stored (staged_pieces large offset bytes old) old s a c)
-  new-stages large result s a c receiving fits stages =
+  new-stages large result s a c apart fits stages =
+      let receiving : old.phase ≡ Receiving = subst (λ (x : ReceiverState). x.phase ≡ Receiving) is (same_phase r.phase apart) in
       let within : exceeds large old.ending (offset + length bytes) ≡ false = subst (λ (x : ReceiverState). exceeds large x.ending (offset + length bytes) ≡ false) is fits in
       let same : staged_pieces large offset bytes old ≡ new_pieces old.held offset bytes = (λ i. if is_receiving (receiving i) && not (within i) then new_pieces old.held offset bytes else []) in
       subst (λ ps. IfOk result (λ stored. Stages (Makes Steps failures) stored ps old s a c)) (sym same) stages
 
-  -- once the PDU was heard
-  pub heard-stages : (large : Bool) (stored stored_now : Stored) (s t u : ReceiverState) (a b c : S) → u ≡ tidied t → t ≡ s → stored_now ≡ stored → c ≡ b
-      → Stages (Makes Steps failures) stored (staged_pieces large offset bytes old) old s a b → Stages (Makes Steps failures) stored_now (staged_pieces large offset bytes old) old u a c
-  heard-stages large stored stored_now s t u a b c tidy same answer there stages =
-      subst (λ (x : ReceiverState). Stages (Makes Steps failures) stored_now (staged_pieces large offset bytes old) old x a c) (sym (tidy ∙ ap tidied same))
-      (subst (λ x. Stages (Makes Steps failures) x (staged_pieces large offset bytes old) old (tidied s) a c) (sym answer)
-      (subst (λ x. Stages (Makes Steps failures) stored (staged_pieces large offset bytes old) old (tidied s) a x) (sym there) stages))
-
-  pub rests-stages : (large : Bool) (stored_now : Stored) (t u : ReceiverState) (a c : S) → u ≡ tidied t → t ≡ old → stored_now ≡ Done → c ≡ a → sameb the_type r.phase Receiving ≡ false
-      → Stages (Makes Steps failures) stored_now (staged_pieces large offset bytes old) old u a c
-  rests-stages large stored_now t u a c tidy same answer there apart =
+  -- none are, unless it receives
+  pub idle-stages : (large : Bool) (a : S) → not (sameb the_type r.phase Receiving) ≡ true
+      → Stages (Makes Steps failures) Done (staged_pieces large offset bytes old) old old a a
+  idle-stages large a apart =
       let other : is_receiving old.phase ≡ false = subst (λ (x : ReceiverState). is_receiving x.phase ≡ false) is (other_phase r.phase apart) in
       let none : staged_pieces large offset bytes old ≡ [] = (λ i. if other i && not (exceeds large old.ending (offset + length bytes)) then new_pieces old.held offset bytes else []) in
-      heard-stages large Done stored_now old t u a a c tidy same answer there
-      (none-staged large Done old a a none ((λ _. (refl, refl)), λ receiving _. absurd (let bad : true ≡ false = sym (ap is_receiving receiving) ∙ other in cc)))
+      none-staged large Done old a a none ((λ _. (refl, refl)), λ receiving _. absurd (let bad : true ≡ false = sym (ap is_receiving receiving) ∙ other in cc))

@@ -1,5 +1,5 @@
 -- How a call is tied to its step: by all that it sees and changes, before it and after it.
-use Rattle.std.specs.Prelude.{◌≡◌, ◌++◌, ◌+◌, ◌<◌, ◌≤◌, ◌-◌, ◌^◌, ℕ, Bool, true, false, List, [], Option, None, Some, Vec, vec_len, vec_capacity}
+use Rattle.std.specs.Prelude.{◌≡◌, ◌++◌, ◌+◌, ◌<◌, ◌≤◌, ◌-◌, ◌^◌, ℕ, Bool, true, false, List, [], Option, None, Some, Vec, vec_len, vec_capacity, if◌then◌else◌}
 use Rattle.std.specs.FinMap as map
 use Rattle.std.specs.FinSet as set
 use Rattle.std.specs.declared.alloc.Global.{Global}
@@ -23,7 +23,7 @@ use Rattle.cfdp_timers.specs.Armed.{TimersState}
 use Rattle.cfdp_timers.specs.Waits.{is_anew, wait_by, waited}
 use Rattle.cfdp_receiver.specs.declared.state.ReceiverPhase.TheVariants.{Receiving}
 use Rattle.cfdp_receiver.specs.State.{ReceiverState, IsReady, flagged, is_receiving}
-use Rattle.cfdp_receiver.specs.Steps.{ReceiverAfter, waits}
+use Rattle.cfdp_receiver.specs.Steps.{ReceiverAfter, leaving, waits}
 use Rattle.cfdp_receiver.specs.Pieces.{staged_with}
 use Rattle.cfdp_receiver.specs.Storing.{Discards, Settles, StopsAt, writes}
 
@@ -90,6 +90,10 @@ Step = OctetMap → FileMap → ReceiverState → ReceiverAfter
 -- the step of a receiver that first notes the large file flag of a PDU
 abbrev pub flagging : Bool → Step → Step
 flagging large step m files r = step m files (flagged large r)
+
+-- the step of a receiver that makes it only while it receives: otherwise nothing changes
+abbrev pub if_receiving : Step → Step
+if_receiving step m files r = if is_receiving r.phase then step m files r else leaving m files r
 
 -- what a step leaves, made from this scene
 abbrev pub after : Step → Scene → ReceiverAfter

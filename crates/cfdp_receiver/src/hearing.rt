@@ -15,7 +15,7 @@ ghost use Rattle.cfdp_receiver.specs.Steps.{hears_metadata, hears_data, hears_eo
 ghost use Rattle.cfdp_receiver.specs.Steps.{hears_prompt};
 ghost use Rattle.cfdp_receiver.specs.Does.{Advances, DoesAlone, IsOpen, Keeps, Kept, KeptAlone};
 ghost use Rattle.cfdp_receiver.specs.Does.{LetsGo, MakesIn, Performs, Rests, at, flagging};
-ghost use Rattle.cfdp_receiver.specs.Does.{timers_kept, timers_set};
+ghost use Rattle.cfdp_receiver.specs.Does.{if_receiving, timers_kept, timers_set};
 ghost use Rattle.cfdp_receiver.specs.Limit.{KeepsLimit, if_admitted, is_admitted};
 ghost use Rattle.cfdp_receiver.specs.Pieces.{new_pieces};
 ghost use Rattle.cfdp_receiver.specs.Storing.{Settles, Stages, staged_pieces, writes};
@@ -47,22 +47,24 @@ pub struct Metadata<'a> {
 }
 
 impl Receiver {
-    /// Receives the first Metadata, or another. If it fails, all is as it was.
+    /// Receives the first Metadata, or another, if the transaction is open. If it fails, all is as
+    /// it was.
     fn receive_metadata<I: Inbox>(
         &mut self,
         effects: &mut Effects,
         inbox: &mut I,
         metadata: &Metadata<'_>,
     ) -> Result<Stored, AllocError>
-        requires ready { IsOpen I.Inbox 3 self.old effects.old inbox.old }
+        requires room { HasRoom self.old.addressing.id effects.old }
+        requires ready { IsReady (I.staged inbox.old) self.old }
         ensures advances { IfOk result (λ stored. Advances I.Inbox stored
-            (receives_metadata stored metadata.now.checksum_kind metadata.now.size
-            metadata.now.source.now metadata.now.destination.now)
+            (if_receiving (receives_metadata stored metadata.now.checksum_kind metadata.now.size
+            metadata.now.source.now metadata.now.destination.now))
             self.old self.new effects.old effects.new inbox.old inbox.new) }
         ensures rests { OnErr result
             (Rests self.old self.new effects.old effects.new inbox.old inbox.new) }
     {
-        if self.metadata.is_some() {
+        if self.phase != ReceiverPhase::Receiving || self.metadata.is_some() {
             return Ok(Stored::Done);
         }
         let source = Octets::copied(self.alloc, metadata.source)?;
@@ -119,22 +121,15 @@ impl Receiver {
     {
         let before = self.large;
         self.raise(large);
-        let stored = if self.phase == ReceiverPhase::Receiving {
-            match self.receive_metadata(effects, inbox, metadata) {
-                Ok(stored) => stored,
-                Err(e) => {
-                    self.large = before;
-                    return Err(e);
-                }
-            }
-        } else {
-            Stored::Done
+        let Ok(stored) = self.receive_metadata(effects, inbox, metadata) else {
+            self.large = before;
+            return Err(AllocError);
         };
         self.heard(&mut effects.timers, policy);
         Ok(stored)
     }
 
-    /// Receives file data of an open transaction. If it fails, all is as it was, except octets
+    /// Receives file data, if the transaction is open. If it fails, all is as it was, except octets
     /// staged at offsets that aren't held; none are staged if the limit of gaps doesn't admit them.
     fn receive_data<I: Inbox>(
         &mut self,
@@ -145,10 +140,11 @@ impl Receiver {
         offset: u64,
         bytes: &[u8],
     ) -> Result<Stored, AllocError>
-        requires ready { IsOpen I.Inbox 3 self.old effects.old inbox.old }
+        requires room { HasRoom self.old.addressing.id effects.old }
+        requires ready { IsReady (I.staged inbox.old) self.old }
         requires limit { codes.size_limit large ≤ codes.size_limit self.old.large }
         ensures does { IfOk result (λ stored. Performs I.Inbox timers_kept stored
-            (receives_data stored large offset bytes.now)
+            (if_receiving (receives_data stored large offset bytes.now))
             self.old self.new effects.old effects.new inbox.old inbox.new) }
         ensures keeps { OnErr result (Keeps (at I.Inbox self.old effects.old inbox.old)
             (at I.Inbox self.new effects.new inbox.new)) }
@@ -160,6 +156,9 @@ impl Receiver {
             (staged_pieces large offset bytes.now self.old))) inbox.old inbox.new) }
         ensures bounded { KeepsLimit most_gaps self.old.held → KeepsLimit most_gaps self.new.held }
     {
+        if self.phase != ReceiverPhase::Receiving {
+            return Ok(Stored::Done);
+        }
         if exceeds(large, self.ending, offset, bytes.len()) {
             self.fault(&mut effects.told, inbox, Condition::FILE_SIZE_ERROR);
             return Ok(Stored::Done);
@@ -257,16 +256,10 @@ impl Receiver {
     {
         let before = self.large;
         self.raise(large);
-        let stored = if self.phase == ReceiverPhase::Receiving {
-            match self.receive_data(effects, inbox, policy.most_gaps, large, offset, bytes) {
-                Ok(stored) => stored,
-                Err(e) => {
-                    self.large = before;
-                    return Err(e);
-                }
-            }
-        } else {
-            Stored::Done
+        let Ok(stored) = self.receive_data(effects, inbox, policy.most_gaps, large, offset, bytes)
+        else {
+            self.large = before;
+            return Err(AllocError);
         };
         self.heard(&mut effects.timers, policy);
         Ok(stored)

@@ -1,9 +1,14 @@
 use Rattle.std.proofs.Common.{◌∙◌, sym, ap, arith}
 use Rattle.cfdp_directives.proofs.FileSizes.{limit_low}
 use Rattle.cfdp_receiver.specs.State.{ReceiverState}
-use Rattle.cfdp_receiver.proofs.Chains.{covered-stages, new-stages}
+use Rattle.cfdp_receiver.proofs.Chains.{covered-stages, idle-stages, new-stages}
 use Rattle.cfdp_receiver.proofs.Limited.{none-keeps, completed-keeps}
 use Rattle.cfdp_receiver.proofs.receiver.Receiver.receive_data.Goals as goal
+
+pub returns-then-ne-clause-calls : goal.returns-then-ne-clause-calls
+returns-then-ne-clause-calls g c =
+    idle-stages g.I.Inbox.steps g.I.Inbox.failures c.args.self.now _ c.self.view_is c.args.offset
+    c.args.bytes.now c.args.large c.args.inbox.now (sym c.ne.ensures ∙ c.if-ne.true)
 
 pub returns-then-covers-clause-calls : goal.returns-then-covers-clause-calls
 returns-then-covers-clause-calls g c =
@@ -15,7 +20,7 @@ pub returns-clause-calls : goal.returns-clause-calls
 returns-clause-calls g c =
     new-stages g.I.Inbox.steps g.I.Inbox.failures c.args.self.now _ c.self.view_is c.args.offset
     c.args.bytes.now c.args.large c.receive_new.result c.receive_new.new.self c.args.inbox.now
-    c.receive_new.new.inbox c.requires.ready.receiving (sym c.exceeds.ensures.value ∙ c.if-exceeds.false)
+    c.receive_new.new.inbox (sym c.ne.ensures ∙ c.if-ne.false) (sym c.exceeds.ensures.value ∙ c.if-exceeds.false)
     c.receive_new.ensures.calls
 
 pub overflow_add-end : goal.overflow_add-end
