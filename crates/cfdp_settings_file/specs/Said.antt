@@ -4,7 +4,7 @@ use Rattle.std.specs.Cmp.Lexicographic.{pointwise}
 use Rattle.std.specs.Str.{bytes_eq}
 use Rattle.toml.specs.Data.{Members}
 use Rattle.toml.specs.Parse.{parse_document}
-use Rattle.cfdp_settings_file.specs.Words.{Word, table_words}
+use Rattle.cfdp_settings_file.specs.Words.{Word, table_words, value_kind}
 use Rattle.cfdp_settings_file.specs.declared.options.SettingsOption.{SettingsOption}
 use Rattle.cfdp_settings_file.specs.declared.options.ValueKind.{ValueKind}
 use Rattle.cfdp_settings_file.specs.declared.options.ValueKind.TheVariants.{Text, Number, Flag, Pairs, Numbers}
@@ -42,7 +42,7 @@ is_list Numbers = true
 
 -- A file counts for this option beside these words: it isn't said, or is a list.
 abbrev pub counts : List Word → SettingsOption → Bool
-counts words option = is_list option.kind || not (is_said option.name.now words)
+counts words option = is_list (value_kind option.form) || not (is_said option.name.now words)
 
 -- the options for which a file counts
 abbrev pub counting : List Word → List SettingsOption → List SettingsOption

@@ -2,6 +2,8 @@
 use Rattle.std.specs.Prelude.{◌++◌, ℕ, Bool, true, false, not, List, [], ◌∷◌, ℤ, pos, negsuc, codes, decimal, take, Option, Some, None, option_map, option_and_then, if◌then◌else◌}
 use Rattle.std.specs.Str.{bytes_eq}
 use Rattle.toml.specs.Data.{Data, Items, Members, no_items, item, no_members, member, as_array, as_bool, as_integer, as_str, as_table, get_member}
+use Rattle.cfdp_settings_file.specs.declared.options.OptionForm.{OptionForm}
+use Rattle.cfdp_settings_file.specs.declared.options.OptionForm.TheVariants as form
 use Rattle.cfdp_settings_file.specs.declared.options.SettingsOption.{SettingsOption}
 use Rattle.cfdp_settings_file.specs.declared.options.ValueKind.{ValueKind}
 use Rattle.cfdp_settings_file.specs.declared.options.ValueKind.TheVariants.{Text, Number, Flag, Pairs, Numbers}
@@ -72,6 +74,17 @@ option_words Flag name value = option_map (flag_words name) (as_bool value)
 option_words Pairs name value = option_and_then (pairs_words name) (as_array value)
 option_words Numbers name value = option_and_then (numbers_words name) (as_table value)
 
+-- what the value of an option is, by what stands after it on a command line
+abbrev pub value_kind : OptionForm → ValueKind
+value_kind form.Flag = Flag
+value_kind (form.NeededWord shown) = Text
+value_kind (form.Word shown) = Text
+value_kind (form.WordOr shown default) = Text
+value_kind (form.NeededNumber shown) = Number
+value_kind (form.NumberOr shown low high default) = Number
+value_kind (form.Pairs shown) = Pairs
+value_kind (form.Numbers shown) = Numbers
+
 -- ---- the words of a file
 
 -- an option that the file doesn't have comes to no word
@@ -83,4 +96,4 @@ words_at kind name (Some value) = option_words kind name value
 abbrev pub table_words : Members → List SettingsOption → Option (List Word)
 table_words table [] = Some []
 table_words table (option ∷ rest) =
-    before (words_at option.kind option.name.now (get_member option.name.now table)) (table_words table rest)
+    before (words_at (value_kind option.form) option.name.now (get_member option.name.now table)) (table_words table rest)

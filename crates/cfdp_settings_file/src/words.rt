@@ -3,7 +3,7 @@ ghost use Rattle.std.specs.Prelude.{◌≡◌, [], ◌∷◌, map, Some, IfOk, o
 ghost use Rattle.toml.specs.Data.{as_array, get_member};
 ghost use Rattle.toml.specs.View.{table_view, view};
 ghost use Rattle.cfdp_settings_file.specs.Words.{number_of, option_word, option_words, plain_of};
-ghost use Rattle.cfdp_settings_file.specs.Words.{valued_word, words_at};
+ghost use Rattle.cfdp_settings_file.specs.Words.{value_kind, valued_word, words_at};
 ghost use Rattle.cfdp_settings_file.specs.Words as says;
 ghost use Rattle.cfdp_settings_file.specs.Said as counting;
 
@@ -119,7 +119,7 @@ fn unsaid(
 fn counts(option: &SettingsOption, said: &[String]) -> bool
     ensures { result ≡ counting.counts (map (λ word. word.bytes.items) said.now) option.now }
 {
-    option.kind.is_list() || !is_said(said, option.name)
+    option.form.value_kind().is_list() || !is_said(said, option.name)
 }
 
 /// The words that a table says of these options.
@@ -152,7 +152,7 @@ impl SettingsOption {
         SettingsError::OtherValue {
             line: key_line(text, self.name),
             key: self.name,
-            expected: self.kind.wording(),
+            expected: self.form.value_kind().wording(),
         }
     }
 }
@@ -166,11 +166,11 @@ fn found_words(
 ) -> Result<Option<Vec<String>>, AllocError>
     ensures { IfOk result (λ found. option_map
         (λ words. map (λ word. word.bytes.items) words.items) found
-        ≡ words_at option.now.kind option.now.name.now
+        ≡ words_at (value_kind option.now.form) option.now.name.now
         (get_member option.now.name.now (table_view table.now))) }
 {
     match table.get(option.name) {
-        Some(value) => value_words(alloc, option.kind, option.name, value),
+        Some(value) => value_words(alloc, option.form.value_kind(), option.name, value),
         None => Ok(Some(Vec::new(alloc))),
     }
 }
