@@ -1,4 +1,5 @@
 pub mod Request
+pub mod Options
 pub mod Shown
 pub mod Looping
 pub mod Station

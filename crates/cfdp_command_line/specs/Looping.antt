@@ -4,12 +4,11 @@ use Rattle.std.specs.Str.Parse.{digits_value, without_leading_plus}
 use Rattle.clap.specs.ValueTests.{is_unsigned_in}
 use Rattle.clap.specs.Simple.{App, new_app, new_rule, with_rule}
 use Rattle.clap.specs.Walk.{Row, Rule, Text, all_of, first_of}
-use Rattle.clap.specs.declared.builder.action.ArgAction.TheVariants.{Append}
-use Rattle.clap.specs.declared.builder.value_parser.ValueParser.TheVariants.{Unsigned}
 use Rattle.cfdp_command_line.specs.declared.looping.LoopRequest.{LoopRequest}
 use Rattle.cfdp_command_line.specs.declared.looping.LoopWords.{LoopWords}
 use Rattle.cfdp_command_line.specs.declared.losses.LossRequest.{LossRequest}
-use Rattle.cfdp_command_line.specs.Shown.{ShownAsked, asked_shown, file_rule, shown_of, with_shown}
+use Rattle.cfdp_command_line.specs.Options.{file_rule, most, number_rule, pairs_rule, with_rules}
+use Rattle.cfdp_command_line.specs.Shown.{ShownAsked, asked_shown, shown_of, with_shown}
 
 -- ---- the grammar
 
@@ -17,51 +16,22 @@ use Rattle.cfdp_command_line.specs.Shown.{ShownAsked, asked_shown, file_rule, sh
 abbrev pub place_rule : Text → Rule
 place_rule name = record (new_rule name) { value_names = 1; required = true }
 
--- a number in a range, and what stands for it if none is given
-abbrev pub number_rule : Text → (low high : ℕ) → Text → Rule
-number_rule name low high default = record (new_rule name) {
-  long = Some name;
-  value_names = 1;
-  defaults = default ∷ [];
-  parser = Some (Unsigned low high);
-}
-
--- two words, as often as they are said
-abbrev pub pairs_rule : Text → Rule
-pairs_rule name = record (new_rule name) {
-  long = Some name;
-  action = Some Append;
-  range = Some (record { start_inclusive = 2; end_inclusive = 2 });
-  value_names = 2;
-}
-
 -- the most turns: 1 to 1,000,000, and 10,000 if none are given
 abbrev pub turns_rule : Rule
 turns_rule = number_rule (codes "turns") 1 1000000 (codes "10000")
 
--- a number up to 1,000,000, and what stands for it if none is said
-abbrev pub tuned_rule : Text → Text → Rule
-tuned_rule name default = number_rule name 0 1000000 default
-
--- each Kth frame is lost: 0 to 1,000,000, and none if K is 0 or isn't given
-abbrev pub drop_rule : Rule
-drop_rule = tuned_rule (codes "drop") (codes "0")
-
--- of a hundred frames so many are lost at random: 0 to 100, and none if it isn't given
-abbrev pub loss_rule : Rule
-loss_rule = number_rule (codes "loss") 0 100 (codes "0")
-
--- the greatest number of eight octets
-abbrev pub most : ℕ
-most = 18446744073709551615
-
--- where the random numbers begin, and at 1 if it isn't given
-abbrev pub seed_rule : Rule
-seed_rule = number_rule (codes "seed") 0 most (codes "1")
+-- each Kth frame is lost, and none if K is 0 or isn't given; of a hundred frames so many are lost at
+-- random; and where the random numbers begin
+abbrev pub losses_rules : List Rule
+losses_rules =
+    number_rule (codes "drop") 0 1000000 (codes "0")
+    ∷ number_rule (codes "loss") 0 100 (codes "0")
+    ∷ number_rule (codes "seed") 0 most (codes "1")
+    ∷ []
 
 -- a subcommand with what says which frames are lost
 abbrev pub with_losses : App → App
-with_losses app = with_rule (with_rule (with_rule app drop_rule) loss_rule) seed_rule
+with_losses = with_rules losses_rules
 
 abbrev pub folders_app : App
 folders_app =

@@ -26,9 +26,10 @@ use Rattle.cfdp_command_line.specs.declared.arguments.Invocation.{Invocation}
 use Rattle.cfdp_command_line.specs.declared.arguments.Invocation.TheVariants.{Sim, Dump, Loop, Station, Ask, Play, Version}
 use Rattle.cfdp_dump.specs.declared.dump.DumpKind.{DumpKind}
 use Rattle.cfdp_dump.specs.declared.dump.DumpKind.TheVariants.{Pdus, Frames}
-use Rattle.cfdp_command_line.specs.Looping.{LoopAsked, loop_app, loop_asked, loop_of, number_in, number_rule, place_rule, words_for}
+use Rattle.cfdp_command_line.specs.Looping.{LoopAsked, loop_app, loop_asked, loop_of, number_in, place_rule, words_for}
+use Rattle.cfdp_command_line.specs.Options.{flag_rule, number_rule}
 use Rattle.cfdp_command_line.specs.Station.{StationAsked, station_app, station_asked, station_of}
-use Rattle.cfdp_command_line.specs.Shown.{ShownAsked, asked_shown, flag_rule, is_given, shown_of, with_shown}
+use Rattle.cfdp_command_line.specs.Shown.{ShownAsked, asked_shown, is_given, shown_of, with_shown}
 
 -- ---- the grammar
 

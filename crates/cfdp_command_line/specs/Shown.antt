@@ -1,30 +1,26 @@
 -- The words that ask what must be shown of a run beside its report.
-use Rattle.std.specs.Prelude.{Bool, List, codes, false, Option, Some, option_map}
+use Rattle.std.specs.Prelude.{Bool, List, [], ◌∷◌, codes, false, Option, option_map}
 use Rattle.std.specs.Option.{option_map_or}
 use Rattle.std.specs.Str.{bytes_eq}
-use Rattle.clap.specs.Simple.{App, new_rule, with_rule}
+use Rattle.clap.specs.Simple.{App}
 use Rattle.clap.specs.Walk.{Row, Rule, Text, first_of}
-use Rattle.clap.specs.declared.builder.action.ArgAction.TheVariants.{SetTrue}
+use Rattle.cfdp_command_line.specs.Options.{file_rule, flag_rule, with_rules}
 use Rattle.cfdp_watch.specs.declared.shown.Shown.{Shown}
 
 -- ---- the grammar
 
--- a flag, which is there or not
-abbrev pub flag_rule : Text → Rule
-flag_rule name = record (new_rule name) { long = Some name; action = Some SetTrue }
+-- what is said on standard error; and what goes to files, a capture and a chart
+abbrev pub shown_rules : List Rule
+shown_rules =
+    flag_rule (codes "explain")
+    ∷ flag_rule (codes "trace")
+    ∷ file_rule (codes "pcap")
+    ∷ file_rule (codes "chart")
+    ∷ []
 
--- a file that something is written to, which an option of this name says
-abbrev pub file_rule : Text → Rule
-file_rule name = record (new_rule name) { long = Some name; value_names = 1 }
-
--- a subcommand with what is said on standard error
-abbrev pub with_told : App → App
-with_told app = with_rule (with_rule app (flag_rule (codes "explain"))) (flag_rule (codes "trace"))
-
--- and with what goes to files, a capture and a chart
+-- a subcommand with what says what is shown beside its report
 abbrev pub with_shown : App → App
-with_shown app = with_rule (with_rule (with_told app) (file_rule (codes "pcap")))
-    (file_rule (codes "chart"))
+with_shown = with_rules shown_rules
 
 -- ---- what is asked for
 

@@ -1,9 +1,8 @@
 -- What the words after `station` ask for.
-use Rattle.std.specs.Prelude.{ℕ, List, [], ◌∷◌, codes, Option, Some, None, map, option_and_then, option_map, true, if◌then◌else◌}
+use Rattle.std.specs.Prelude.{◌++◌, ℕ, List, [], ◌∷◌, codes, Option, Some, None, map, option_and_then, option_map, if◌then◌else◌}
 use Rattle.std.specs.Str.{bytes_eq}
-use Rattle.clap.specs.Simple.{App, new_app, new_rule, with_rule}
+use Rattle.clap.specs.Simple.{App, new_app, with_rule}
 use Rattle.clap.specs.Walk.{Row, Rule, Text, first_of}
-use Rattle.clap.specs.declared.builder.value_parser.ValueParser.TheVariants.{Unsigned}
 use Rattle.cfdp_command_line.specs.declared.station.CarrierKind.{CarrierKind}
 use Rattle.cfdp_command_line.specs.declared.station.CarrierKind.TheVariants.{Frames, Packets, Pdus}
 use Rattle.cfdp_command_line.specs.declared.station.StationFlags.{StationFlags}
@@ -15,103 +14,65 @@ use Rattle.cfdp_command_line.specs.declared.station.TimeUnit.{TimeUnit}
 use Rattle.cfdp_command_line.specs.declared.station.TimeUnit.TheVariants.{Seconds, Milliseconds}
 use Rattle.cfdp_store.specs.declared.name_rule.NameRule.{NameRule}
 use Rattle.cfdp_store.specs.declared.name_rule.NameRule.TheVariants.{Portable, Any}
-use Rattle.cfdp_command_line.specs.Looping.{losses_of, most, number_in, number_rule, pairs_rule, tuned_rule, with_losses, words_for}
-use Rattle.cfdp_command_line.specs.Shown.{ShownAsked, asked_shown, file_rule, flag_rule, is_given, shown_of, with_shown}
+use Rattle.cfdp_command_line.specs.Looping.{losses_of, losses_rules, number_in, words_for}
+use Rattle.cfdp_command_line.specs.Options.{file_rule, flag_rule, most, named_rule, number_rule, pairs_rule, said_number_rule, said_rule, with_rules}
+use Rattle.cfdp_command_line.specs.Shown.{ShownAsked, asked_shown, is_given, shown_of, with_shown}
 
 -- ---- the grammar
-
--- a word that must be said after its option
-abbrev pub said_rule : Text → Rule
-said_rule name = record (new_rule name) { long = Some name; value_names = 1; required = true }
-
--- a number that must be said
-abbrev pub said_number_rule : Text → Rule
-said_number_rule name = record (said_rule name) { parser = Some (Unsigned 0 most) }
-
--- the number of the first transaction, and 0 if none is said
-abbrev pub first_number_rule : Rule
-first_number_rule = number_rule (codes "first-number") 0 most (codes "0")
-
--- a word, and what stands for it if none is said
-abbrev pub named_rule : Text → Text → Rule
-named_rule name default = record (new_rule name) {
-  long = Some name;
-  value_names = 1;
-  defaults = default ∷ [];
-}
 
 -- the most octets of a file
 abbrev pub most_octets : ℕ
 most_octets = 281474976710656
 
-abbrev pub names_app : App
-names_app = with_rule (with_rule (new_app (codes "station")) (said_number_rule (codes "id")))
-    (said_number_rule (codes "peer"))
+-- who it is, and its addresses; how it runs
+abbrev pub running_rules : List Rule
+running_rules =
+    said_number_rule (codes "id")
+    ∷ said_number_rule (codes "peer")
+    ∷ said_rule (codes "listen")
+    ∷ said_rule (codes "to")
+    ∷ number_rule (codes "idle") 0 1000000 (codes "0")
+    ∷ number_rule (codes "first-number") 0 most (codes "0")
+    ∷ number_rule (codes "rate") 0 1000000 (codes "1000")
+    ∷ losses_rules
 
-abbrev pub addresses_app : App
-addresses_app = with_rule (with_rule names_app (said_rule (codes "listen")))
-    (said_rule (codes "to"))
+-- what a datagram carries; its stores; its files; who operates it; and how it writes lines
+abbrev pub working_rules : List Rule
+working_rules =
+    named_rule (codes "carrier") (codes "frames")
+    ∷ named_rule (codes "unit") (codes "s")
+    ∷ file_rule (codes "inbox")
+    ∷ file_rule (codes "outbox")
+    ∷ file_rule (codes "state")
+    ∷ file_rule (codes "journal")
+    ∷ number_rule (codes "journal-every") 10 3600000 (codes "1000")
+    ∷ flag_rule (codes "no-journal")
+    ∷ file_rule (codes "keys")
+    ∷ pairs_rule (codes "put")
+    ∷ pairs_rule (codes "set")
+    ∷ file_rule (codes "spool")
+    ∷ flag_rule (codes "remove-sent")
+    ∷ number_rule (codes "retries") 0 1000 (codes "3")
+    ∷ number_rule (codes "at-once") 1 3072 (codes "4")
+    ∷ number_rule (codes "most-size") 0 most_octets (codes "0")
+    ∷ number_rule (codes "most-open") 0 4096 (codes "0")
+    ∷ flag_rule (codes "no-overwrite")
+    ∷ named_rule (codes "names") (codes "portable")
+    ∷ flag_rule (codes "commands")
+    ∷ file_rule (codes "control")
+    ∷ file_rule (codes "console")
+    ∷ file_rule (codes "console-token")
+    ∷ file_rule (codes "console-host")
+    ∷ flag_rule (codes "no-time")
+    ∷ flag_rule (codes "json")
+    ∷ []
 
-abbrev pub numbered_app : App
-numbered_app = with_rule (with_rule addresses_app (tuned_rule (codes "idle") (codes "0")))
-    first_number_rule
-
-abbrev pub own_numbers_app : App
-own_numbers_app =
-    with_losses (with_rule numbered_app (tuned_rule (codes "rate") (codes "1000")))
-
-abbrev pub carried_app : App
-carried_app =
-    with_rule (with_rule own_numbers_app (named_rule (codes "carrier") (codes "frames")))
-    (named_rule (codes "unit") (codes "s"))
-
-abbrev pub stores_app : App
-stores_app = with_rule (with_rule (with_rule carried_app (file_rule (codes "inbox")))
-    (file_rule (codes "outbox"))) (file_rule (codes "state"))
-
-abbrev pub journaled_app : App
-journaled_app = with_rule (with_rule (with_rule stores_app (file_rule (codes "journal")))
-    (number_rule (codes "journal-every") 10 3600000 (codes "1000")))
-    (flag_rule (codes "no-journal"))
-
-abbrev pub keyed_app : App
-keyed_app = with_rule journaled_app (file_rule (codes "keys"))
-
-abbrev pub lists_app : App
-lists_app = with_rule (with_rule keyed_app (pairs_rule (codes "put"))) (pairs_rule (codes "set"))
-
-abbrev pub spooled_app : App
-spooled_app = with_rule (with_rule lists_app (file_rule (codes "spool")))
-    (flag_rule (codes "remove-sent"))
-
-abbrev pub sent_app : App
-sent_app = with_rule
-    (with_rule spooled_app (number_rule (codes "retries") 0 1000 (codes "3")))
-    (number_rule (codes "at-once") 1 3072 (codes "4"))
-
-abbrev pub held_app : App
-held_app = with_rule
-    (with_rule sent_app (number_rule (codes "most-size") 0 most_octets (codes "0")))
-    (number_rule (codes "most-open") 0 4096 (codes "0"))
-
-abbrev pub incoming_app : App
-incoming_app = with_rule (with_rule held_app (flag_rule (codes "no-overwrite")))
-    (named_rule (codes "names") (codes "portable"))
-
-abbrev pub operated_app : App
-operated_app = with_rule (with_rule incoming_app (flag_rule (codes "commands")))
-    (file_rule (codes "control"))
-
-abbrev pub consoled_app : App
-consoled_app = with_rule (with_rule (with_rule operated_app (file_rule (codes "console")))
-    (file_rule (codes "console-token"))) (file_rule (codes "console-host"))
-
-abbrev pub told_app : App
-told_app = with_rule (with_rule consoled_app (flag_rule (codes "no-time")))
-    (flag_rule (codes "json"))
+-- the options that a settings file may say, without what is shown beside the report
+abbrev pub own_app : App
+own_app = with_rules (running_rules ++ working_rules) (new_app (codes "station"))
 
 abbrev pub file_app : App
-file_app = with_rule (with_rule told_app (file_rule (codes "config")))
+file_app = with_rule (with_rule own_app (file_rule (codes "config")))
     (flag_rule (codes "print-config"))
 
 abbrev pub station_app : App

@@ -2,12 +2,12 @@ ghost use Rattle.std.specs.Prelude.{◌≡◌, ◌⊎◌, ◌≤◌, false, map,
 ghost use Rattle.std.specs.Prelude.{option_map};
 ghost use Rattle.clap.specs.Kinds.{FailsBy};
 ghost use Rattle.clap.specs.Faults.{fault_of};
-ghost use Rattle.clap.specs.Simple.{app_of, with_rule, with_subcommand};
+ghost use Rattle.clap.specs.Simple.{with_subcommand};
 ghost use Rattle.clap.specs.Matches.{found_of};
 ghost use Rattle.clap.specs.Values.{kind_of};
 ghost use Rattle.clap.specs.Walk.{first_of, rows_of, rule_of};
 ghost use Rattle.clap.specs.Simple.{subcommand_rows_of};
-ghost use Rattle.cfdp_command_line.specs.Request.{HasNoGlobals, HasShape, IsCommand, IsStatusOf};
+ghost use Rattle.cfdp_command_line.specs.Request.{HasShape, IsCommand, IsStatusOf};
 ghost use Rattle.cfdp_command_line.specs.Request.{RefusedBy, asked, asked_by, asked_of, dump_app};
 ghost use Rattle.cfdp_command_line.specs.Request.{dump_of, kind_of_word, kind_rule, input_rule};
 ghost use Rattle.cfdp_command_line.specs.Request.{asked_lines, address_app, address_rule, ask_app};
@@ -20,7 +20,7 @@ ghost use Rattle.cfdp_command_line.specs.Request as asks;
 ghost use Rattle.cfdp_dump.specs.Spelled.Shape.{IsShape};
 ghost use Rattle.cfdp_command_line.specs.Looping.{loop_app, loop_of};
 ghost use Rattle.cfdp_command_line.specs.Station.{station_app, station_of};
-ghost use Rattle.cfdp_command_line.specs.Shown.{file_rule, flag_rule};
+ghost use Rattle.cfdp_command_line.specs.Options.{file_rule, flag_rule};
 ghost use Rattle.cfdp_command_line.specs.Shown as showing;
 
 use crate::looping::{LoopRequest, loop_command, loop_request, number_in};
@@ -861,15 +861,6 @@ fn listen_argument<'a>(alloc: Global) -> Arg<'a>
         .help("Serve the page at this address")
 }
 
-/// Adds an argument to a command.
-pub fn with_argument<'a>(command: Command<'a>, argument: Arg<'a>) -> Result<Command<'a>, AllocError>
-    requires command { HasNoGlobals command }
-    requires argument { argument.global ≡ false }
-    ensures { IfOk result (IsCommand (with_rule (app_of command.entry) (rule_of argument.entry))) }
-{
-    command.arg(argument)
-}
-
 /// Returns an argument that has no value: it is given or not.
 pub fn flag<'a>(alloc: Global, name: &'a str, help: &'a str) -> Arg<'a>
     ensures { (rule_of result ≡ flag_rule name.now) × (result.global ≡ false) }
@@ -895,13 +886,6 @@ pub fn file_for<'a>(alloc: Global, name: &'a str, help: &'a str) -> Arg<'a>
         .long(name)
         .value_name("FILE")
         .help(help)
-}
-
-/// Returns an argument for such a file under a heading of the help.
-pub fn file_under<'a>(alloc: Global, heading: &'a str, name: &'a str, help: &'a str) -> Arg<'a>
-    ensures { (rule_of result ≡ file_rule name.now) × (result.global ≡ false) }
-{
-    file_for(alloc, name, help).help_heading(heading)
 }
 
 fn input_argument<'a>(alloc: Global) -> Arg<'a>

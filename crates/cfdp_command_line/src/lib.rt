@@ -6,6 +6,7 @@
 mod arguments;
 mod looping;
 mod losses;
+mod options;
 mod sets;
 mod settings_file;
 mod shown;

@@ -4,9 +4,9 @@ ghost use Rattle.clap.specs.Matches.{found_of};
 ghost use Rattle.clap.specs.Walk.{rows_of, rule_of};
 ghost use Rattle.cfdp_command_line.specs.Looping.{files_app, folders_app, keys_app, loop_app};
 ghost use Rattle.cfdp_command_line.specs.Looping.{loop_asked, loop_of, number_of_word, numbers_app};
-ghost use Rattle.cfdp_command_line.specs.Looping.{place_rule, tuned_rule, turns_rule, words_asked};
-ghost use Rattle.cfdp_command_line.specs.Looping.{set_app};
+ghost use Rattle.cfdp_command_line.specs.Looping.{place_rule, set_app, turns_rule, words_asked};
 ghost use Rattle.cfdp_command_line.specs.Looping as requests;
+ghost use Rattle.cfdp_command_line.specs.Options.{pairs_rule};
 ghost use Rattle.cfdp_command_line.specs.Request.{IsCommand};
 ghost use Rattle.cfdp_command_line.specs.Sets.{CannotBeSet, IsSetBy};
 
@@ -14,9 +14,9 @@ use crate::arguments::{file_for, owned_word, word_of};
 use crate::losses::{LossRequest, losses_command, losses_of};
 use crate::sets::{SetError, configuration};
 use crate::shown::{shown_by, shown_command};
-use crate::station::{owned_words, pairs};
+use crate::station::owned_words;
 use cfdp_watch::Shown;
-use clap::{Arg, ArgMatches, Command, value_parser};
+use clap::{Arg, ArgAction, ArgMatches, Command, value_parser};
 use station_pair::WorldConfig;
 use std::alloc::{AllocError, Global};
 use valid_config::Valid;
@@ -171,24 +171,16 @@ fn turns_argument<'a>(alloc: Global) -> Arg<'a>
         .default_value("10000")
 }
 
-/// Returns an argument whose value is a number up to 1,000,000, with a default.
-pub fn tuned<'a>(
-    alloc: Global,
-    heading: &'a str,
-    name: &'a str,
-    shown: &'a str,
-    default: &'a str,
-    help: &'a str,
-) -> Arg<'a>
-    ensures { (rule_of result ≡ tuned_rule name.now default.now) × (result.global ≡ false) }
+/// Two words that may be given more than once.
+fn pairs<'a>(alloc: Global, name: &'a str, shown: &'a [&'a str; 2], help: &'a str) -> Arg<'a>
+    ensures { (rule_of result ≡ pairs_rule name.now) × (result.global ≡ false) }
 {
     Arg::new(alloc, name)
         .long(name)
-        .value_name(shown)
+        .value_names(shown)
         .help(help)
-        .help_heading(heading)
-        .value_parser(value_parser!(u64).range(0..=1000000))
-        .default_value(default)
+        .action(ArgAction::Append)
+        .num_args(2)
 }
 
 /// Returns what the words after `loop` ask for.

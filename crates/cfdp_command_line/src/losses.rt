@@ -1,16 +1,17 @@
 //! The words that say which frames are lost, to try what losses do.
-ghost use Rattle.std.specs.Prelude.{◌≡◌, false, IfOk};
+ghost use Rattle.std.specs.Prelude.{◌≡◌, IfOk};
 ghost use Rattle.clap.specs.Matches.{found_of};
 ghost use Rattle.clap.specs.Simple.{app_of};
-ghost use Rattle.clap.specs.Walk.{rows_of, rule_of};
-ghost use Rattle.cfdp_command_line.specs.Looping.{drop_rule, loss_rule, seed_rule, with_losses};
+ghost use Rattle.clap.specs.Walk.{rows_of};
+ghost use Rattle.cfdp_command_line.specs.Looping.{with_losses};
 ghost use Rattle.cfdp_command_line.specs.Looping as requests;
 ghost use Rattle.cfdp_command_line.specs.Request.{HasNoGlobals, IsCommand};
 
-use crate::arguments::with_argument;
-use crate::looping::{number_in, tuned};
+use crate::looping::number_in;
+use crate::options::with_options;
 use cfdp_port::FrameLosses;
-use clap::{Arg, ArgMatches, Command, value_parser};
+use cfdp_settings_file::LOSSES;
+use clap::{ArgMatches, Command};
 use std::alloc::{AllocError, Global};
 
 /// Which frames are lost: one is if either the count or chance takes it.
@@ -29,46 +30,7 @@ pub fn losses_command<'a>(alloc: Global, command: Command<'a>) -> Result<Command
     requires { HasNoGlobals command }
     ensures { IfOk result (IsCommand (with_losses (app_of command.entry))) }
 {
-    let counted = with_argument(command, drop_argument(alloc))?;
-    let random = with_argument(counted, loss_argument(alloc))?;
-    with_argument(random, seed_argument(alloc))
-}
-
-fn drop_argument<'a>(alloc: Global) -> Arg<'a>
-    ensures { (rule_of result ≡ drop_rule) × (result.global ≡ false) }
-{
-    tuned(
-        alloc,
-        "Simulated losses",
-        "drop",
-        "K",
-        "0",
-        "Lose each Kth frame (0: none)",
-    )
-}
-
-fn loss_argument<'a>(alloc: Global) -> Arg<'a>
-    ensures { (rule_of result ≡ loss_rule) × (result.global ≡ false) }
-{
-    Arg::new(alloc, "loss")
-        .long("loss")
-        .value_name("PERCENT")
-        .help("Lose each frame with this probability")
-        .help_heading("Simulated losses")
-        .value_parser(value_parser!(u64).range(0..=100))
-        .default_value("0")
-}
-
-fn seed_argument<'a>(alloc: Global) -> Arg<'a>
-    ensures { (rule_of result ≡ seed_rule) × (result.global ≡ false) }
-{
-    Arg::new(alloc, "seed")
-        .long("seed")
-        .value_name("N")
-        .help("Seed the random numbers of --loss")
-        .help_heading("Simulated losses")
-        .value_parser(value_parser!(u64))
-        .default_value("1")
+    with_options(alloc, command, &LOSSES)
 }
 
 /// Returns what the words after a subcommand say of the frames that are lost.

@@ -4,9 +4,11 @@ ghost use Rattle.clap.specs.Matches.{found_of};
 ghost use Rattle.clap.specs.Simple.{app_of};
 ghost use Rattle.clap.specs.Walk.{rows_of};
 ghost use Rattle.cfdp_command_line.specs.Request.{HasNoGlobals, IsCommand};
-ghost use Rattle.cfdp_command_line.specs.Shown.{asked_shown, shown_of, with_shown, with_told};
+ghost use Rattle.cfdp_command_line.specs.Shown.{asked_shown, shown_of, with_shown};
 
-use crate::arguments::{file_under, flag_under, is_given, owned_word, with_argument};
+use crate::arguments::{is_given, owned_word};
+use crate::options::with_options;
+use cfdp_settings_file::SHOWN;
 use cfdp_watch::Shown;
 use clap::{ArgMatches, Command};
 use std::alloc::{AllocError, Global};
@@ -16,45 +18,7 @@ pub fn shown_command<'a>(alloc: Global, command: Command<'a>) -> Result<Command<
     requires { HasNoGlobals command }
     ensures { IfOk result (IsCommand (with_shown (app_of command.entry))) }
 {
-    let told = told_command(alloc, command)?;
-    let captured = with_argument(
-        told,
-        file_under(
-            alloc,
-            "Output",
-            "pcap",
-            "Write all PDUs to FILE, as a capture for Wireshark",
-        ),
-    )?;
-    with_argument(
-        captured,
-        file_under(
-            alloc,
-            "Output",
-            "chart",
-            "Write a sequence diagram to FILE, in Mermaid's text",
-        ),
-    )
-}
-
-/// Adds those alone that say what is printed on standard error.
-fn told_command<'a>(alloc: Global, command: Command<'a>) -> Result<Command<'a>, AllocError>
-    requires { HasNoGlobals command }
-    ensures { IfOk result (IsCommand (with_told (app_of command.entry))) }
-{
-    command
-        .arg(flag_under(
-            alloc,
-            "Output",
-            "explain",
-            "Explain condition codes; print a summary",
-        ))?
-        .arg(flag_under(
-            alloc,
-            "Output",
-            "trace",
-            "Print each event on standard error",
-        ))
+    with_options(alloc, command, &SHOWN)
 }
 
 /// Returns what the words after a subcommand ask to be shown.

@@ -1,31 +1,22 @@
 //! What the words after `station` ask for.
-ghost use Rattle.std.specs.Prelude.{◌≡◌, [], false, map, unwrap_or, IfOk, option_map};
+ghost use Rattle.std.specs.Prelude.{◌≡◌, [], map, unwrap_or, IfOk, option_map};
 ghost use Rattle.clap.specs.Matches.{found_of};
-ghost use Rattle.clap.specs.Walk.{all_of, rows_of, rule_of};
-ghost use Rattle.cfdp_command_line.specs.Looping.{number_rule, pairs_rule};
+ghost use Rattle.clap.specs.Walk.{all_of, rows_of};
 ghost use Rattle.cfdp_command_line.specs.Request.{IsCommand};
-ghost use Rattle.cfdp_command_line.specs.Shown.{file_rule};
-ghost use Rattle.cfdp_command_line.specs.Station.{addresses_app, carried_app, carrier_of_word};
-ghost use Rattle.cfdp_command_line.specs.Station.{consoled_app};
-ghost use Rattle.cfdp_command_line.specs.Station.{file_app, first_number_rule, flags_of, held_app};
-ghost use Rattle.cfdp_command_line.specs.Station.{incoming_app, journaled_app, keyed_app};
-ghost use Rattle.cfdp_command_line.specs.Station.{limits_of, lists_app};
-ghost use Rattle.cfdp_command_line.specs.Station.{named_rule, names_of_word};
-ghost use Rattle.cfdp_command_line.specs.Station.{names_app, numbered_app, numbers_of};
-ghost use Rattle.cfdp_command_line.specs.Station.{operated_app};
-ghost use Rattle.cfdp_command_line.specs.Station.{own_numbers_app, said_number_rule};
-ghost use Rattle.cfdp_command_line.specs.Station.{said_rule, sent_app, spooled_app, station_app};
-ghost use Rattle.cfdp_command_line.specs.Station.{station_asked, station_of, stores_app};
-ghost use Rattle.cfdp_command_line.specs.Station.{told_app, unit_of_word, words_asked};
+ghost use Rattle.cfdp_command_line.specs.Station.{carrier_of_word, file_app, flags_of, limits_of};
+ghost use Rattle.cfdp_command_line.specs.Station.{names_of_word, numbers_of, own_app, station_app};
+ghost use Rattle.cfdp_command_line.specs.Station.{station_asked, station_of, unit_of_word};
+ghost use Rattle.cfdp_command_line.specs.Station.{words_asked};
 
-use crate::arguments::{file_for, file_under, flag, flag_under, is_given, owned_word, word_of};
-use crate::looping::{number_in, tuned};
-use crate::losses::{LossRequest, losses_command, losses_of};
+use crate::arguments::{file_for, flag, is_given, owned_word, word_of};
+use crate::looping::number_in;
+use crate::losses::{LossRequest, losses_of};
+use crate::options::with_options;
 use crate::shown::{shown_by, shown_command};
+use cfdp_settings_file::{OPTIONS, SHOWN};
 use cfdp_store::NameRule;
 use cfdp_watch::Shown;
-use clap::builder::ValueParser;
-use clap::{Arg, ArgAction, ArgMatches, Command, value_parser};
+use clap::{ArgMatches, Command};
 use std::alloc::{AllocError, Global};
 
 /// A station that must run, and what it must send.
@@ -200,6 +191,9 @@ Examples: two terminals that transfer two files; a station that keeps running:
   cfdp_node station --config station.toml --id 1 --peer 2 --spool SEND \\
     --listen 127.0.0.1:5001 --to 127.0.0.1:5002 --control 127.0.0.1:5101";
 
+/// So many options stand before those that say what is shown.
+const OWN: usize = OPTIONS.len() - SHOWN.len();
+
 /// Returns the grammar of what stands after `station`.
 pub fn station_command<'a>(alloc: Global) -> Result<Command<'a>, AllocError>
     ensures { IfOk result (IsCommand station_app) }
@@ -211,7 +205,7 @@ pub fn station_command<'a>(alloc: Global) -> Result<Command<'a>, AllocError>
 fn file_command<'a>(alloc: Global) -> Result<Command<'a>, AllocError>
     ensures { IfOk result (IsCommand file_app) }
 {
-    told_command(alloc)?
+    own_command(alloc)?
         .arg(file_for(
             alloc,
             "config",
@@ -225,450 +219,13 @@ fn file_command<'a>(alloc: Global) -> Result<Command<'a>, AllocError>
 }
 
 /// Returns the grammar above without a file of settings.
-fn told_command<'a>(alloc: Global) -> Result<Command<'a>, AllocError>
-    ensures { IfOk result (IsCommand told_app) }
+fn own_command<'a>(alloc: Global) -> Result<Command<'a>, AllocError>
+    ensures { IfOk result (IsCommand own_app) }
 {
-    consoled_command(alloc)?
-        .arg(flag_under(alloc, "Output", "no-time", "Omit timestamps"))?
-        .arg(flag_under(alloc, "Output", "json", "Write each line as a JSON object"))
-}
-
-/// Returns the grammar above without what says how lines are written.
-fn consoled_command<'a>(alloc: Global) -> Result<Command<'a>, AllocError>
-    ensures { IfOk result (IsCommand consoled_app) }
-{
-    operated_command(alloc)?
-        .arg(word_for(
-            alloc,
-            "Operation",
-            "console",
-            "ADDR",
-            "Serve a web console at this TCP address",
-        ))?
-        .arg(file_under(
-            alloc,
-            "Operation",
-            "console-token",
-            "Ask visitors for the token in FILE",
-        ))?
-        .arg(word_for(
-            alloc,
-            "Operation",
-            "console-host",
-            "NAME",
-            "Accept a proxy's requests for the host NAME",
-        ))
-}
-
-/// Returns the grammar above without a console.
-fn operated_command<'a>(alloc: Global) -> Result<Command<'a>, AllocError>
-    ensures { IfOk result (IsCommand operated_app) }
-{
-    incoming_command(alloc)?
-        .arg(flag_under(
-            alloc,
-            "Operation",
-            "commands",
-            "Read commands from standard input",
-        ))?
-        .arg(word_for(
-            alloc,
-            "Operation",
-            "control",
-            "ADDR",
-            "Accept commands at this TCP address or unix:PATH",
-        ))
-}
-
-/// Returns the grammar above without commands.
-fn incoming_command<'a>(alloc: Global) -> Result<Command<'a>, AllocError>
-    ensures { IfOk result (IsCommand incoming_app) }
-{
-    held_command(alloc)?
-        .arg(flag_under(
-            alloc,
-            "Files",
-            "no-overwrite",
-            "Refuse a file whose name is taken",
-        ))?
-        .arg(named(
-            alloc,
-            "Files",
-            "names",
-            "RULE",
-            "portable",
-            "Allow portable or any file names",
-        ))
-}
-
-/// Returns the grammar above without `--no-overwrite` and `--names`.
-fn held_command<'a>(alloc: Global) -> Result<Command<'a>, AllocError>
-    ensures { IfOk result (IsCommand held_app) }
-{
-    sent_command(alloc)?
-        .arg(ranged(
-            alloc,
-            "Files",
-            "most-size",
-            "OCTETS",
-            "0",
-            0,
-            281474976710656,
-            "Refuse files longer than this (0: any)",
-        ))?
-        .arg(ranged(
-            alloc,
-            "Files",
-            "most-open",
-            "N",
-            "0",
-            0,
-            4096,
-            "Receive up to N files at once (0: any)",
-        ))
-}
-
-/// Returns the grammar above without limits of what comes.
-fn sent_command<'a>(alloc: Global) -> Result<Command<'a>, AllocError>
-    ensures { IfOk result (IsCommand sent_app) }
-{
-    spooled_command(alloc)?
-        .arg(ranged(
-            alloc,
-            "Files",
-            "retries",
-            "N",
-            "3",
-            0,
-            1000,
-            "Retry a spool file up to N times",
-        ))?
-        .arg(ranged(
-            alloc,
-            "Files",
-            "at-once",
-            "N",
-            "4",
-            1,
-            3072,
-            "Send up to N files at once, 1 to 3072",
-        ))
-}
-
-/// Returns the grammar above without numbers of what is sent.
-fn spooled_command<'a>(alloc: Global) -> Result<Command<'a>, AllocError>
-    ensures { IfOk result (IsCommand spooled_app) }
-{
-    lists_command(alloc)?
-        .arg(word_for(
-            alloc,
-            "Files",
-            "spool",
-            "FOLDER",
-            "Send each file that is put into FOLDER",
-        ))?
-        .arg(flag_under(
-            alloc,
-            "Files",
-            "remove-sent",
-            "Delete sent spool files, instead of keeping them",
-        ))
-}
-
-/// Returns the grammar above without a spool.
-fn lists_command<'a>(alloc: Global) -> Result<Command<'a>, AllocError>
-    ensures { IfOk result (IsCommand lists_app) }
-{
-    keyed_command(alloc)?
-        .arg(pairs_under(
-            alloc,
-            "Files",
-            "put",
-            &["SRC", "DST"],
-            "Send SRC of the outbox as DST; repeatable",
-        ))?
-        .arg(pairs_under(
-            alloc,
-            "Link",
-            "set",
-            &["KEY", "N"],
-            "Set a key (see below); repeatable",
-        ))
-}
-
-/// Returns the grammar above without what may be said more than once.
-fn keyed_command<'a>(alloc: Global) -> Result<Command<'a>, AllocError>
-    ensures { IfOk result (IsCommand keyed_app) }
-{
-    journaled_command(alloc)?.arg(file_under(
-        alloc,
-        "Link",
-        "keys",
-        "Authenticate frames with the keys in FILE",
-    ))
-}
-
-/// Returns the grammar above without keys.
-fn journaled_command<'a>(alloc: Global) -> Result<Command<'a>, AllocError>
-    ensures { IfOk result (IsCommand journaled_app) }
-{
-    stores_command(alloc)?
-        .arg(file_under(
-            alloc,
-            "Identity",
-            "journal",
-            "Keep the journal in FILE, to resume by it",
-        ))?
-        .arg(ranged(
-            alloc,
-            "Identity",
-            "journal-every",
-            "MS",
-            "1000",
-            10,
-            3_600_000,
-            "Note progress in it each MS ms",
-        ))?
-        .arg(flag_under(
-            alloc,
-            "Identity",
-            "no-journal",
-            "Forget open transfers at a restart",
-        ))
-}
-
-/// Returns the grammar above without a journal and keys.
-fn stores_command<'a>(alloc: Global) -> Result<Command<'a>, AllocError>
-    ensures { IfOk result (IsCommand stores_app) }
-{
-    carried_command(alloc)?
-        .arg(word_for(
-            alloc,
-            "Files",
-            "inbox",
-            "FOLDER",
-            "Receive files into FOLDER",
-        ))?
-        .arg(word_for(
-            alloc,
-            "Files",
-            "outbox",
-            "FOLDER",
-            "Find the files of --put in FOLDER",
-        ))?
-        .arg(file_under(
-            alloc,
-            "Identity",
-            "state",
-            "Keep the used transaction numbers in FILE",
-        ))
-}
-
-/// Returns the grammar above without stores and keys.
-fn carried_command<'a>(alloc: Global) -> Result<Command<'a>, AllocError>
-    ensures { IfOk result (IsCommand carried_app) }
-{
-    own_numbers_command(alloc)?
-        .arg(named(
-            alloc,
-            "Link",
-            "carrier",
-            "KIND",
-            "frames",
-            "Send frames, packets or pdus over UDP",
-        ))?
-        .arg(named(
-            alloc,
-            "Link",
-            "unit",
-            "UNIT",
-            "s",
-            "Give the times of --set in s or ms",
-        ))
-}
-
-/// Returns the grammar above without what a datagram carries and the unit of times.
-fn own_numbers_command<'a>(alloc: Global) -> Result<Command<'a>, AllocError>
-    ensures { IfOk result (IsCommand own_numbers_app) }
-{
-    let paced = numbered_command(alloc)?.arg(tuned(
-        alloc,
-        "Link",
-        "rate",
-        "N",
-        "1000",
-        "Send at most N frames a second (0: any)",
-    ))?;
-    losses_command(alloc, paced)
-}
-
-/// Returns the grammar above without what says which frames leave.
-fn numbered_command<'a>(alloc: Global) -> Result<Command<'a>, AllocError>
-    ensures { IfOk result (IsCommand numbered_app) }
-{
-    addresses_command(alloc)?
-        .arg(tuned(
-            alloc,
-            "Link",
-            "idle",
-            "N",
-            "0",
-            "Stop after N idle seconds (0: never)",
-        ))?
-        .arg(first_number_argument(alloc))
-}
-
-/// Returns the grammar above with ids and addresses alone.
-fn addresses_command<'a>(alloc: Global) -> Result<Command<'a>, AllocError>
-    ensures { IfOk result (IsCommand addresses_app) }
-{
-    names_command(alloc)?
-        .arg(said(
-            alloc,
-            "Link",
-            "listen",
-            "ADDR",
-            "Listen at this UDP address",
-        ))?
-        .arg(said(
-            alloc,
-            "Link",
-            "to",
-            "ADDR",
-            "Send to this UDP address of the peer",
-        ))
-}
-
-/// Returns the grammar above with ids alone.
-fn names_command<'a>(alloc: Global) -> Result<Command<'a>, AllocError>
-    ensures { IfOk result (IsCommand names_app) }
-{
-    Command::new(alloc, "station")
+    let plain = Command::new(alloc, "station")
         .about("Run one end of a link over UDP: send and receive files")
-        .after_help(STATION_HELP)
-        .arg(said_number(alloc, "Identity", "id", "Set the entity id of this station"))?
-        .arg(said_number(alloc, "Identity", "peer", "Set the entity id of the peer"))
-}
-
-/// A number that must be said.
-fn said_number<'a>(alloc: Global, heading: &'a str, name: &'a str, help: &'a str) -> Arg<'a>
-    ensures { (rule_of result ≡ said_number_rule name.now) × (result.global ≡ false) }
-{
-    said(alloc, heading, name, "ID", help).value_parser(value_parser!(u64))
-}
-
-/// A word that must be said after its option.
-fn said<'a>(
-    alloc: Global,
-    heading: &'a str,
-    name: &'a str,
-    shown: &'a str,
-    help: &'a str,
-) -> Arg<'a>
-    ensures { (rule_of result ≡ said_rule name.now) × (result.global ≡ false) }
-{
-    Arg::new(alloc, name)
-        .long(name)
-        .value_name(shown)
-        .help(help)
-        .help_heading(heading)
-        .required(true)
-}
-
-/// A word that may be said after its option.
-fn word_for<'a>(
-    alloc: Global,
-    heading: &'a str,
-    name: &'a str,
-    shown: &'a str,
-    help: &'a str,
-) -> Arg<'a>
-    ensures { (rule_of result ≡ file_rule name.now) × (result.global ≡ false) }
-{
-    Arg::new(alloc, name)
-        .long(name)
-        .value_name(shown)
-        .help(help)
-        .help_heading(heading)
-}
-
-/// A word that may be said, and the one that stands for it if none is.
-fn named<'a>(
-    alloc: Global,
-    heading: &'a str,
-    name: &'a str,
-    shown: &'a str,
-    default: &'a str,
-    help: &'a str,
-) -> Arg<'a>
-    ensures { (rule_of result ≡ named_rule name.now default.now) × (result.global ≡ false) }
-{
-    Arg::new(alloc, name)
-        .long(name)
-        .value_name(shown)
-        .help(help)
-        .help_heading(heading)
-        .default_value(default)
-}
-
-/// A number between these two or one of them, and the one that stands for it if none is said.
-fn ranged<'a>(
-    alloc: Global,
-    heading: &'a str,
-    name: &'a str,
-    shown: &'a str,
-    default: &'a str,
-    low: u64,
-    high: u64,
-    help: &'a str,
-) -> Arg<'a>
-    ensures { (rule_of result ≡ number_rule name.now low high default.now)
-        × (result.global ≡ false) }
-{
-    Arg::new(alloc, name)
-        .long(name)
-        .value_name(shown)
-        .help(help)
-        .help_heading(heading)
-        .value_parser(ValueParser::unsigned(low, high))
-        .default_value(default)
-}
-
-fn first_number_argument<'a>(alloc: Global) -> Arg<'a>
-    ensures { (rule_of result ≡ first_number_rule) × (result.global ≡ false) }
-{
-    Arg::new(alloc, "first-number")
-        .long("first-number")
-        .value_name("N")
-        .help("Number the first put N (0: next unused)")
-        .help_heading("Identity")
-        .value_parser(value_parser!(u64))
-        .default_value("0")
-}
-
-/// Returns an argument of two words that may be given more than once.
-pub fn pairs<'a>(alloc: Global, name: &'a str, shown: &'a [&'a str; 2], help: &'a str) -> Arg<'a>
-    ensures { (rule_of result ≡ pairs_rule name.now) × (result.global ≡ false) }
-{
-    Arg::new(alloc, name)
-        .long(name)
-        .value_names(shown)
-        .help(help)
-        .action(ArgAction::Append)
-        .num_args(2)
-}
-
-/// Returns such an argument under a heading of the help.
-fn pairs_under<'a>(
-    alloc: Global,
-    heading: &'a str,
-    name: &'a str,
-    shown: &'a [&'a str; 2],
-    help: &'a str,
-) -> Arg<'a>
-    ensures { (rule_of result ≡ pairs_rule name.now) × (result.global ≡ false) }
-{
-    pairs(alloc, name, shown, help).help_heading(heading)
+        .after_help(STATION_HELP);
+    with_options(alloc, plain, &OPTIONS[..OWN])
 }
 
 /// Returns what the words after `station` ask for.
