@@ -1,5 +1,5 @@
 -- Records that are discarded one after another, and indications.
-use Rattle.std.proofs.Common.{◌≡◌, ◌⊎◌, inl, inr, ℕ, zero, suc, ◌≤◌, List, [], ◌∷◌, ◌++◌, length, remove, slice_get, Option, Some, None, refl, sym, ap, subst, ◌∙◌, arith}
+use Rattle.std.proofs.Common.{◌≡◌, ◌⊎◌, Bool, inl, inr, ℕ, zero, suc, ◌≤◌, List, [], ◌∷◌, ◌++◌, length, remove, slice_get, Option, Some, None, refl, sym, ap, subst, ◌∙◌, arith}
 use Rattle.std.proofs.lemmas.Option.{slice_get_past}
 use Rattle.cfdp_header.specs.declared.value.TransactionId.{TransactionId}
 use Rattle.cfdp_header.specs.Files.{FileMap}
@@ -8,7 +8,7 @@ use Rattle.cfdp_entity.specs.Entity.{EntityState, with_table}
 use Rattle.cfdp_entity.specs.declared.error.ForgetError.{ForgetError}
 use Rattle.cfdp_entity.specs.Forgetting.{Forgets, ForgetsEach, ForgetsSome, GoesIfOver, over_in, refusal, unless_refused, without_record}
 use Rattle.cfdp_entity.specs.Seen.{Seen}
-use Rattle.cfdp_entity.specs.Sound.{IsSound}
+use Rattle.cfdp_entity.specs.Sound.{IsSoundOf}
 use Rattle.cfdp_entity.specs.Table.{Entry, without_told}
 use Rattle.cfdp_entity.proofs.LettingGo.{sound-forgets}
 
@@ -79,13 +79,13 @@ goes-so place id old new over is =
     })
 
 -- ---- what holds stays
-module _ (put_of : TransactionId → Option Put) (heard : List (List ℕ)) (first : FileMap) where
-  pub sound-each : (ids : List TransactionId) (old new : EntityState) → ForgetsEach ids old new → IsSound put_of heard first old → IsSound put_of heard first new
+module _ (for_good : Bool) (put_of : TransactionId → Option Put) (heard : List (List ℕ)) (first : FileMap) where
+  pub sound-each : (ids : List TransactionId) (old new : EntityState) → ForgetsEach ids old new → IsSoundOf for_good put_of heard first old → IsSoundOf for_good put_of heard first new
   unfolding ForgetsEach
-  sound-each [] old new is k = subst (IsSound put_of heard first) (sym is) k
-  sound-each (id ∷ ids) old new f k = sound-each ids f.0 new f.1.1 (sound-forgets put_of heard first id old f.0 f.1.0 k)
+  sound-each [] old new is k = subst (IsSoundOf for_good put_of heard first) (sym is) k
+  sound-each (id ∷ ids) old new f k = sound-each ids f.0 new f.1.1 (sound-forgets for_good put_of heard first id old f.0 f.1.0 k)
 
-  pub sound-told : (count : ℕ) (e : EntityState) → IsSound put_of heard first e → IsSound put_of heard first (with_table e (without_told count e.table))
+  pub sound-told : (count : ℕ) (e : EntityState) → IsSoundOf for_good put_of heard first e → IsSoundOf for_good put_of heard first (with_table e (without_told count e.table))
   sound-told count e k = record {
     config = k.config;
     once = k.once;

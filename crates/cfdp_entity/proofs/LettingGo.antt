@@ -24,7 +24,7 @@ use Rattle.cfdp_entity.specs.Entity.{EntityState, is_forgotten}
 use Rattle.cfdp_entity.specs.Forgetting.{Forgets, is_closed, refusal, left_at, without_record}
 use Rattle.cfdp_entity.specs.History.{open_in, open_of, also, FinishesOnce}
 use Rattle.cfdp_entity.specs.Seen.{Seen, Sends, Receives, is_due, phase_of}
-use Rattle.cfdp_entity.specs.Sound.{IsSound}
+use Rattle.cfdp_entity.specs.Sound.{IsSoundOf}
 use Rattle.cfdp_entity.specs.Table.{Entry, TableState, record_of}
 use Rattle.cfdp_entity.specs.Timed.{AreTimed, is_armed, waits_for}
 use Rattle.cfdp_entity.proofs.CallerLemmas.{same_id-true}
@@ -89,8 +89,8 @@ left-timed st place e at d t = record { waited = waited-left; armed = armed-left
       | false ↦ λ other. ap is_some (other-armed st.armed e.0 q k other) ∙ t.armed q k (sym (ap (waits_for k) (left-other st.records place e q at other)) ∙ is)
     ] refl
 
-module _ (put_of : TransactionId → Option Put) (heard : List (List ℕ)) (first : FileMap) (id : TransactionId) (old new : EntityState) (f : Forgets id old new) (k : IsSound put_of heard first old) where
-  sound-left : IsSound put_of heard first (without_record f.place id old)
+module _ (for_good : Bool) (put_of : TransactionId → Option Put) (heard : List (List ℕ)) (first : FileMap) (id : TransactionId) (old new : EntityState) (f : Forgets id old new) (k : IsSoundOf for_good put_of heard first old) where
+  sound-left : IsSoundOf for_good put_of heard first (without_record f.place id old)
   sound-left = record {
     config = k.config;
     once = once-as (also id (is_forgotten old)) (set.contains (set.insert old.forgotten id)) (remove old.table.records f.place) old.table.told (more-gone old id)
@@ -109,5 +109,5 @@ module _ (put_of : TransactionId → Option Put) (heard : List (List ℕ)) (firs
     policy = k.policy;
   }
 
-  pub sound-forgets : IsSound put_of heard first new
-  sound-forgets = subst (IsSound put_of heard first) (sym f.forgot) sound-left
+  pub sound-forgets : IsSoundOf for_good put_of heard first new
+  sound-forgets = subst (IsSoundOf for_good put_of heard first) (sym f.forgot) sound-left

@@ -10,6 +10,7 @@ pub mod Sendings
 pub mod Tellings
 pub mod Timing
 pub mod Sounds
+mod Renewed
 pub mod Removing
 pub mod StillSound
 pub mod Growing

@@ -35,8 +35,8 @@ use Rattle.cfdp_store.specs.Staged.{OctetMap}
 use Rattle.cfdp_entity.specs.Entity.{EntityState}
 use Rattle.cfdp_entity.specs.Polling.{Turn, Stray, Place, Rests, turn_octets}
 use Rattle.cfdp_entity.specs.Seen.{Seen, Sends, Receives, addressing_of, large_of, due_content, due_octets, sender_content, receiver_content}
-use Rattle.cfdp_entity.specs.Sending.{SendsPut, SendsTruth}
-use Rattle.cfdp_entity.specs.Sound.{IsSound, SaysDelivered, SpellsDue, SpellsEntry, SpellsTurn}
+use Rattle.cfdp_entity.specs.Sending.{SendsPutOf, SendsTruthOf}
+use Rattle.cfdp_entity.specs.Sound.{IsSoundOf, SaysDelivered, SpellsDue, SpellsEntry, SpellsTurn}
 use Rattle.cfdp_entity.specs.Strays.{stray_says, stray_octets}
 use Rattle.cfdp_entity.specs.Table.{Entry, TableState, octets_due}
 use Rattle.cfdp_entity.specs.Truth.{KnowsPut, KnowsTruth}
@@ -86,13 +86,13 @@ of-put own put_of id (Prompt keep_alive) p = tt
 of-put own put_of id (KeepAlive progress) p = tt
 
 -- ---- what an entity says
-pub record Speakers : Type 0 where
+pub record Speakers (for_good : Bool) : Type 0 where
   pub unique : (a b x y : List ℕ) (h k : Header) (v w : Content) → SpellsPdu h v a → SpellsPdu k w b → a ++ x ≡ b ++ y → (a ≡ b) × (h ≡ k) × (v ≡ w)
-  pub truthful : (put_of : TransactionId → Option Put) (st : TableState) (place : ℕ) (e : Entry) (v : Content) (put : Put) → SendsTruth put_of st → slice_get st.records place ≡ Some e →
+  pub truthful : (put_of : TransactionId → Option Put) (st : TableState) (place : ℕ) (e : Entry) (v : Content) (put : Put) → SendsTruthOf for_good put_of st → slice_get st.records place ≡ Some e →
       due_content st.sources e.1 ≡ Some v → put_of e.0 ≡ Some put → IsTruthful put v
   pub finished : (r : ReceiverState) (o : Outcome) → receiver_due r ≡ Some (due.Finished o) → r.outcome ≡ Some o
 
-module _ (laws : Speakers) (put_of : TransactionId → Option Put) (heard : List (List ℕ)) (first : FileMap) (e : EntityState) (s : IsSound put_of heard first e) where
+module _ (for_good : Bool) (laws : Speakers for_good) (put_of : TransactionId → Option Put) (heard : List (List ℕ)) (first : FileMap) (e : EntityState) (s : IsSoundOf for_good put_of heard first e) where
   abbrev Says : TransactionId → Content → Type 0
   Says id v = SaysTruth e.config.entity put_of id v × SaysDelivered e.config.entity e.table.told id v
 
@@ -107,7 +107,7 @@ module _ (laws : Speakers) (put_of : TransactionId → Option Put) (heard : List
     sender-says : (x : SenderState) (v : Content) → slice_get e.table.records place ≡ Some (id, Sends x) → due_content e.table.sources (Sends x) ≡ Some v → Says id v
     sender-says x v at is =
         let k : KnowsTruth e.config.entity put_of heard id (Sends x) = s.knows.knows place (id, Sends x) at in
-        let p : SendsPut put_of e.table.sources id x = s.sends.sends place (id, Sends x) at in
+        let p : SendsPutOf for_good put_of e.table.sources id x = s.sends.sends place (id, Sends x) at in
         let truth : IsTruthful p.put v = laws.truthful put_of e.table place (id, Sends x) v p.put s.sends at is p.is_put in
         (of-put e.config.entity put_of id v (p.put, (k.1, p.is_put, truth)), λ tlvs h. absurd (unfinished (octets_in e.table.sources x.source) x (sender_due x) tlvs (is ∙ ap (λ c. Some c) h)))
 

@@ -1,6 +1,6 @@
 -- What an entity keeps if it hears nothing but the truth of puts. `put_of` finds the put of a
 -- transaction, `heard` is the PDUs that came to it, `first` the files published at first.
-use Rattle.std.specs.Prelude.{◌≡◌, ◌≤◌, ◌++◌, ℕ, List, Option, Some, None, slice_get, Contains, Bool}
+use Rattle.std.specs.Prelude.{◌≡◌, ◌≤◌, ◌++◌, ℕ, List, Option, Some, None, slice_get, Contains, Bool, true, false}
 use Rattle.cfdp_header.specs.declared.value.Header.{Header}
 use Rattle.cfdp_header.specs.declared.value.TransactionId.{TransactionId}
 use Rattle.cfdp_header.specs.Files.{FileMap}
@@ -22,7 +22,7 @@ use Rattle.cfdp_entity.specs.History.{FinishesOnce}
 use Rattle.cfdp_entity.specs.Polling.{Turn, Stray, Place, Rests}
 use Rattle.cfdp_entity.specs.Putting.{next_id}
 use Rattle.cfdp_entity.specs.Seen.{addressing_of, large_of, due_content, due_octets}
-use Rattle.cfdp_entity.specs.Sending.{SendsTruth}
+use Rattle.cfdp_entity.specs.Sending.{SendsTruthOf}
 use Rattle.cfdp_entity.specs.Strays.{stray_says, stray_octets}
 use Rattle.cfdp_entity.specs.Table.{Entry}
 use Rattle.cfdp_entity.specs.Telling.{TellsNoMore}
@@ -31,16 +31,24 @@ use Rattle.cfdp_entity.specs.Truth.{IsTrueTable}
 
 -- Each transaction is finished once, each record knows and sends the truth of its put, no more is
 -- said of a transaction than was indicated or heard, the timers that are armed are those for which
--- records wait, and the table does as it is configured.
-pub record IsSound (put_of : TransactionId → Option Put) (heard : List (List ℕ)) (first : FileMap)
-    (e : EntityState) : Type 0 where
+-- records wait, and the table does as it is configured. The outbox has the file of each put that
+-- has a record, for good or as long as it is being sent.
+pub record IsSoundOf (for_good : Bool) (put_of : TransactionId → Option Put)
+    (heard : List (List ℕ)) (first : FileMap) (e : EntityState) : Type 0 where
   pub config : IsConfig e.config
   pub once : FinishesOnce (is_forgotten e) e.table.records e.table.told
   pub knows : IsTrueTable e.config.entity put_of heard first e.table
-  pub sends : SendsTruth put_of e.table
+  pub sends : SendsTruthOf for_good put_of e.table
   pub tells : TellsNoMore e.config.entity heard e.table
   pub timed : AreTimed e.table
   pub policy : e.table.policy ≡ e.config.policy
+
+abbrev pub IsSound : (TransactionId → Option Put) → List (List ℕ) → FileMap → EntityState → Type 0
+IsSound put_of heard first e = IsSoundOf true put_of heard first e
+
+abbrev pub IsSoundWhileSending : (TransactionId → Option Put) → List (List ℕ) → FileMap
+    → EntityState → Type 0
+IsSoundWhileSending put_of heard first e = IsSoundOf false put_of heard first e
 
 -- More puts are found, and those found before are as they were.
 abbrev pub FindsMore : (before after : TransactionId → Option Put) → Type 0

@@ -12,7 +12,9 @@ ghost use Rattle.cfdp_directives.specs.Pdu.Faults.{pdu_fault};
 ghost use Rattle.cfdp_directives.specs.Pdu.Grammar.{SpellsPdu};
 ghost use Rattle.cfdp_directives.specs.User.Put.{Put, IsTruthful, SaysTruth};
 ghost use Rattle.cfdp_store.specs.declared.stored.Stored.{Stored};
+ghost use Rattle.cfdp_store.specs.Files.{octets_in};
 ghost use Rattle.cfdp_sender.specs.Inputs.{finished_count};
+ghost use Rattle.cfdp_sender.specs.State.{SenderState};
 ghost use Rattle.cfdp_entity.specs.declared.request.Request.{Request};
 ghost use Rattle.cfdp_entity.specs.declared.config.EntityConfig.{EntityConfig};
 ghost use Rattle.cfdp_entity.specs.declared.error.EntityDrop.{EntityDrop};
@@ -24,8 +26,9 @@ ghost use Rattle.cfdp_entity.specs.History.{TableStep, table_step, table_run, Ma
 ghost use Rattle.cfdp_entity.specs.History.{OpensOther, Leads, KeepsRecords, FinishesOnce, also};
 ghost use Rattle.cfdp_entity.specs.History.{none_gone, open_in};
 ghost use Rattle.cfdp_entity.specs.Truth.{TellsTruth, IsTrueTable};
-ghost use Rattle.cfdp_entity.specs.Seen.{due_content};
-ghost use Rattle.cfdp_entity.specs.Sending.{FindsPut, SendsTruth};
+ghost use Rattle.cfdp_entity.specs.Looking.{LooksUp};
+ghost use Rattle.cfdp_entity.specs.Seen.{Sends, due_content};
+ghost use Rattle.cfdp_entity.specs.Sending.{FindsPut, SendsTruthOf};
 ghost use Rattle.cfdp_entity.specs.Telling.{HearsDelivered, TellsNoMore};
 ghost use Rattle.cfdp_entity.specs.Entity.{EntityState, Counted, first_entity, with_table};
 ghost use Rattle.cfdp_entity.specs.Requests.{IsCalled};
@@ -33,7 +36,8 @@ ghost use Rattle.cfdp_entity.specs.Forgetting.{Forgets, ForgetsSome, with_files,
 ghost use Rattle.cfdp_entity.specs.Hearing.{HearsOctets, DropsOctets};
 ghost use Rattle.cfdp_entity.specs.Polling.{turn, turn_octets, served};
 ghost use Rattle.cfdp_entity.specs.Putting.{Accepts};
-ghost use Rattle.cfdp_entity.specs.Sound.{IsSound, FindsMore, FindsById, next_put, ComesTrue};
+ghost use Rattle.cfdp_entity.specs.Sound.{IsSound, IsSoundWhileSending, FindsMore, FindsById};
+ghost use Rattle.cfdp_entity.specs.Sound.{next_put, ComesTrue};
 ghost use Rattle.cfdp_entity.specs.Sound.{SpellsTurn, SaysDelivered, GoesOn};
 ghost use Rattle.cfdp_entity.specs.Removing.{GoesAlike, IsSoundBut, also_removed, none_removed};
 
@@ -146,18 +150,21 @@ pub fn a_table_keeps_the_truth()
 
 /// A table sends the truth: each PDU that a record has due is truthful of the put of its
 /// transaction, so each Metadata, file data and EOF without an error. So it stays if each put
-/// that opens a record is found under its transaction, and if more puts are found.
+/// that opens a record is found under its transaction, and if more puts are found. The outbox must
+/// have the file of a put for good, or at least as long as the file is being sent.
 pub fn a_table_sends_the_truth()
-    ensures first { (put_of : TransactionId → Option Put) (sources files : FileMap)
-        (policy : Policy) → SendsTruth put_of (first_table sources files policy) }
-    ensures step { (put_of : TransactionId → Option Put) (s : TableStep) (st : TableState) →
-        MayHappen s st → FindsPut put_of s st → SendsTruth put_of st
-        → SendsTruth put_of (table_step s st) }
-    ensures more { (put_of puts_then : TransactionId → Option Put) (st : TableState) →
-        ((id : TransactionId) (put : Put) → put_of id ≡ Some put → puts_then id ≡ Some put)
-        → SendsTruth put_of st → SendsTruth puts_then st }
-    ensures says { (put_of : TransactionId → Option Put) (st : TableState) (place : ℕ)
-        (e : Entry) (v : Content) (put : Put) → SendsTruth put_of st
+    ensures first { (for_good : Bool) (put_of : TransactionId → Option Put)
+        (sources files : FileMap) (policy : Policy)
+        → SendsTruthOf for_good put_of (first_table sources files policy) }
+    ensures step { (for_good : Bool) (put_of : TransactionId → Option Put) (s : TableStep)
+        (st : TableState) → MayHappen s st → FindsPut put_of s st
+        → SendsTruthOf for_good put_of st → SendsTruthOf for_good put_of (table_step s st) }
+    ensures more { (for_good : Bool) (put_of puts_then : TransactionId → Option Put)
+        (st : TableState)
+        → ((id : TransactionId) (put : Put) → put_of id ≡ Some put → puts_then id ≡ Some put)
+        → SendsTruthOf for_good put_of st → SendsTruthOf for_good puts_then st }
+    ensures says { (for_good : Bool) (put_of : TransactionId → Option Put) (st : TableState)
+        (place : ℕ) (e : Entry) (v : Content) (put : Put) → SendsTruthOf for_good put_of st
         → slice_get st.records place ≡ Some e → due_content st.sources e.1 ≡ Some v
         → put_of e.0 ≡ Some put → IsTruthful put v }
 {
@@ -278,6 +285,87 @@ pub fn an_entity_sends_the_truth()
     a_finished_says_what_was_indicated();
     a_table_sends_the_truth();
 }
+
+/// An entity that hears nothing but the truth of puts keeps it also if its outbox has the file of a
+/// put only as long as the file is being sent: whatever happens to it, as
+/// [`an_entity_keeps_the_truth`] and [`an_entity_may_forget`] have it. And it sends the truth.
+pub fn an_entity_keeps_the_truth_while_it_sends()
+    ensures more { (put_of puts_then : TransactionId → Option Put) (heard more : List (List ℕ))
+        (first : FileMap) (e : EntityState) → FindsMore put_of puts_then
+        → IsSoundWhileSending put_of heard first e
+        → IsSoundWhileSending puts_then (heard ++ more) first e }
+    ensures among { (put_of : TransactionId → Option Put) (heard others : List (List ℕ))
+        (first : FileMap) (e : EntityState) →
+        ((text : List ℕ) → Contains heard text → Contains others text)
+        → IsSoundWhileSending put_of heard first e → IsSoundWhileSending put_of others first e }
+    ensures put { (put_of : TransactionId → Option Put) (heard : List (List ℕ)) (first : FileMap)
+        (source destination : List ℕ) (id : TransactionId) (old new : EntityState) →
+        Accepts source destination id old new
+        → put_of id ≡ Some (next_put source destination old)
+        → IsSoundWhileSending put_of heard first old
+        → IsSoundWhileSending put_of heard first new }
+    ensures called { (put_of : TransactionId → Option Put) (heard : List (List ℕ))
+        (first : FileMap) (c : Request) (id : TransactionId) (old new : EntityState) →
+        IsCalled c id old new → IsSoundWhileSending put_of heard first old
+        → IsSoundWhileSending put_of heard first new }
+    ensures ticked { (put_of : TransactionId → Option Put) (heard : List (List ℕ))
+        (first : FileMap) (now : ℕ) (old new : EntityState) → Ticks now old.table new.table
+        → new ≡ with_table old new.table → IsSoundWhileSending put_of heard first old
+        → IsSoundWhileSending put_of heard first new }
+    ensures heard { (put_of : TransactionId → Option Put) (heard : List (List ℕ))
+        (first : FileMap) (pdu : List ℕ) (old new : Counted) → FindsById put_of
+        → ComesTrue old.state.config.peer put_of heard pdu → HearsOctets pdu old new
+        → IsSoundWhileSending put_of heard first old.state
+        → IsSoundWhileSending put_of heard first new.state }
+    ensures dropped { (put_of : TransactionId → Option Put) (heard : List (List ℕ))
+        (first : FileMap) (pdu : List ℕ) (by : EntityDrop) (old new : Counted) →
+        DropsOctets (pdu_fault pdu) pdu by old new
+        → IsSoundWhileSending put_of heard first old.state
+        → IsSoundWhileSending put_of heard first new.state }
+    ensures served { (put_of : TransactionId → Option Put) (heard : List (List ℕ))
+        (first : FileMap) (stored : Stored) (e : EntityState) →
+        IsSoundWhileSending put_of heard first e
+        → IsSoundWhileSending put_of heard first (served stored (turn e) e) }
+    ensures some { (put_of : TransactionId → Option Put) (heard : List (List ℕ))
+        (first : FileMap) (old new : EntityState) → ForgetsSome old new
+        → IsSoundWhileSending put_of heard first old
+        → IsSoundWhileSending put_of heard first new }
+    ensures told { (put_of : TransactionId → Option Put) (heard : List (List ℕ))
+        (first : FileMap) (count : ℕ) (e : EntityState)
+        → IsSoundWhileSending put_of heard first e
+        → IsSoundWhileSending put_of heard first (with_table e (without_told count e.table)) }
+    ensures says { (put_of : TransactionId → Option Put) (heard : List (List ℕ))
+        (first : FileMap) (e : EntityState) (h : Header) (v : Content)
+        → IsSoundWhileSending put_of heard first e → SpellsTurn (turn e) e
+        → SpellsPdu h v (turn_octets (turn e) e) → SaysTruth e.config.entity put_of h.id v
+        × SaysDelivered e.config.entity e.table.told h.id v }
+{
+    no_pdu_begins_another();
+    a_finished_says_what_was_indicated();
+    a_table_finishes_a_transaction_once();
+    a_table_keeps_the_truth();
+    a_table_sends_the_truth();
+    a_table_tells_no_more();
+}
+
+/// A look for a file keeps an entity sound, whatever records are left that sent a file of its name:
+/// none of them reads it any more, also if its transaction is being cancelled, or if it must still
+/// acknowledge a Finished. If the outbox has the files of all puts that have a record, the entity
+/// is sound in the stronger sense.
+pub fn a_look_for_a_file_changes_nothing_that_is_sent()
+    ensures looked { (put_of : TransactionId → Option Put) (heard : List (List ℕ))
+        (first : FileMap) (name : List ℕ) (old new : EntityState) → LooksUp name old new
+        → IsSoundWhileSending put_of heard first old
+        → IsSoundWhileSending put_of heard first new }
+    ensures weaker { (put_of : TransactionId → Option Put) (heard : List (List ℕ))
+        (first : FileMap) (e : EntityState) → IsSound put_of heard first e
+        → IsSoundWhileSending put_of heard first e }
+    ensures stronger { (put_of : TransactionId → Option Put) (heard : List (List ℕ))
+        (first : FileMap) (e : EntityState) → IsSoundWhileSending put_of heard first e
+        → ((place : ℕ) (id : TransactionId) (x : SenderState) (put : Put)
+        → slice_get e.table.records place ≡ Some (id, Sends x) → put_of id ≡ Some put
+        → put.octets ≡ octets_in e.table.sources x.source) → IsSound put_of heard first e }
+{}
 
 /// What a table does never depends on the files that its inbox has published: if others were in
 /// their place, it would make the same steps, and publish the same. So a file that was removed

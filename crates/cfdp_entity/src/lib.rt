@@ -48,8 +48,9 @@ pub use config::{EntityConfig, MOST_WIDTH};
 pub use entity::Entity;
 pub use error::{AddError, EntityDrop, ForgetError, PutError, RemoveError, RequestError};
 pub use laws::{
-    a_table_finishes_a_transaction_once, a_table_keeps_the_truth, a_table_sends_the_truth,
-    a_table_tells_no_more, an_entity_goes_on, an_entity_keeps_the_truth, an_entity_may_forget,
+    a_look_for_a_file_changes_nothing_that_is_sent, a_table_finishes_a_transaction_once,
+    a_table_keeps_the_truth, a_table_sends_the_truth, a_table_tells_no_more, an_entity_goes_on,
+    an_entity_keeps_the_truth, an_entity_keeps_the_truth_while_it_sends, an_entity_may_forget,
     an_entity_may_remove_files, an_entity_sends_the_truth, calls_are_steps, other_records_stay,
     records_stay_for_good, removed_files_change_nothing_else,
 };

@@ -1,4 +1,4 @@
-use Rattle.std.proofs.Common.{[]}
+use Rattle.std.proofs.Common.{[], true}
 use Rattle.std.specs.FinSet as set
 use Rattle.cfdp_header.specs.Ids.{id_cmp}
 use Rattle.cfdp_entity.specs.Entity.{first_entity, is_forgotten}
@@ -15,7 +15,7 @@ returns-clause-first c put_of heard sources files config is = record {
   config = is;
   once = once-as none_gone (is_forgotten (first_entity sources files config)) [] [] (λ q. set.contains-empty id_cmp q) (c.a_table_finishes_a_transaction_once.ensures.first sources files config.policy);
   knows = c.a_table_keeps_the_truth.ensures.first config.entity put_of heard sources files config.policy;
-  sends = c.a_table_sends_the_truth.ensures.first put_of sources files config.policy;
+  sends = c.a_table_sends_the_truth.ensures.first true put_of sources files config.policy;
   tells = c.a_table_tells_no_more.ensures.first config.entity heard sources files config.policy;
   timed = first-timed sources files config.policy;
   policy = λ i. config.policy;
@@ -26,7 +26,7 @@ returns-clause-more c put_of puts_then heard more first e grows k = record {
   config = k.config;
   once = k.once;
   knows = c.a_table_keeps_the_truth.ensures.more e.config.entity put_of puts_then heard more first e.table grows k.knows;
-  sends = c.a_table_sends_the_truth.ensures.more put_of puts_then e.table grows k.sends;
+  sends = c.a_table_sends_the_truth.ensures.more true put_of puts_then e.table grows k.sends;
   tells = c.a_table_tells_no_more.ensures.more e.config.entity heard more e.table k.tells;
   timed = k.timed;
   policy = k.policy;
@@ -45,66 +45,66 @@ returns-clause-among c put_of heard others first e among k = record {
 
 pub returns-clause-put : goal.returns-clause-put
 returns-clause-put c put_of heard first source destination id old new a finds k =
-    let laws : TableLaws = record {
+    let laws : TableLaws true = record {
       once = c.a_table_finishes_a_transaction_once.ensures.step;
       knows = c.a_table_keeps_the_truth.ensures.step;
-      sends = c.a_table_sends_the_truth.ensures.step;
+      sends = c.a_table_sends_the_truth.ensures.step true;
       tells =
           c.a_table_tells_no_more.ensures.step;
     } in
-    sound-put put_of heard first laws source destination id old new a finds k
+    sound-put true put_of heard first laws source destination id old new a finds k
 
 pub returns-clause-called : goal.returns-clause-called
 returns-clause-called c put_of heard first call id old new h k =
-    let laws : TableLaws = record {
+    let laws : TableLaws true = record {
       once = c.a_table_finishes_a_transaction_once.ensures.step;
       knows = c.a_table_keeps_the_truth.ensures.step;
-      sends = c.a_table_sends_the_truth.ensures.step;
+      sends = c.a_table_sends_the_truth.ensures.step true;
       tells =
           c.a_table_tells_no_more.ensures.step;
     } in
-    sound-called put_of heard first laws call id old new h k
+    sound-called true put_of heard first laws call id old new h k
 
 pub returns-clause-ticked : goal.returns-clause-ticked
 returns-clause-ticked c put_of heard first now old new t same k =
-    let laws : TableLaws = record {
+    let laws : TableLaws true = record {
       once = c.a_table_finishes_a_transaction_once.ensures.step;
       knows = c.a_table_keeps_the_truth.ensures.step;
-      sends = c.a_table_sends_the_truth.ensures.step;
+      sends = c.a_table_sends_the_truth.ensures.step true;
       tells =
           c.a_table_tells_no_more.ensures.step;
     } in
-    sound-ticked put_of heard first laws now old new t same k
+    sound-ticked true put_of heard first laws now old new t same k
 
 pub returns-clause-heard : goal.returns-clause-heard
 returns-clause-heard c put_of heard first pdu old new by_id comes h k =
-    let laws : TableLaws = record {
+    let laws : TableLaws true = record {
       once = c.a_table_finishes_a_transaction_once.ensures.step;
       knows = c.a_table_keeps_the_truth.ensures.step;
-      sends = c.a_table_sends_the_truth.ensures.step;
+      sends = c.a_table_sends_the_truth.ensures.step true;
       tells =
           c.a_table_tells_no_more.ensures.step;
     } in
-    sound-heard put_of heard first laws by_id pdu old new comes h k
+    sound-heard true put_of heard first laws by_id pdu old new comes h k
 
 pub returns-clause-dropped : goal.returns-clause-dropped
 returns-clause-dropped c put_of heard first pdu by old new d k =
-    let laws : TableLaws = record {
+    let laws : TableLaws true = record {
       once = c.a_table_finishes_a_transaction_once.ensures.step;
       knows = c.a_table_keeps_the_truth.ensures.step;
-      sends = c.a_table_sends_the_truth.ensures.step;
+      sends = c.a_table_sends_the_truth.ensures.step true;
       tells =
           c.a_table_tells_no_more.ensures.step;
     } in
-    sound-dropped put_of heard first laws (pdu_fault pdu) pdu by old new d k
+    sound-dropped true put_of heard first laws (pdu_fault pdu) pdu by old new d k
 
 pub returns-clause-served : goal.returns-clause-served
 returns-clause-served c put_of heard first stored e k =
-    let laws : TableLaws = record {
+    let laws : TableLaws true = record {
       once = c.a_table_finishes_a_transaction_once.ensures.step;
       knows = c.a_table_keeps_the_truth.ensures.step;
-      sends = c.a_table_sends_the_truth.ensures.step;
+      sends = c.a_table_sends_the_truth.ensures.step true;
       tells =
           c.a_table_tells_no_more.ensures.step;
     } in
-    sound-served put_of heard first laws stored (turn e) e k
+    sound-served true put_of heard first laws stored (turn e) e k
