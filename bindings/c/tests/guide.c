@@ -3,7 +3,6 @@
  * with status 0 where the file came.
  */
 #include "cfdp.h"
-#include "checks.h"
 #include "pool.h"
 
 #include <stdio.h>
@@ -233,9 +232,16 @@ static cfdp_answer open_in_a_pool(void)
 
 static cfdp_answer open_peer(cfdp_station *peer)
 {
-    cfdp_config config = defaults_of(2);
+    cfdp_config config;
+    cfdp_link sends;
 
+    cfdp_defaults(&config);
     guarded(&config);
+    sends = config.sends;
+    config.sends = config.receives;
+    config.receives = sends;
+    config.entity = 2;
+    config.peer = 1;
     return cfdp_open(peer, &config);
 }
 
